@@ -1,0 +1,13 @@
+//! The bytes of the device's buffers.
+//!
+//! Contracts see a `Memory` as a list of byte lists. `fill`, `copy` and `add` change exactly the range that they
+//! name: each other byte of the buffer and each other buffer stays. They take no memory, and read all bytes of
+//! the source before they write, also where both ranges overlap.
+#![tactic(auto)]
+
+mod memory;
+mod ranges;
+#[cfg(test)]
+mod tests;
+
+pub use memory::{Memory, size_in};

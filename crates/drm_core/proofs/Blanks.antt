@@ -1,0 +1,109 @@
+-- Lists of blank rows, and the tables that are made of them.
+use Rattle.std.proofs.Common.{◌≡◌, ℕ, zero, suc, ◌+◌, ◌≤◌, false, List, [], ◌∷◌, ◌++◌, map, length, replicate, Some, None, refl, sym, ap, subst, ◌∙◌, inl, inr, arith, slice_get}
+use Rattle.std.specs.Prelude.{option_map, vec_capacity}
+use Rattle.std.specs.Option.{option_map_or}
+use Rattle.std.proofs.lemmas.List.{length-map, map-append, replicate_more}
+use Rattle.drm_types.specs.Limits.{spec_fault}
+use Rattle.drm_types.specs.declared.spec.RingSpec.{RingSpec}
+use Rattle.drm_buffer.specs.Memory.{sizes_of}
+use Rattle.drm_resv.specs.Reservation.{WithRoom}
+use Rattle.drm_core.specs.declared.journal.JobRecord.{JobRecord}
+use Rattle.drm_core.specs.declared.table.RingRow.{RingRow}
+use Rattle.drm_core.specs.declared.table.Table.{Table}
+use Rattle.drm_core.specs.declared.cores.ContextRow.{ContextRow}
+use Rattle.drm_core.specs.declared.cores.CoreTable.{CoreTable}
+use Rattle.drm_core.specs.State.{DeviceState, CoreState, opened_device, opened}
+use Rattle.drm_core.specs.Steady.{IsSteady, IsSteadyCore}
+use Rattle.drm_core.specs.Plain.{WaitsStand}
+use Rattle.drm_core.specs.Tables.{state_of, ring_of_row, fence_of, HasRooms, IsWhole}
+use Rattle.drm_core.specs.Cores.{core_state, context_of_row, plan_at, IsCore}
+use Rattle.drm_core.specs.Building.{HaveRoomFor}
+use Rattle.drm_core.proofs.Opening.{opened_steady, opened_core_steady}
+use Rattle.drm_core.proofs.PickLawful.{get_push_cases}
+
+-- the same for each element
+pub map_to_same : {X Y : Type 0} (y : Y) (xs : List X) → map (λ x. y) xs ≡ replicate (length xs) y
+map_to_same y [] = refl
+map_to_same y (x ∷ xs) = ap (λ ys. y ∷ ys) (map_to_same y xs)
+
+-- one row more
+pub map_push_same : {X Y : Type 0} (f : X → Y) (xs : List X) (x : X) (n : ℕ) (y : Y) → map f xs ≡ replicate n y → f x ≡ y → map f (xs ++ x ∷ []) ≡ replicate (n + 1) y
+map_push_same f xs x n y so_far is = map-append f xs (x ∷ []) ∙ (ap (λ ys. ys ++ f x ∷ []) so_far ∙ (ap (λ z. replicate n y ++ z ∷ []) is ∙ replicate_more n y))
+
+pub room_push : (specs : List RingSpec) (rows : List RingRow) (row : RingRow) → HaveRoomFor specs rows
+    → option_map_or (λ (s : RingSpec). s.credit_limit) (slice_get specs (length rows)) 0 ≤ vec_capacity row.pending → HaveRoomFor specs (rows ++ row ∷ [])
+room_push specs rows row have room k found is =
+    elim (get_push_cases rows row k found is) [
+      | inl old ↦ have k found old
+      | inr new ↦
+          subst (λ n. option_map_or (λ (s : RingSpec). s.credit_limit) (slice_get specs n) 0 ≤ vec_capacity found.pending) (sym new.0)
+          (subst (λ (r : RingRow). option_map_or (λ (s : RingSpec). s.credit_limit) (slice_get specs (length rows)) 0 ≤ vec_capacity r.pending) (sym new.1) room)
+    ]
+
+-- the tables of a device on which no job was armed
+pub blank_device : (t : Table) → t.memory ≡ t.spec.buffers → t.journal.items ≡ []
+    → map ring_of_row t.rings.items ≡ map (λ (ring : RingSpec). record { pending = []; since = 0 }) t.spec.rings
+    → t.entities.items ≡ replicate (length t.spec.entities) (record { is_stopped = false; is_guilty = false }) → state_of t ≡ opened_device t.spec
+blank_device t memory journal rings entities =
+    ap (λ m. let d : DeviceState = record { spec = t.spec; memory = m; journal = t.journal.items; rings = map ring_of_row t.rings.items; entities = t.entities.items } in d) memory
+    ∙ (ap (λ j. let d : DeviceState = record { spec = t.spec; memory = t.spec.buffers; journal = j; rings = map ring_of_row t.rings.items; entities = t.entities.items } in d) journal
+    ∙ (ap (λ rs. let d : DeviceState = record { spec = t.spec; memory = t.spec.buffers; journal = []; rings = rs; entities = t.entities.items } in d) rings
+    ∙ ap (λ es. record (opened_device t.spec) { entities = es })
+    (entities ∙ sym (map_to_same (record { is_stopped = false; is_guilty = false }) t.spec.entities))))
+
+-- no job waits for anything
+pub no_waits : (journal : List JobRecord) (waits : List (List (ℕ × ℕ))) → journal ≡ [] → waits ≡ [] → WaitsStand journal waits
+no_waits journal waits no_jobs none = subst (λ ws. WaitsStand journal ws) (sym none) (subst (λ j. WaitsStand j []) (sym no_jobs) (record {
+  count = refl;
+  stand = λ j r deps at going found. absurd (cc (at));
+}))
+
+pub blank_whole : (t : Table) → state_of t ≡ opened_device t.spec → spec_fault t.spec ≡ None → t.fences.list ≡ [] → t.waits.items ≡ [] → HasRooms t → IsWhole t
+blank_whole t opened limits fences waits rooms =
+    let no_jobs : t.journal.items ≡ [] = ap (λ (d : DeviceState). d.journal) opened in
+    record {
+      steady = subst IsSteady (sym opened) (opened_steady t.spec);
+      limits = limits;
+      count = let none : length t.journal.items ≡ 0 = ap length no_jobs in omega (arith, none);
+      fences = fences ∙ ap (map fence_of) (sym no_jobs);
+      waits = no_waits t.journal.items t.waits.items no_jobs waits;
+      sizes = ap (λ (d : DeviceState). sizes_of d.memory) opened;
+      rooms = rooms;
+    }
+
+-- the tables of a core to which nothing has happened
+pub blank_core : (c : CoreTable) → state_of c.table ≡ opened_device c.table.spec
+    → map (λ (r : WithRoom). r.kept) c.reservations.items ≡ replicate (length c.table.spec.buffers) (record { entries = []; history = [] })
+    → c.holders.items ≡ replicate (length c.table.spec.buffers) None → c.contexts.items ≡ replicate 64 None → c.next_ticket ≡ 1
+    → core_state c ≡ opened c.table.spec
+blank_core c device reservations holders contexts tickets =
+    let spec = c.table.spec in
+    let rs = reservations ∙ sym (map_to_same (record { entries = []; history = [] }) spec.buffers) in
+    let hs = holders ∙ sym (map_to_same None spec.buffers) in
+    let cs : map (option_map context_of_row) c.contexts.items ≡ replicate 64 None = ap (map (option_map context_of_row)) contexts in
+    ap (λ d. record (core_state c) { device = d }) device
+    ∙ (ap (λ xs. record (core_state c) { device = opened_device spec; reservations = xs }) rs
+    ∙ (ap (λ xs. record (core_state c) { device = opened_device spec; reservations = (opened spec).reservations; holders = xs }) hs
+    ∙ (ap (λ xs. record (opened spec) { contexts = xs; next_ticket = c.next_ticket }) cs
+    ∙ ap (λ n. record (opened spec) { next_ticket = n }) tickets)))
+
+-- no context has a plan
+pub no_plan : (n ctx : ℕ) → option_map_or (λ o. option_map_or (λ (row : ContextRow). row.plan) o None) (slice_get (replicate n None) ctx) None ≡ None
+no_plan zero ctx = refl
+no_plan (suc n) zero = refl
+no_plan (suc n) (suc ctx) = no_plan n ctx
+
+pub blank_is_core : (c : CoreTable) → core_state c ≡ opened c.table.spec → IsWhole c.table → c.contexts.items ≡ replicate 64 None → IsCore c
+blank_is_core c is whole contexts = record {
+  steady = subst IsSteadyCore (sym is) (opened_core_steady c.table.spec);
+  whole = whole;
+  plans = λ ctx plan found.
+      let none : plan_at c ctx ≡ None = ap (λ rows. option_map_or (λ o. option_map_or (λ (row : ContextRow). row.plan) o None) (slice_get rows ctx) None) contexts ∙ no_plan 64 ctx in
+      let clash : None ≡ Some plan = sym none ∙ found in absurd (cc (clash));
+  reservation_count =
+      sym (length-map c.reservations.items (λ (r : WithRoom). r.kept))
+      ∙ (ap (λ (s : CoreState). length s.reservations) is ∙ length-map c.table.spec.buffers (λ bytes. record { entries = []; history = [] }));
+  holder_count = ap (λ (s : CoreState). length s.holders) is ∙ length-map c.table.spec.buffers (λ bytes. None);
+  context_count = ap length contexts;
+  tickets = let first : c.next_ticket ≡ 1 = ap (λ (s : CoreState). s.next_ticket) is in omega (arith, first);
+}

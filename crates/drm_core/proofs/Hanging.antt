@@ -1,0 +1,179 @@
+-- A timeout of the tables is that of its definition, and keeps the tables whole.
+use Rattle.std.proofs.Common.{◌≡◌, ℕ, ◌-◌, ◌<◌, ◌≤◌, Bool, true, false, not, cond, List, [], ◌∷◌, length, map, get_or, set, Some, refl, sym, ap, subst, ◌∙◌, inl, inr, arith, slice_get}
+use Rattle.std.specs.declared.alloc.Global.{Global}
+use Rattle.std.specs.Prelude.{nat_lt, vec_capacity, Vec}
+use Rattle.std.specs.Option.{option_map_or}
+use Rattle.std.specs.Vec.{with_item}
+use Rattle.std.proofs.lemmas.Bool.{ltb-true, lt-ltb, cases_Bool}
+use Rattle.std.proofs.lemmas.Option.{slice_get_within}
+use Rattle.std.proofs.lemmas.List.{map-set}
+use Rattle.drm_types.specs.declared.spec.RingSpec.{RingSpec}
+use Rattle.drm_types.specs.Firsts.{when}
+use Rattle.drm_job.specs.declared.JobFault.TheVariants.{NoEntity}
+use Rattle.drm_job.specs.Fault.{job_tests, IsJob}
+use Rattle.drm_job.proofs.Within.{none_at, none_when}
+use Rattle.drm_reset.specs.declared.verdict.Verdict.{Verdict}
+use Rattle.drm_reset.specs.declared.verdict.Verdict.TheVariants as verdict
+use Rattle.drm_core.specs.declared.device.EntityState.{EntityState}
+use Rattle.drm_core.specs.declared.event.Answer.TheVariants as answer
+use Rattle.drm_core.specs.declared.journal.JobRecord.{JobRecord}
+use Rattle.drm_core.specs.declared.table.RingRow.{RingRow}
+use Rattle.drm_core.specs.declared.table.Table.{Table}
+use Rattle.drm_core.specs.Journal.{is_at, is_complete, changed_at}
+use Rattle.drm_core.specs.Outcomes.{hung, hung_device, condemned, condemned_device, is_kernel, is_too_much, hang_outcome, timeout_at, timeout_outcome}
+use Rattle.drm_core.specs.Recovery.{verdict_at, blamed_by, guilty_in}
+use Rattle.drm_core.specs.Ring.{head_of, limit_of, age_of}
+use Rattle.drm_core.specs.State.{RingState, DeviceState}
+use Rattle.drm_core.specs.Tables.{state_of, fence_of, ring_of_row, IsWhole}
+use Rattle.drm_core.proofs.CallsAre.{Left, at_record_there}
+use Rattle.drm_core.proofs.Candidates.{at_index}
+use Rattle.drm_core.proofs.DeviceSteps.{IsKept, timeout_kept}
+use Rattle.drm_core.proofs.FinishLawful.{IsHead, head_is, set_same}
+use Rattle.drm_core.proofs.Records.{at_test, changed_is, to_map}
+use Rattle.drm_core.proofs.TableFacts.{rings_tie, rooms_kept, row_found, whole_kept}
+
+-- the outcome of a timeout, by what it finds of the head
+abbrev pub by_verdict : DeviceState → ℕ → ℕ → ℕ → JobRecord → Verdict → Left
+by_verdict d ring now f r verdict.Empty = (answer.Empty, d)
+by_verdict d ring now f r (verdict.NotYet due_in) = (answer.NotYet due_in, d)
+by_verdict d ring now f r verdict.Complete = (answer.Complete, d)
+by_verdict d ring now f r verdict.Hang = hang_outcome d ring now f r
+
+pub timeout_finds : (d : DeviceState) (ring now f : ℕ) (r : JobRecord) → head_of d ring ≡ Some f → slice_get d.journal f ≡ Some r
+    → timeout_outcome d ring now ≡ by_verdict d ring now f r (verdict_at d ring f now)
+timeout_finds d ring now f r is at =
+    let limit = limit_of (λ l. l.timeout) d ring in
+    let found : Bool → Verdict = λ b. cond b verdict.Complete verdict.Hang in
+    let left : Bool → Left = λ b. cond b (answer.Complete, d) (hang_outcome d ring now f r) in
+    at_record_there d (timeout_at d ring now) (answer.Empty, d) (head_of d ring) f r is at
+    ∙ (ap (λ b. cond {A = Left} (nat_lt (age_of d ring now) limit) (answer.NotYet (limit - age_of d ring now), d) (left b)) (sym (at_test d.journal f r is_complete at))
+    ∙ by_age (nat_lt (age_of d ring now) limit) (is_at d.journal f is_complete))
+  where
+    by_age : (young complete : Bool)
+        → cond {A = Left} young (answer.NotYet (limit_of (λ l. l.timeout) d ring - age_of d ring now), d) (cond {A = Left} complete (answer.Complete, d) (hang_outcome d ring now f r))
+        ≡ by_verdict d ring now f r (cond young (verdict.NotYet (limit_of (λ l. l.timeout) d ring - age_of d ring now)) (cond complete verdict.Complete verdict.Hang))
+    by_age true complete = refl
+    by_age false true = refl
+    by_age false false = refl
+
+-- where this verdict was found
+pub timeout_by : (t : Table) (ring now f : ℕ) (v : Verdict) → IsWhole t → ring < length t.spec.rings → head_of (state_of t) ring ≡ Some f → verdict_at (state_of t) ring f now ≡ v
+    → (r : JobRecord) × IsHead (state_of t) ring f r × (timeout_outcome (state_of t) ring now ≡ by_verdict (state_of t) ring now f r v)
+timeout_by t ring now f v w there is found =
+    let h = head_is (state_of t) ring f w.steady.lawful there is in
+    (h.0, h.1, timeout_finds (state_of t) ring now f h.0 is h.1.at ∙ ap (by_verdict (state_of t) ring now f h.0) found)
+
+-- the job's entity is there
+pub entity_there : (t : Table) (f : ℕ) (r : JobRecord) → IsWhole t → slice_get t.journal.items f ≡ Some r → r.job.entity < length t.entities.items
+entity_there t f r w at =
+    let job : IsJob t.spec r.job = (w.steady.lawful.records f r at).job in
+    let within = none_when (nat_lt r.job.entity (length t.spec.entities)) NoEntity
+    (none_at (job_tests t.spec r.job) 0 (when (not (nat_lt r.job.entity (length t.spec.entities))) NoEntity) job refl) in
+    subst (λ n. r.job.entity < n) (sym w.steady.lawful.entity_count) (ltb-true r.job.entity (length t.spec.entities) within)
+
+-- a head that hangs: the journal where it is blamed, the row of its ring, and the ring's limits
+pub record IsBlamed (t : Table) (ring now f : ℕ) (r : JobRecord) (journal : Vec JobRecord Global) (row : RingRow) (limits : RingSpec) (karma : ℕ) : Type 0 where
+  pub head : IsHead (state_of t) ring f r
+  pub hangs : timeout_outcome (state_of t) ring now ≡ hang_outcome (state_of t) ring now f r
+  pub items : journal.items ≡ set t.journal.items f (hung (state_of t) r)
+  pub room : vec_capacity journal ≡ vec_capacity t.journal
+  pub row_at : slice_get t.rings.items ring ≡ Some row
+  pub much : is_too_much (state_of t) ring r ≡ nat_lt limits.hang_limit karma
+
+pub is_blamed : (t : Table) (ring now f : ℕ) (r : JobRecord) (entity : ℕ) (kernel : Bool) (journal : Vec JobRecord Global) (row : RingRow) (limits : RingSpec) (karma : ℕ) → IsWhole t
+    → ring < length t.spec.rings → head_of (state_of t) ring ≡ Some f → verdict_at (state_of t) ring f now ≡ verdict.Hang → r ≡ get_or t.journal.items f r → entity ≡ r.job.entity
+    → kernel ≡ is_kernel (state_of t) entity → journal.items ≡ changed_at t.journal.items f (blamed_by kernel) → vec_capacity journal ≡ vec_capacity t.journal
+    → row ≡ get_or t.rings.items ring row → karma ≡ option_map_or (λ r. (blamed_by kernel r).karma) (slice_get t.journal.items f) 0
+    → slice_get t.spec.rings ring ≡ Some limits → IsBlamed t ring now f r journal row limits karma
+is_blamed t ring now f r entity kernel journal row limits karma w there is hangs r_is of_entity kernel_is items room row_is karma_is limits_at =
+    let d = state_of t in
+    let h = timeout_by t ring now f verdict.Hang w there is hangs in
+    let at = at_index t.journal.items f r r_is (slice_get_within t.journal.items f h.0 h.1.at) in
+    let same : h.0 ≡ r = cc (h.1.at, at) in
+    let kernel_of : kernel ≡ is_kernel d r.job.entity = kernel_is ∙ ap (is_kernel d) of_entity in
+    let karma_of : karma ≡ (hung d r).karma = karma_is ∙ (ap (λ o. option_map_or (λ r. (blamed_by kernel r).karma) o 0) at ∙ ap (λ k. (blamed_by k r).karma) kernel_of) in
+    record {
+      head = subst (IsHead d ring f) same h.1;
+      hangs = subst (λ z. timeout_outcome d ring now ≡ hang_outcome d ring now f z) same h.2;
+      items = items ∙ (changed_is t.journal.items f r (blamed_by kernel) at ∙ ap (λ k. set t.journal.items f (blamed_by k r)) kernel_of);
+      room = room;
+      row_at = row_found t ring row w there row_is;
+      much = ap (λ o. nat_lt (option_map_or (λ (l : RingSpec). l.hang_limit) o 0) (hung d r).karma) limits_at ∙ ap (nat_lt limits.hang_limit) (sym karma_of);
+    }
+
+-- a number that is at most another is not above it
+not_above : (a b : ℕ) → b ≤ a → nat_lt a b ≡ false
+not_above a b le =
+    elim (cases_Bool (nat_lt a b)) [
+      | inl less ↦ absurd (omega (arith, ltb-true a b less, le))
+      | inr is ↦ is
+    ]
+
+-- the tables after the blame
+abbrev pub blamed_tables : Table → ℕ → ℕ → Vec JobRecord Global → RingRow → Table
+blamed_tables t ring now journal row = record t { journal = journal; rings = with_item t.rings ring (record row { since = now }) }
+
+-- and after the entity is guilty too
+abbrev pub guilty_tables : Table → ℕ → ℕ → Vec JobRecord Global → RingRow → Vec EntityState Global → Table
+guilty_tables t ring now journal row entities = record t { journal = journal; rings = with_item t.rings ring (record row { since = now }); entities = entities }
+
+-- the device of the blamed tables
+blamed_state : {t : Table} {ring now f : ℕ} {r : JobRecord} {journal : Vec JobRecord Global} {row : RingRow} {limits : RingSpec} {karma : ℕ} → IsBlamed t ring now f r journal row limits karma → state_of (blamed_tables t ring now journal row) ≡ hung_device (state_of t) ring now f
+blamed_state {t} {ring} {now} {f} {r} {journal} {row} b =
+    let d = state_of t in
+    let change : RingState → RingState = λ s. record s { since = now } in
+    let rings = rings_tie t.rings.items ring row (record row { since = now }) change b.row_at refl in
+    let items : journal.items ≡ changed_at t.journal.items f (hung d) = b.items ∙ sym (changed_is t.journal.items f r (hung d) b.head.at) in
+    ap (λ js. let s : DeviceState = record d { journal = js; rings = map ring_of_row (set t.rings.items ring (record row { since = now })) } in s) items
+    ∙ ap (λ rs. let s : DeviceState = record d { journal = changed_at t.journal.items f (hung d); rings = rs } in s) rings
+
+-- the fences of the jobs stay
+blamed_fences : (js : List JobRecord) (f : ℕ) (r new : JobRecord) → slice_get js f ≡ Some r → fence_of new ≡ fence_of r → map fence_of (set js f new) ≡ map fence_of js
+blamed_fences js f r new at same =
+    map-set fence_of js f new ∙ (ap (set (map fence_of js) f) same ∙ set_same (map fence_of js) f (fence_of r) (to_map fence_of js f r at))
+
+condemned_fences : (ring entity : ℕ) (js : List JobRecord) → map fence_of (map (condemned ring entity) js) ≡ map fence_of js
+condemned_fences ring entity [] = refl
+condemned_fences ring entity (r ∷ rs) = ap (λ fs. fence_of r ∷ fs) (condemned_fences ring entity rs)
+
+-- the head goes on
+pub resumed_done : {t : Table} {ring now f : ℕ} {r : JobRecord} {journal : Vec JobRecord Global} {row : RingRow} {limits : RingSpec} {karma : ℕ} → IsWhole t → ring < length t.spec.rings → IsBlamed t ring now f r journal row limits karma → karma ≤ limits.hang_limit
+    → (timeout_outcome (state_of t) ring now ≡ (answer.Resumed, state_of (blamed_tables t ring now journal row))) × IsWhole (blamed_tables t ring now journal row)
+resumed_done {t} {ring} {now} {f} {r} {journal} {row} {limits} {karma} w there b little =
+    let d = state_of t in
+    let u = blamed_tables t ring now journal row in
+    let ends : timeout_outcome d ring now ≡ (answer.Resumed, state_of u) =
+    b.hangs
+    ∙ (ap (λ x. cond {A = Left} x (answer.Guilty r.job.entity, condemned_device (hung_device d ring now f) ring r.job.entity) (answer.Resumed, hung_device d ring now f)) (b.much ∙ not_above limits.hang_limit karma little)
+    ∙ ap (λ s. let left : Left = (answer.Resumed, s) in left) (sym (blamed_state b))) in
+    let tied : t.fences.list ≡ map fence_of journal.items =
+    w.fences ∙ sym (ap (map fence_of) b.items ∙ blamed_fences t.journal.items f r (hung d r) b.head.at refl) in (
+      ends,
+      whole_kept t u w (subst (λ (q : Left). IsKept d q.1) ends (timeout_kept d ring now w.steady there)) tied refl refl
+          (rooms_kept t u ring row (record row { since = now }) w.rooms refl refl b.row_at refl b.room refl refl),
+    )
+
+-- the entity is guilty
+pub guilty_done : {t : Table} {ring now f : ℕ} {r : JobRecord} {journal : Vec JobRecord Global} {row : RingRow} {limits : RingSpec} {karma : ℕ}
+    → (entity : ℕ) (last : Vec JobRecord Global) (entities : Vec EntityState Global) → IsWhole t → ring < length t.spec.rings → IsBlamed t ring now f r journal row limits karma
+    → limits.hang_limit < karma → entity ≡ r.job.entity → last.items ≡ map (condemned ring entity) journal.items → vec_capacity last ≡ vec_capacity journal
+    → entities.items ≡ guilty_in t.entities.items entity
+    → (timeout_outcome (state_of t) ring now ≡ (answer.Guilty entity, state_of (guilty_tables t ring now last row entities)))
+    × IsWhole (guilty_tables t ring now last row entities)
+guilty_done {t} {ring} {now} {f} {r} {journal} {row} {limits} {karma} entity last entities w there b more of_entity items room guilty =
+    let d = state_of t in
+    let u = guilty_tables t ring now last row entities in
+    let rings = map ring_of_row (set t.rings.items ring (record row { since = now })) in
+    let ends : timeout_outcome d ring now ≡ (answer.Guilty entity, state_of u) =
+    b.hangs
+    ∙ (ap (λ x. cond {A = Left} x (answer.Guilty r.job.entity, condemned_device (hung_device d ring now f) ring r.job.entity) (answer.Resumed, hung_device d ring now f)) (b.much ∙ lt-ltb limits.hang_limit karma more)
+    ∙ (ap (λ e. let left : Left = (answer.Guilty e, condemned_device (hung_device d ring now f) ring e) in left) (sym of_entity)
+    ∙ (ap (λ s. let left : Left = (answer.Guilty entity, condemned_device s ring entity) in left) (sym (blamed_state b))
+    ∙ (ap (λ js. let left : Left = (answer.Guilty entity, record d { journal = js; rings = rings; entities = guilty_in t.entities.items entity }) in left) (sym items)
+    ∙ ap (λ es. let left : Left = (answer.Guilty entity, record d { journal = last.items; rings = rings; entities = es }) in left) (sym guilty))))) in
+    let tied : t.fences.list ≡ map fence_of last.items =
+    w.fences ∙ sym (ap (map fence_of) items ∙ (condemned_fences ring entity journal.items ∙ (ap (map fence_of) b.items ∙ blamed_fences t.journal.items f r (hung d r) b.head.at refl))) in (
+      ends,
+      whole_kept t u w (subst (λ (q : Left). IsKept d q.1) ends (timeout_kept d ring now w.steady there)) tied refl refl
+          (rooms_kept t u ring row (record row { since = now }) w.rooms refl refl b.row_at refl (room ∙ b.room) refl refl),
+    )

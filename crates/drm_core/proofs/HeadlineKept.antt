@@ -1,0 +1,230 @@
+-- The core keeps its promises.
+use Rattle.std.proofs.Common.{◌≡◌, ℕ, ◌<◌, ◌≤◌, true, false, List, [], ◌∷◌, Some, None, Option, refl, sym, ap, subst, ◌∙◌, inl, inr, ◌⊎◌, arith, slice_get}
+use Rattle.std.specs.Option.{option_map_or}
+use Rattle.std.specs.Prelude.{option_map, nat_lt, nat_le, length, pos, negsuc}
+use Rattle.std.proofs.lemmas.Bool.{both_ways, and_parts, ltb-true, leb-false}
+use Rattle.std.proofs.lemmas.Option.{slice_get_within}
+use Rattle.drm_types.specs.declared.access.Usage.{Usage}
+use Rattle.drm_types.specs.declared.access.Usage.TheVariants.{Write}
+use Rattle.drm_types.specs.declared.outcome.Outcome.TheVariants.{Good, Cancelled, Stopped}
+use Rattle.drm_types.specs.declared.spec.DeviceSpec.{DeviceSpec}
+use Rattle.drm_types.specs.declared.spec.RingSpec.{RingSpec}
+use Rattle.drm_types.specs.Usages.{is_as_strong}
+use Rattle.drm_buffer.specs.Memory.{bytes_of}
+use Rattle.drm_serial.specs.Serial.{serial}
+use Rattle.drm_job.proofs.Within.{none_first, none_when}
+use Rattle.drm_fence.specs.declared.phase.Phase.{Phase}
+use Rattle.drm_fence.specs.declared.phase.Phase.TheVariants.{Queued, Scheduled, Ended}
+use Rattle.drm_fence.specs.Phases.{has_ended, outcome_of, status_of}
+use Rattle.drm_resv.specs.Reservation.{Reservation}
+use Rattle.drm_core.specs.declared.event.Answer.{Answer}
+use Rattle.drm_core.specs.declared.event.Answer.TheVariants as answer
+use Rattle.drm_core.specs.declared.event.Event.{Event}
+use Rattle.drm_core.specs.declared.event.Event.TheVariants as event
+use Rattle.drm_core.specs.declared.event.Refusal.TheVariants.{Memory, NotHeld, Busy, NoFence}
+use Rattle.drm_core.specs.declared.journal.JobRecord.{JobRecord}
+use Rattle.drm_core.specs.State.{CoreState, opened}
+use Rattle.drm_core.specs.Journal.{turns}
+use Rattle.drm_core.specs.Reservation.{usage_at, Fits}
+use Rattle.drm_core.specs.Ring.{used_credits}
+use Rattle.drm_core.specs.Outcomes.{outcome_of_event}
+use Rattle.drm_core.specs.Context.{holds}
+use Rattle.drm_core.specs.Names.{names_exist}
+use Rattle.drm_core.specs.Refusals.{idle_refusal, not_held_refusal, read_refusal, busy_fence}
+use Rattle.drm_core.specs.Step.{Step}
+use Rattle.drm_core.specs.Run.{Run, LawfulRun, AllNamesExist}
+use Rattle.drm_core.specs.Lawful.{HasRightOutcome, IsLawfulDevice}
+use Rattle.drm_core.specs.Steady.{IsSteadyCore}
+use Rattle.drm_core.specs.Headline.{serial_memory, serial_bytes, WritersEnded, MayRead, IsRefused, TellsOutcome, Promises, PromisesKept, Headline}
+use Rattle.drm_core.proofs.CoreSteps.{step_is_kept}
+use Rattle.drm_core.proofs.DeviceSteps.{not_when}
+use Rattle.drm_core.proofs.Opening.{opened_core_steady}
+use Rattle.drm_core.proofs.Readback.{writers_ended}
+use Rattle.drm_core.proofs.HeadlineGiven.{HoldersBegun, run_holders_begun, opened_holders_begun, read_given}
+use Rattle.drm_core.proofs.HeadlineReads.{PlansHeld, run_plans_held, opened_plans_held, may_read_on}
+use Rattle.drm_core.proofs.HeadlineSteps.{is_refusal, cases_step, stands_within, ended_stays, refused_keeps, step_leaves_bytes}
+
+-- where a run leads is steady, and of the same description
+pub run_is_steady : (s : CoreState) (spec : DeviceSpec) (events : List Event) (answers : List Answer) (new : CoreState) → IsSteadyCore s → s.device.spec ≡ spec
+    → AllNamesExist spec events → Run s events answers new → IsSteadyCore new × (new.device.spec ≡ spec)
+run_is_steady s spec [] [] new steady same names run = (subst IsSteadyCore (sym run) steady, ap (λ (n : CoreState). n.device.spec) run ∙ same)
+run_is_steady s spec [] (a ∷ rest) new steady same names run = absurd run
+run_is_steady s spec (e ∷ es) [] new steady same names run = absurd run
+run_is_steady s spec (e ∷ es) (a ∷ rest) new steady same names run =
+    let here : names_exist s.device.spec e ≡ true = subst (λ p. names_exist p e ≡ true) (sym same) names.0 in
+    let kept = step_is_kept s e a run.0 steady here run.1 in
+    run_is_steady run.0 spec es rest new kept.steady (kept.grows.spec ∙ same) names.1 run.2
+
+-- the memory is the serial machine's
+pub memory_is : (s : CoreState) (spec : DeviceSpec) → IsSteadyCore s → s.device.spec ≡ spec → s.device.memory ≡ serial_memory spec s
+memory_is s spec steady same = subst (λ (p : DeviceSpec). s.device.memory ≡ serial p.buffers (turns s.device.journal)) same steady.device.lawful.memory
+
+-- a look at a buffer
+pub look_gives : (s : CoreState) (spec : DeviceSpec) (e : Event) (a : Answer) (n : CoreState) (b : ℕ) → IsSteadyCore s → s.device.spec ≡ spec
+    → Step s e a n → ((given : Answer) → given ≡ (outcome_of_event s e).0 → given ≡ answer.Bytes (bytes_of s.device.memory b))
+    → IsRefused a ⊎ (a ≡ answer.Bytes (serial_bytes spec s b))
+look_gives s spec e a n b steady same step looks = elim (cases_step s e a n step) [
+  | inl refused ↦ inl (refused.why, refused.answers)
+  | inr had ↦ inr (looks a had.answers ∙ ap (λ m. answer.Bytes (bytes_of m b)) (memory_is s spec steady same))
+]
+
+-- a dump
+pub dump_gives : (s : CoreState) (spec : DeviceSpec) (a : Answer) (n : CoreState) (b : ℕ) → IsSteadyCore s → s.device.spec ≡ spec
+    → Step s (event.Dump b) a n → (a ≡ answer.Refused Memory) ⊎ (a ≡ answer.Bytes (serial_bytes spec s b))
+dump_gives s spec a n b steady same (inr lacks) = inl lacks.answers
+dump_gives s spec a n b steady same (inl is) =
+    inr (ap (λ (p : Answer × CoreState). p.0) is ∙ ap (λ m. answer.Bytes (bytes_of m b)) (memory_is s spec steady same))
+
+-- a phase that is not without an outcome has one
+pub ended_from : (phase : Phase) → (outcome_of phase ≡ None → ⊥) → has_ended phase ≡ true
+ended_from Queued has = absurd (has refl)
+ended_from Scheduled has = absurd (has refl)
+ended_from (Ended o) has = refl
+
+pub no_busy : (o : Option ℕ) → option_map Busy o ≡ None → o ≡ None
+no_busy None e = refl
+no_busy (Some f) e = absurd (cc (e))
+
+-- where a read is not refused its writers have ended
+pub read_after_writers : (s : CoreState) (b : ℕ) → IsSteadyCore s → b < length s.device.spec.buffers → read_refusal s.device (slice_get s.reservations b) ≡ None
+    → WritersEnded s b
+read_after_writers s b steady here free f r at writer =
+    let resv = steady.reservations b here in
+    let not_busy : busy_fence s.device.journal resv.0 ≡ None =
+    no_busy (busy_fence s.device.journal resv.0) (sym (ap (read_refusal s.device) resv.1) ∙ free) in
+    ended_from r.phase (λ none. by_usage resv.0 resv.2 not_busy (usage_at b r.job) refl writer none)
+  where
+    by_usage : (resv : Reservation) → Fits b s.device.journal resv → busy_fence s.device.journal resv ≡ None
+        → (o : Option Usage) → usage_at b r.job ≡ o → option_map_or (λ usage. is_as_strong usage Write) o false ≡ true → outcome_of r.phase ≡ None → ⊥
+    by_usage resv fits free None is strong none = let never : false ≡ true = strong in cc (never)
+    by_usage resv fits free (Some u) is strong none = writers_ended b s.device.journal resv steady.device.lawful.entities fits free f r u at is strong none
+
+-- the buffer of a read whose names exist
+pub buffer_there : (s : CoreState) (ctx b : ℕ) → names_exist s.device.spec (event.Read ctx b) ≡ true → b < length s.device.spec.buffers
+buffer_there s ctx b names =
+    ltb-true b (length s.device.spec.buffers) (and_parts (nat_lt ctx 64) (nat_lt b (length s.device.spec.buffers)) names).1
+
+-- a read that gave bytes
+pub read_waits : (s : CoreState) (ctx b : ℕ) (bytes : List ℕ) (n : CoreState) → IsSteadyCore s → names_exist s.device.spec (event.Read ctx b) ≡ true
+    → Step s (event.Read ctx b) (answer.Bytes bytes) n → MayRead s ctx b
+read_waits s ctx b bytes n steady names step = elim (cases_step s (event.Read ctx b) (answer.Bytes bytes) n step) [
+  | inl refused ↦ let never : false ≡ true = ap is_refusal refused.answers in absurd (cc (never))
+  | inr had ↦
+      let rest = (none_first (idle_refusal s ctx) (not_held_refusal s ctx b ∷ read_refusal s.device (slice_get s.reservations b) ∷ []) had.early).1 in
+      let two = none_first (not_held_refusal s ctx b) (read_refusal s.device (slice_get s.reservations b) ∷ []) rest in
+      let here = buffer_there s ctx b names in record {
+        holds = none_when (holds s ctx b) (NotHeld b) two.0;
+        writers = read_after_writers s b steady here (none_first (read_refusal s.device (slice_get s.reservations b)) [] two.1).0;
+      }
+]
+
+-- a status that was given
+pub status_given : (s : CoreState) (f : ℕ) (status : _) (n : CoreState) → Step s (event.Status f) (answer.Status status) n
+    → (r : JobRecord) × (slice_get s.device.journal f ≡ Some r) × (status ≡ status_of r.phase)
+status_given s f status n step = elim (cases_step s (event.Status f) (answer.Status status) n step) [
+  | inl refused ↦ let never : false ≡ true = ap is_refusal refused.answers in absurd (cc (never))
+  | inr had ↦
+      let within : f < length s.device.journal =
+      omega (arith, leb-false (length s.device.journal) f (not_when (nat_le (length s.device.journal) f) (NoFence f) had.early)) in
+      let r = stands_within s.device.journal f within in
+      let given : answer.Status status ≡ answer.Status (status_of r.0.phase) =
+      had.answers ∙ ap (λ o. answer.Status (option_map_or (λ (r : JobRecord). status_of r.phase) o (pos 0))) r.1 in
+      (r.0, r.1, cc (given))
+]
+
+-- a job without an outcome
+pub no_outcome_yet : (r : JobRecord) → status_of r.phase ≡ pos 0 → has_ended r.phase ≡ false → TellsOutcome r
+no_outcome_yet r zero_status none = record {
+  waiting = λ n. zero_status;
+  ended = λ e. absurd (both_ways (has_ended r.phase) none e);
+  good = λ st. let never : pos 0 ≡ pos 1 = sym zero_status ∙ st in absurd (cc (never));
+  cancelled = λ st. let never : pos 0 ≡ negsuc 124 = sym zero_status ∙ st in absurd (cc (never));
+  stopped = λ st. let never : pos 0 ≡ negsuc 2 = sym zero_status ∙ st in absurd (cc (never));
+}
+
+-- the right outcome as the fence's status tells it
+pub tells_outcome : (r : JobRecord) (p : Phase) → r.phase ≡ p → HasRightOutcome r p → TellsOutcome r
+tells_outcome r Queued is right = no_outcome_yet r (ap status_of is) (ap has_ended is)
+tells_outcome r Scheduled is right = no_outcome_yet r (ap status_of is) (ap has_ended is)
+tells_outcome r (Ended Good) is right = record {
+  waiting = λ none. absurd (both_ways (has_ended r.phase) none (ap has_ended is));
+  ended = λ e. inl (ap status_of is);
+  good = λ st. right;
+  cancelled = λ st. let never : pos 1 ≡ negsuc 124 = sym (ap status_of is) ∙ st in absurd (cc (never));
+  stopped = λ st. let never : pos 1 ≡ negsuc 2 = sym (ap status_of is) ∙ st in absurd (cc (never));
+}
+tells_outcome r (Ended Cancelled) is right = record {
+  waiting = λ none. absurd (both_ways (has_ended r.phase) none (ap has_ended is));
+  ended = λ e. inr (inl (ap status_of is));
+  good = λ st. let never : negsuc 124 ≡ pos 1 = sym (ap status_of is) ∙ st in absurd (cc (never));
+  cancelled = λ st. right;
+  stopped = λ st. let never : negsuc 124 ≡ negsuc 2 = sym (ap status_of is) ∙ st in absurd (cc (never));
+}
+tells_outcome r (Ended Stopped) is right = record {
+  waiting = λ none. absurd (both_ways (has_ended r.phase) none (ap has_ended is));
+  ended = λ e. inr (inr (ap status_of is));
+  good = λ st. let never : negsuc 2 ≡ pos 1 = sym (ap status_of is) ∙ st in absurd (cc (never));
+  cancelled = λ st. let never : negsuc 2 ≡ negsuc 124 = sym (ap status_of is) ∙ st in absurd (cc (never));
+  stopped = λ st. right;
+}
+
+-- a steady core of this description keeps its promises
+pub promises_kept : (spec : DeviceSpec) (s : CoreState) → IsSteadyCore s → PlansHeld s → HoldersBegun s → s.device.spec ≡ spec → Promises spec s
+promises_kept spec s steady plans begun same = record {
+  bytes = memory_is s spec steady same;
+  dumps = λ b a n step. dump_gives s spec a n b steady same step;
+  reads = λ ctx b a n step. look_gives s spec (event.Read ctx b) a n b steady same step (λ given is. is);
+  reads_wait = λ ctx b bytes n names step. read_waits s ctx b bytes n steady (of_device (event.Read ctx b) names) step;
+  reads_given = λ ctx b a n names step may. elim (read_given s ctx b a n steady begun (buffer_there s ctx b (of_device (event.Read ctx b) names)) may step) [
+    | inl memory ↦ inl memory
+    | inr given ↦ inr (given ∙ ap (λ m. answer.Bytes (bytes_of m b)) (memory_is s spec steady same))
+  ];
+  statuses = λ f status n step. status_given s f status n step;
+  outcomes = λ f r at. tells_outcome r r.phase refl (law.records f r at).outcome;
+  fence_order = λ i j x y both after. (law.follows i j x y both.order both.first both.second).ended after;
+  packet_order = λ i j x y both after. (law.follows i j x y both.order both.first both.second).ran after;
+  fences_final = λ e a n names step f old at.
+      let new = (step_is_kept s e a n steady (of_device e names) step).grows.journal f old at in (
+        new.0,
+        new.1,
+        record { job = new.2.job; outcome = ended_stays old.phase new.0.phase new.2.phase; ran = new.2.kept },
+      );
+  credits = λ ring limits at.
+      let there : slice_get s.device.spec.rings ring ≡ Some limits = ap (λ (p : DeviceSpec). slice_get p.rings ring) same ∙ at in
+      subst (λ n. used_credits s.device ring ≤ n) (ap (λ o. option_map_or (λ (r : RingSpec). r.credit_limit) o 0) there)
+      (law.rings ring (slice_get_within s.device.spec.rings ring limits there)).credits;
+  begin_order = λ i j x y both entity. (law.entities i j x y both.order both.first both.second).begun entity;
+  end_order = λ i j x y both entity. (law.entities i j x y both.order both.first both.second).ended entity;
+  refusals = refused_keeps s;
+  reads_stay = λ e a n ctx b names step may keeps.
+      may_read_on s e a n ctx b plans (step_is_kept s e a n steady (of_device e names) step).grows.journal step may keeps;
+  bytes_stay = λ e a n b names step writers.
+      let kept = step_is_kept s e a n steady (of_device e names) step in
+      sym (ap (λ m. bytes_of m b) (memory_is n spec kept.steady (kept.grows.spec ∙ same)))
+      ∙ (step_leaves_bytes s e a n b law (of_device e names) step writers ∙ ap (λ m. bytes_of m b) (memory_is s spec steady same));
+}
+  where
+    law : IsLawfulDevice s.device
+    law = steady.device.lawful
+
+    of_device : (e : Event) → names_exist spec e ≡ true → names_exist s.device.spec e ≡ true
+    of_device e names = subst (λ p. names_exist p e ≡ true) (sym same) names
+
+pub headline : Headline
+headline spec events answers new names run =
+    let end = run_is_steady (opened spec) spec events answers new (opened_core_steady spec) refl names run in
+    promises_kept spec new end.0 (run_plans_held (opened spec) events answers new (opened_plans_held spec) run)
+    (run_holders_begun (opened spec) events answers new (opened_holders_begun spec) run) end.1
+
+-- a lawful run is a run
+pub plain_run : (old : CoreState) (events : List Event) (answers : List Answer) (new : CoreState) → LawfulRun old events answers new → Run old events answers new
+plain_run old [] [] new run = run.1
+plain_run old (e ∷ events) (a ∷ answers) new run = (run.1.0, run.1.1, plain_run run.1.0 events answers new run.1.3)
+plain_run old [] (a ∷ answers) new run = run
+plain_run old (e ∷ events) [] new run = run
+
+pub promises_of_run : (old new : CoreState) (events : List Event) (answers : List Answer) → AllNamesExist old.device.spec events
+    → LawfulRun old events answers new → PromisesKept old new
+promises_of_run old new events answers names run spec opens =
+    headline spec events answers new (subst (λ s. AllNamesExist s.device.spec events) opens names)
+    (subst (λ s. Run s events answers new) opens (plain_run old events answers new run))

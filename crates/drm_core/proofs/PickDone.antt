@@ -1,0 +1,179 @@
+-- A pick of a choice that fits is the pick of its definition, and keeps the tables whole.
+use Rattle.std.proofs.Common.{◌≡◌, ℕ, zero, suc, ◌+◌, ◌<◌, ◌≤◌, Bool, true, false, not, List, [], ◌∷◌, length, get_or, cond, map, set, min, Some, None, Option, refl, sym, ap, subst, ◌∙◌, inl, inr, ◌⊎◌, arith, slice_get}
+use Rattle.std.specs.declared.alloc.Global.{Global}
+use Rattle.std.specs.Prelude.{vec_capacity, vec_len, Vec, sum_by, position, nat_lt, nat_le, option_map, ◌||◌, ◌==◌}
+use Rattle.std.specs.Option.{option_map_or}
+use Rattle.std.specs.Vec.{with_item}
+use Rattle.std.specs.List.{position_from}
+use Rattle.std.proofs.lemmas.Iterator.Adapters.{position_from-zero}
+use Rattle.std.proofs.lemmas.Option.{slice_get-get_or}
+use Rattle.std.proofs.lemmas.List.Sums.{sum_by-cons}
+use Rattle.std.proofs.lemmas.Bool.{cases_Bool, and_parts, leb-true, ltb-false, ltb-true, lt-ltb, eqb-false}
+use Rattle.drm_types.specs.declared.spec.DeviceSpec.{DeviceSpec}
+use Rattle.drm_types.specs.declared.spec.RingSpec.{RingSpec}
+use Rattle.drm_types.specs.declared.spec.BadSpec.{BadSpec}
+use Rattle.drm_types.specs.Firsts.{when}
+use Rattle.drm_types.specs.Limits.{spec_fault, whole, each, is_between}
+use Rattle.drm_job.specs.declared.Draft.{Draft}
+use Rattle.drm_job.specs.declared.JobFault.TheVariants.{NoCredits}
+use Rattle.drm_job.specs.Fault.{job_tests, IsJob}
+use Rattle.drm_job.proofs.Within.{none_at}
+use Rattle.drm_fence.specs.declared.phase.Phase.TheVariants.{Scheduled}
+use Rattle.drm_fence.specs.Fences.{Fences}
+use Rattle.drm_core.specs.declared.journal.JobRecord.{JobRecord}
+use Rattle.drm_core.specs.declared.table.RingRow.{RingRow}
+use Rattle.drm_core.specs.declared.table.Table.{Table}
+use Rattle.drm_core.specs.declared.event.Answer.TheVariants as answer
+use Rattle.drm_core.specs.Journal.{changed_at}
+use Rattle.drm_core.specs.Choice.{choice}
+use Rattle.drm_core.specs.Ring.{credits_of, free_credits, credit_limit_of, pending_of, is_guilty, ring_changed}
+use Rattle.drm_core.specs.Refusals.{pick_refusal}
+use Rattle.drm_core.specs.Outcomes.{pick_outcome, picked_device}
+use Rattle.drm_core.specs.Tables.{state_of, fence_of, ring_of_row, put_in, IsWhole}
+use Rattle.drm_core.proofs.Records.{changed_is}
+use Rattle.drm_core.proofs.Pending.{contains_at}
+use Rattle.drm_core.proofs.DeviceSteps.{IsKept, pick_kept, not_when}
+use Rattle.drm_core.proofs.TableFacts.{rings_tie, rooms_kept, row_pending, whole_kept}
+use Rattle.drm_core.proofs.CallsAre.{Left, pick_may, pick_takes}
+
+-- a choice of which none is taken was not the first
+passed_over : {A : Type 0} (b : Bool) (a : A) (rest : Option A) → cond (not b) (Some a) rest ≡ None → (b ≡ true) × (rest ≡ None)
+passed_over true a rest is = (refl, is)
+passed_over false a rest is = absurd (cc (is))
+
+-- where none is bad, each is good
+none_bad : {X : Type 0} (p : X → Bool) (n : ℕ) (xs : List X) (k : ℕ) (x : X) → position_from (λ y. not (p y)) n xs ≡ None → slice_get xs k ≡ Some x → p x ≡ true
+none_bad p n [] k x none at = absurd (cc (at))
+none_bad p n (y ∷ xs) zero x none at =
+    let same : y ≡ x = cc (at) in ap p (sym same) ∙ (passed_over (p y) n (position_from (λ z. not (p z)) (n + 1) xs) none).0
+none_bad p n (y ∷ xs) (suc k) x none at =
+    none_bad p (n + 1) xs k x (passed_over (p y) n (position_from (λ z. not (p z)) (n + 1) xs) none).1 at
+
+-- what is tested of a description, in order
+abbrev pub spec_tests : DeviceSpec → List (Option BadSpec)
+spec_tests spec =
+    whole 0 (is_between 1 64 (length spec.buffers))
+    ∷ each 1 (λ bytes. is_between 1 4096 (length bytes)) spec.buffers
+    ∷ whole 2 (is_between 1 8 (length spec.rings))
+    ∷ each 3 (λ ring. is_between 1 65535 ring.credit_limit) spec.rings
+    ∷ each 4 (λ ring. is_between 1 4294967295 ring.timeout) spec.rings
+    ∷ each 5 (λ ring. is_between 0 1000 ring.hang_limit) spec.rings
+    ∷ whole 6 (is_between 1 64 (length spec.entities))
+    ∷ each 7 (λ entity. nat_lt entity.ring (length spec.rings)) spec.entities
+    ∷ whole 8 (is_between 1 65535 spec.max_jobs)
+    ∷ []
+
+-- a ring of a device has a credit at least
+pub some_limit : (spec : DeviceSpec) (ring : ℕ) → spec_fault spec ≡ None → ring < length spec.rings → 0 < option_map_or (λ (r : RingSpec). r.credit_limit) (slice_get spec.rings ring) 0
+some_limit spec ring none there =
+    let blank : RingSpec = record { credit_limit = 0; timeout = 0; hang_limit = 0 } in
+    let r = get_or spec.rings ring blank in
+    let at = slice_get-get_or spec.rings ring blank there in
+    let passes : is_between 1 65535 r.credit_limit ≡ true =
+    none_bad (λ (x : RingSpec). is_between 1 65535 x.credit_limit) 0 spec.rings ring r
+    (position_from-zero-none (λ (x : RingSpec). not (is_between 1 65535 x.credit_limit)) spec.rings
+    (no_place (λ i. record { part = 3; index = i }) (position (λ (x : RingSpec). not (is_between 1 65535 x.credit_limit)) spec.rings)
+    (none_at (spec_tests spec) 3 (each 3 (λ ring. is_between 1 65535 ring.credit_limit) spec.rings) none refl))) at in
+    let least = leb-true 1 r.credit_limit (and_parts (nat_le 1 r.credit_limit) (nat_le r.credit_limit 65535) passes).0 in
+    subst (λ o. 0 < option_map_or (λ (x : RingSpec). x.credit_limit) o 0) (sym at) least
+  where
+    no_place : (f : ℕ → BadSpec) (o : Option ℕ) → option_map f o ≡ None → o ≡ None
+    no_place f None is = refl
+    no_place f (Some i) is = absurd (cc (is))
+
+    position_from-zero-none : {X : Type 0} (p : X → Bool) (xs : List X) → position p xs ≡ None → position_from p 0 xs ≡ None
+    position_from-zero-none p xs is = sym (position_from-zero p xs) ∙ is
+
+-- a job counts a credit at least
+pub some_credits : (spec : DeviceSpec) (job : Draft) → IsJob spec job → 0 < job.credits
+some_credits spec job is =
+    let no_zero = not_when (job.credits == 0) NoCredits (none_at (job_tests spec job) 1 (when (job.credits == 0) NoCredits) is refl) in
+    let ne = eqb-false job.credits 0 no_zero in
+    elim (zero_or_more job.credits) [
+      | inl none ↦ absurd (ne none)
+      | inr some ↦ some
+    ]
+  where
+    zero_or_more : (n : ℕ) → (n ≡ 0) ⊎ (0 < n)
+    zero_or_more zero = inl refl
+    zero_or_more (suc n) = inr (omega arith)
+
+-- where each counts a credit at least, they are no more than their credits
+pub few_pending : (f : ℕ → ℕ) (xs : List ℕ) → ((k x : ℕ) → slice_get xs k ≡ Some x → 0 < f x) → length xs ≤ sum_by f xs
+few_pending f [] each = omega arith
+few_pending f (x ∷ xs) each =
+    let rest = few_pending f xs (λ k y at. each (suc k) y at) in
+    let one = each 0 x refl in
+    let cons = sum_by-cons f x xs in
+    omega (arith, rest, one, cons)
+
+-- a pending job counts a credit at least
+pub each_counts : (t : Table) (ring : ℕ) → IsWhole t → ring < length t.spec.rings → (k f : ℕ) → slice_get (pending_of (state_of t) ring) k ≡ Some f → 0 < credits_of (state_of t) ring f
+each_counts t ring w there k f at =
+    let r = ((w.steady.lawful.rings ring there).pending f).0 (contains_at (pending_of (state_of t) ring) k f at) in
+    let limit = some_limit t.spec ring w.limits there in
+    let credits = some_credits t.spec r.0.job (w.steady.lawful.records f r.0 r.1).job in
+    subst (λ o. 0 < option_map_or (λ (x : JobRecord). min x.job.credits (credit_limit_of (state_of t) ring)) o 0) (sym r.1) (omega (arith, limit, credits))
+
+-- one more job that fits finds room
+pub room_for_one : (t : Table) (ring f : ℕ) (r : JobRecord) (row : RingRow) → IsWhole t → ring < length t.spec.rings → slice_get t.journal.items f ≡ Some r
+    → slice_get t.rings.items ring ≡ Some row → nat_lt (free_credits (state_of t) ring) (credits_of (state_of t) ring f) ≡ false
+    → vec_len row.pending < vec_capacity row.pending
+room_for_one t ring f r row w there at at_row fits =
+    let d = state_of t in
+    let le = ltb-false (free_credits d ring) (credits_of d ring f) fits in
+    let limit = some_limit t.spec ring w.limits there in
+    let credits = some_credits t.spec r.job (w.steady.lawful.records f r at).job in
+    let one : 0 < credits_of d ring f = subst (λ o. 0 < option_map_or (λ (x : JobRecord). min x.job.credits (credit_limit_of d ring)) o 0) (sym at) (omega (arith, limit, credits)) in
+    let few = few_pending (credits_of d ring) (pending_of d ring) (each_counts t ring w there) in
+    let used = (w.steady.lawful.rings ring there).credits in
+    let room = w.rooms.pending ring row at_row in
+    let same : length (pending_of d ring) ≡ length row.pending.items = ap length (row_pending t ring row at_row) in
+    let size : vec_len row.pending ≡ length row.pending.items = row.pending.ok.0 in
+    omega (arith, le, one, few, used, room, same, size)
+
+-- the tables after the pick
+abbrev pub picked_tables : Table → ℕ → Vec JobRecord Global → Fences → RingRow → Table
+picked_tables t ring journal fences row = record t { journal = journal; fences = fences; rings = with_item t.rings ring row }
+
+pub pick_done : (t : Table) (ring now f : ℕ) (r : JobRecord) (skipped : Bool) (journal : Vec JobRecord Global) (fences : Fences) (row new : RingRow) → IsWhole t
+    → ring < length t.spec.rings → choice (state_of t) ring ≡ Some f → nat_lt (free_credits (state_of t) ring) (credits_of (state_of t) ring f) ≡ false
+    → slice_get t.journal.items f ≡ Some r → skipped ≡ is_guilty (state_of t) r.job.entity
+    → journal.items ≡ changed_at t.journal.items f (λ r. record r { phase = Scheduled; is_skipped = skipped || r.is_skipped })
+    → fences.list ≡ map fence_of journal.items → vec_capacity journal ≡ vec_capacity t.journal → fences.places ≡ t.fences.places
+    → slice_get t.rings.items ring ≡ Some row → ring_of_row new ≡ put_in f now (ring_of_row row) → vec_capacity new.pending ≡ vec_capacity row.pending
+    → (pick_refusal (state_of t) ring ≡ None)
+    × (pick_outcome (state_of t) ring now ≡ (answer.Picked f skipped, state_of (picked_tables t ring journal fences new)))
+    × IsWhole (picked_tables t ring journal fences new)
+pick_done t ring now f r skipped journal fences row new w there is fits at guilt items tied room places at_row row_is row_room =
+    let d = state_of t in
+    let rings = rings_tie t.rings.items ring row new (put_in f now) at_row row_is in
+    let left : Left = (answer.Picked f skipped, state_of (picked_tables t ring journal fences new)) in
+    let given : journal.items ≡ (picked_device d ring now f).journal =
+    items ∙ (changed_is t.journal.items f r (λ r. record r { phase = Scheduled; is_skipped = skipped || r.is_skipped }) at
+    ∙ (ap (λ b. set t.journal.items f (record r { phase = Scheduled; is_skipped = b || r.is_skipped })) guilt
+    ∙ sym (changed_is t.journal.items f r (λ r. record r { phase = Scheduled; is_skipped = is_guilty d r.job.entity || r.is_skipped }) at))) in
+    let takes : pick_outcome d ring now ≡ left =
+    pick_takes d ring now f r is at
+    ∙ (ap (λ b. let q : Left = (answer.Picked f b, picked_device d ring now f) in q) (sym guilt)
+    ∙ (ap (λ j. let q : Left = (answer.Picked f skipped, record d { journal = j; rings = ring_changed d.rings ring (put_in f now) }) in q) (sym given)
+    ∙ ap (λ rs. let q : Left = (answer.Picked f skipped, record d { journal = journal.items; rings = rs }) in q) (sym rings))) in
+    let may = pick_may d ring f is fits in (
+      may,
+      takes,
+      whole_kept t (picked_tables t ring journal fences new) w
+          (subst (λ (q : Left). IsKept d q.1) takes (pick_kept d ring now w.steady there may))
+          tied refl refl
+          (rooms_kept t (picked_tables t ring journal fences new) ring row new w.rooms refl refl at_row row_room room refl places),
+    )
+
+-- numbers as tests
+pub not_less : (a b x y : ℕ) → b ≤ a → x ≡ a → y ≡ b → nat_lt x y ≡ false
+not_less a b x y le x_is y_is =
+    elim (cases_Bool (nat_lt x y)) [
+      | inl less ↦ let lt = ltb-true x y less in absurd (omega (arith, le, lt, x_is, y_is))
+      | inr no_less ↦ no_less
+    ]
+
+pub is_less : (a b x y : ℕ) → a < b → x ≡ a → y ≡ b → nat_lt x y ≡ true
+is_less a b x y lt x_is y_is = lt-ltb x y (omega (arith, lt, x_is, y_is))

@@ -1,0 +1,46 @@
+use Rattle.std.proofs.Common.{◌≡◌, ◌∙◌, ap, subst, length, slice_get, Some, ◌∷◌, ◌++◌, []}
+use Rattle.std.proofs.lemmas.List.{length-map}
+use Rattle.drm_core.specs.Tables.{state_of, fence_of}
+use Rattle.drm_core.specs.Cores.{all_named}
+use Rattle.drm_core.proofs.ArmDone.{few_entities, arm_done, ring_found}
+use Rattle.drm_core.proofs.table.Table.arm.Goals as goal
+
+pub note_named-requires : goal.note_named-requires
+note_named-requires c r f at =
+    let t = c.args.self.now in
+    let w = c.requires.whole in
+    let at_items : slice_get t.journal.items f ≡ Some r = subst (λ js. slice_get js f ≡ Some r) c.deref.ensures.value at in
+    (few_entities t.spec r.job w.limits (w.steady.lawful.records f r at_items).job).1
+
+pub returns-clause-armed : goal.returns-clause-armed
+returns-clause-armed c =
+    let t = c.args.self.now in
+    let d = state_of t in
+    let job = c.args.plan.job in
+    let w = c.requires.whole in
+    let may = c.requires.may in
+    let ring = ring_found d c.as_slice.result.now c.entity.result job.entity _ c.as_slice.ensures c.entity.ensures (few_entities t.spec job w.limits c.requires.job).0 in
+    let deps : c.note_named.new.deps ≡ all_named t.journal.items c.args.plan.deps job.after =
+    c.note_named.ensures ∙ (ap (λ js. all_named js c.args.plan.deps c.after.result.now) c.deref.ensures.value ∙ ap (all_named t.journal.items c.args.plan.deps) c.after.ensures) in
+    let done = arm_done t job c.args.plan.deps _ c.push_reserved-2.new.self c.push_reserved.new.self c.arm.new.self w c.requires.job c.requires.covers may ring
+    c.push_reserved-2.ensures.items (c.push_reserved.ensures.items ∙ ap (λ ds. t.waits.items ++ ds ∷ []) deps) c.arm.ensures.armed c.push_reserved-2.ensures.capacity c.push_reserved.ensures.capacity c.arm.ensures.places in
+    done.0
+
+pub returns-clause-number : goal.returns-clause-number
+returns-clause-number c =
+    let t = c.args.self.now in
+    c.arm.ensures.number ∙ (ap length c.requires.whole.fences ∙ length-map t.journal.items fence_of)
+
+pub returns-clause-whole : goal.returns-clause-whole
+returns-clause-whole c =
+    let t = c.args.self.now in
+    let d = state_of t in
+    let job = c.args.plan.job in
+    let w = c.requires.whole in
+    let may = c.requires.may in
+    let ring = ring_found d c.as_slice.result.now c.entity.result job.entity _ c.as_slice.ensures c.entity.ensures (few_entities t.spec job w.limits c.requires.job).0 in
+    let deps : c.note_named.new.deps ≡ all_named t.journal.items c.args.plan.deps job.after =
+    c.note_named.ensures ∙ (ap (λ js. all_named js c.args.plan.deps c.after.result.now) c.deref.ensures.value ∙ ap (all_named t.journal.items c.args.plan.deps) c.after.ensures) in
+    let done = arm_done t job c.args.plan.deps _ c.push_reserved-2.new.self c.push_reserved.new.self c.arm.new.self w c.requires.job c.requires.covers may ring
+    c.push_reserved-2.ensures.items (c.push_reserved.ensures.items ∙ ap (λ ds. t.waits.items ++ ds ∷ []) deps) c.arm.ensures.armed c.push_reserved-2.ensures.capacity c.push_reserved.ensures.capacity c.arm.ensures.places in
+    done.1

@@ -1,0 +1,72 @@
+use Rattle.std.proofs.Common.{◌+◌, ◌<◌, ◌∙◌, sym, ap, subst, Some, arith}
+use Rattle.std.specs.Prelude.{option_map, IfSome}
+use Rattle.drm_core.specs.Tables.{state_of}
+use Rattle.drm_core.proofs.TableFacts.{running_at, running_found, next_in_range, few_packets, vec_holds}
+use Rattle.drm_core.proofs.CallsAre.{step_may, step_stalls}
+use Rattle.drm_core.proofs.StepDone.{step_done}
+use Rattle.drm_core.proofs.table.Table.step.Goals as goal
+
+pub index-record-requires : goal.index-record-requires
+index-record-requires c =
+    let run = running_at c.args.self.now c.args.ring c.in-Some.number c.requires.whole c.requires.there (sym c.current.ensures ∙ c.in-Some.is) in
+    vec_holds c.args.self.now.journal c.in-Some.number run.0 run.1.current.at
+
+pub packet-packet-requires : goal.packet-packet-requires
+packet-packet-requires c =
+    (running_found c.args.self.now c.args.ring c.in-Some.number c.index-record.result.now c.requires.whole c.requires.there (sym c.current.ensures ∙ c.in-Some.is) c.index-record.ensures).left
+
+pub returns-then-must_stall-clause-ran : goal.returns-then-must_stall-clause-ran
+returns-then-must_stall-clause-ran c =
+    let t = c.args.self.now in
+    let is = sym c.current.ensures ∙ c.in-Some.is in
+    let run = running_found t c.args.ring c.in-Some.number c.index-record.result.now c.requires.whole c.requires.there is c.index-record.ensures in
+    (step_may (state_of t) c.args.ring c.in-Some.number is, step_stalls (state_of t) c.args.ring c.in-Some.number c.index-record.result.now c.packet-packet.result is run.current.at c.packet-packet.ensures (sym c.if-must_stall.ensures))
+
+pub run-requires : goal.run-requires
+run-requires c =
+    let t = c.args.self.now in
+    let run = running_found t c.args.ring c.in-Some.number c.index-record.result.now c.requires.whole c.requires.there (sym c.current.ensures ∙ c.in-Some.is) c.index-record.ensures in
+    next_in_range t c.args.ring c.in-Some.number c.index-record.result.now c.packet-packet.result c.requires.whole run c.packet-packet.ensures
+
+pub overflow_add-count : goal.overflow_add-count
+overflow_add-count c =
+    let run = running_found c.args.self.now c.args.ring c.in-Some.number c.index-record.result.now c.requires.whole c.requires.there (sym c.current.ensures ∙ c.in-Some.is) c.index-record.ensures in
+    let few = few_packets c.args.self.now.spec c.index-record.result.now.job run.job in
+    let left = run.left in
+    omega (arith, few, left)
+
+pub index_mut-requires : goal.index_mut-requires
+index_mut-requires c =
+    let run = running_at c.args.self.now c.args.ring c.in-Some.number c.requires.whole c.requires.there (sym c.current.ensures ∙ c.in-Some.is) in
+    vec_holds c.args.self.now.journal c.in-Some.number run.0 run.1.current.at
+
+pub count_packet-requires-clause-scheduled : goal.count_packet-requires-clause-scheduled
+count_packet-requires-clause-scheduled c =
+    let run = running_found c.args.self.now c.args.ring c.in-Some.number c.index-record.result.now c.requires.whole c.requires.there (sym c.current.ensures ∙ c.in-Some.is) c.index-record.ensures in
+    ap (option_map (λ x. x.phase)) run.fence ∙ ap (λ p. Some p) run.current.phase
+
+pub count_packet-requires-clause-fits : goal.count_packet-requires-clause-fits
+count_packet-requires-clause-fits c =
+    let run = running_found c.args.self.now c.args.ring c.in-Some.number c.index-record.result.now c.requires.whole c.requires.there (sym c.current.ensures ∙ c.in-Some.is) c.index-record.ensures in
+    let few = few_packets c.args.self.now.spec c.index-record.result.now.job run.job in
+    let left = run.left in
+    let fits : c.index-record.result.now.ran + 1 < 4294967296 = omega (arith, few, left) in
+    subst (λ o. IfSome (option_map (λ x. x.ran) o) (λ n. n + 1 < 4294967296)) (sym run.fence) fits
+
+pub returns-clause-ran : goal.returns-clause-ran
+returns-clause-ran c =
+    let t = c.args.self.now in
+    let is = sym c.current.ensures ∙ c.in-Some.is in
+    let run = running_found t c.args.ring c.in-Some.number c.index-record.result.now c.requires.whole c.requires.there is c.index-record.ensures in (
+      step_may (state_of t) c.args.ring c.in-Some.number is,
+      (step_done t c.args.ring c.in-Some.number c.index_mut.result.now c.index-record.result.now c.packet-packet.result c.run.new.memory c.count_packet.new.self c.requires.whole c.requires.there is run
+          c.index_mut.ensures.value c.packet-packet.ensures (sym c.if-must_stall.ensures) c.run.ensures.effect c.run.ensures.sizes c.count_packet.ensures.list c.count_packet.ensures.places).0,
+    )
+
+pub returns-clause-whole : goal.returns-clause-whole
+returns-clause-whole c =
+    let t = c.args.self.now in
+    let is = sym c.current.ensures ∙ c.in-Some.is in
+    let run = running_found t c.args.ring c.in-Some.number c.index-record.result.now c.requires.whole c.requires.there is c.index-record.ensures in
+    (step_done t c.args.ring c.in-Some.number c.index_mut.result.now c.index-record.result.now c.packet-packet.result c.run.new.memory c.count_packet.new.self c.requires.whole c.requires.there is run
+    c.index_mut.ensures.value c.packet-packet.ensures (sym c.if-must_stall.ensures) c.run.ensures.effect c.run.ensures.sizes c.count_packet.ensures.list c.count_packet.ensures.places).1

@@ -1,0 +1,43 @@
+-- How a device over plain tables finds the job that a ring takes next.
+use Rattle.std.specs.Prelude.{◌≡◌, ℕ, ◌<◌, Bool, true, false, List, [], length, Option, Some, None, slice_get, IsTrue, IsFalse, if◌then◌else◌}
+use Rattle.drm_types.specs.declared.spec.DeviceSpec.{DeviceSpec}
+use Rattle.drm_fence.specs.Phases.{has_ended}
+use Rattle.drm_core.specs.declared.journal.JobRecord.{JobRecord}
+use Rattle.drm_core.specs.declared.device.EntityState.{EntityState}
+use Rattle.drm_core.specs.declared.choice.Key.{Key}
+use Rattle.drm_core.specs.State.{DeviceState}
+use Rattle.drm_core.specs.Order.{is_ready}
+use Rattle.drm_core.specs.Keys.{IsHeadKey, comes_before}
+use Rattle.drm_core.specs.Waits.{DepsStand}
+
+-- the part of a device that decides which job a ring takes next
+abbrev pub tables : DeviceSpec → List JobRecord → List EntityState → DeviceState
+tables spec journal entities = record { spec = spec; memory = []; journal = journal; rings = []; entities = entities }
+
+-- the dependencies that are kept for each job that has not ended
+pub record WaitsStand (journal : List JobRecord) (waits : List (List (ℕ × ℕ))) : Type 0 where
+  pub count : length waits ≡ length journal
+  pub stand : (j : ℕ) (r : JobRecord) (deps : List (ℕ × ℕ)) → slice_get journal j ≡ Some r → IsFalse (has_ended r.phase)
+      → slice_get waits j ≡ Some deps → DepsStand journal j r.job deps
+
+-- whether the job of this number is ready
+abbrev pub IsReady : DeviceState → ℕ → Bool → Type 0
+IsReady device number answer = (r : JobRecord) → slice_get device.journal number ≡ Some r → is_ready device.journal number r ≡ answer
+
+-- the entity's head with its key, where it may begin on the ring and is ready
+abbrev pub IsCandidate : DeviceState → ℕ → ℕ → Option Key → Type 0
+IsCandidate device ring entity None = (key : Key) → IsHeadKey device ring entity key → IsReady device key.age false
+IsCandidate device ring entity (Some key) = IsHeadKey device ring entity key × IsReady device key.age true
+
+-- the key that comes before, the old one where they are alike
+abbrev pub better_key : Option Key → Option Key → Option Key
+better_key None new = new
+better_key (Some old) None = Some old
+better_key (Some old) (Some key) = if comes_before key old then Some key else Some old
+
+-- the best of the first entities
+abbrev pub IsBest : DeviceState → ℕ → ℕ → Option Key → Type 0
+IsBest device ring count None = (other : ℕ) (key : Key) → other < count → IsHeadKey device ring other key → IsReady device key.age false
+IsBest device ring count (Some best) =
+    ((entity : ℕ) × IsHeadKey device ring entity best) × IsReady device best.age true
+    × ((other : ℕ) (key : Key) → other < count → IsHeadKey device ring other key → IsTrue (comes_before key best) → IsReady device key.age false)

@@ -1,0 +1,60 @@
+-- What a plan takes from the reservations that its context holds.
+use Rattle.std.specs.Prelude.{◌≡◌, ℕ, Bool, false, ◌==◌, IsTrue, List, [], length, fold, Some, None, Option, option_and_then, slice_get}
+use Rattle.std.specs.Option.{option_map_or}
+use Rattle.drm_types.specs.declared.access.Access.{Access}
+use Rattle.drm_types.specs.Usages.{wanted_usage}
+use Rattle.drm_types.specs.declared.access.Usage.{Usage}
+use Rattle.drm_job.specs.declared.Draft.{Draft}
+use Rattle.drm_resv.specs.Entries.{entries_of, added_to}
+use Rattle.drm_resv.specs.Noting.{all_noted}
+use Rattle.drm_resv.specs.Reservation.{WithRoom}
+use Rattle.drm_core.specs.Reservation.{usage_at}
+
+-- whether a context holds the buffer
+abbrev pub is_held_in : List (Option ℕ) → ℕ → Bool
+is_held_in holders buffer = option_map_or (λ h. h == h) (option_and_then (λ o. o) (slice_get holders buffer)) false
+
+-- whether this context holds it
+abbrev pub holds_in : List (Option ℕ) → ℕ → ℕ → Bool
+holds_in holders ctx buffer = option_map_or (λ h. h == ctx) (option_and_then (λ o. o) (slice_get holders buffer)) false
+
+-- the entries that a reservation asks a job with this access to wait for, noted
+abbrev pub collected : List WithRoom → List (ℕ × ℕ) → ℕ × Access → List (ℕ × ℕ)
+collected reservations deps d =
+    option_map_or (λ r. all_noted deps (entries_of (wanted_usage d.1) r.kept.entries)) (slice_get reservations d.0) deps
+
+-- those of all buffers that a job declares
+abbrev pub all_collected : List WithRoom → List (ℕ × Access) → List (ℕ × ℕ)
+all_collected reservations declared = fold (collected reservations) [] declared
+
+-- each reservation is as it was, with no less room
+pub record MoreRoom (old new : List WithRoom) : Type 0 where
+  pub count : length new ≡ length old
+  pub each : (k : ℕ) (r : WithRoom) → slice_get old k ≡ Some r
+      → (m : WithRoom) × (slice_get new k ≡ Some m) × (m.kept ≡ r.kept) × (IsTrue r.has_room → IsTrue m.has_room)
+
+-- each of these buffers has room for one more use
+abbrev pub HasRoomFor : List (ℕ × Access) → List WithRoom → Type 0
+HasRoomFor declared reservations =
+    (k : ℕ) (d : ℕ × Access) (r : WithRoom) → slice_get declared k ≡ Some d → slice_get reservations d.0 ≡ Some r → IsTrue r.has_room
+
+-- each reservation of a buffer that the job uses has room
+abbrev pub AreRoomy : Draft → List WithRoom → Type 0
+AreRoomy job reservations =
+    (k : ℕ) (r : WithRoom) (usage : Usage) → slice_get reservations k ≡ Some r → usage_at k job ≡ Some usage → IsTrue r.has_room
+
+-- a reservation after the job's use was added, where it uses the buffer; the others are as they were
+abbrev pub HasUse : (ℕ → Bool) → ℕ → Draft → ℕ → WithRoom → WithRoom → Type 0
+HasUse ended fence job buffer old new =
+    ((usage : Usage) → usage_at buffer job ≡ Some usage → new.kept ≡ added_to ended old.kept (record { fence = fence; entity = job.entity; usage = usage }))
+    × (usage_at buffer job ≡ None → new ≡ old)
+
+-- so for all reservations
+pub record HaveUses (ended : ℕ → Bool) (fence : ℕ) (job : Draft) (old new : List WithRoom) : Type 0 where
+  pub count : length new ≡ length old
+  pub each : (k : ℕ) (r : WithRoom) → slice_get old k ≡ Some r → (m : WithRoom) × (slice_get new k ≡ Some m) × HasUse ended fence job k r m
+
+-- the two jobs declare no buffer in common
+abbrev pub AreApart : Draft → Draft → Type 0
+AreApart job other =
+    (i j : ℕ) (d e : ℕ × Access) → slice_get job.declared i ≡ Some d → slice_get other.declared j ≡ Some e → d.0 ≡ e.0 → ⊥

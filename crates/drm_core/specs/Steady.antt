@@ -1,0 +1,42 @@
+-- What holds of every device beside its laws, and from which they follow at the next event.
+use Rattle.std.specs.Prelude.{◌≡◌, ℕ, ◌<◌, ◌⊎◌, IsTrue, IsFalse, List, length, Some, slice_get}
+use Rattle.drm_core.specs.declared.journal.JobRecord.{JobRecord}
+use Rattle.drm_core.specs.State.{DeviceState, CoreState}
+use Rattle.drm_resv.specs.Reservation.{Reservation}
+use Rattle.drm_fence.specs.Phases.{is_queued}
+use Rattle.drm_core.specs.Order.{comes_after, is_met}
+use Rattle.drm_core.specs.Ring.{pending_of}
+use Rattle.drm_core.specs.Arming.{ring_of}
+use Rattle.drm_job.specs.declared.Draft.{Draft}
+use Rattle.drm_job.specs.Fault.{IsJob}
+use Rattle.drm_core.specs.Refusals.{plan_of}
+use Rattle.drm_core.specs.Reservation.{Fits}
+use Rattle.drm_core.specs.Lawful.{EachTwo, IsLawfulDevice}
+
+-- a job that has begun found the fences met that it waits for, and they stay so
+abbrev pub BeginsMet : ℕ → JobRecord → ℕ → JobRecord → Type 0
+BeginsMet number earlier place later =
+    IsTrue (comes_after later.job number earlier.job) → IsFalse (is_queued later.phase) → IsTrue (is_met later.ring earlier)
+
+-- the later job comes after the earlier, or is of the same entity
+abbrev pub MustFollow : ℕ → JobRecord → JobRecord → Type 0
+MustFollow number earlier later = IsTrue (comes_after later.job number earlier.job) ⊎ (earlier.job.entity ≡ later.job.entity)
+
+-- of two pending jobs, the one that must follow stands behind
+abbrev pub StandsInOrder : List ℕ → ℕ → JobRecord → ℕ → JobRecord → Type 0
+StandsInOrder pending i earlier j later =
+    MustFollow i earlier later → (a b : ℕ) → slice_get pending a ≡ Some i → slice_get pending b ≡ Some j → a < b
+
+-- a lawful device whose jobs began in order, each on its entity's ring
+pub record IsSteady (device : DeviceState) : Type 0 where
+  pub lawful : IsLawfulDevice device
+  pub met : EachTwo device.journal BeginsMet
+  pub home : (i : ℕ) (r : JobRecord) → slice_get device.journal i ≡ Some r → r.ring ≡ ring_of device r.job.entity
+  pub order : (ring : ℕ) → ring < length device.spec.rings → EachTwo device.journal (StandsInOrder (pending_of device ring))
+
+-- a core over a steady device: each reservation fits it, and each plan is a job
+pub record IsSteadyCore (state : CoreState) : Type 0 where
+  pub device : IsSteady state.device
+  pub plans : (ctx : ℕ) (job : Draft) → plan_of state ctx ≡ Some job → IsJob state.device.spec job
+  pub reservations : (buffer : ℕ) → buffer < length state.device.spec.buffers
+      → (resv : Reservation) × (slice_get state.reservations buffer ≡ Some resv) × Fits buffer state.device.journal resv

@@ -1,0 +1,64 @@
+-- The state that a device's tables stand for, and what they keep.
+use Rattle.std.specs.Prelude.{◌≡◌, ℕ, ◌≤◌, ◌==◌, if◌then◌else◌, [], ◌∷◌, ◌++◌, drop, length, map, Option, Some, None, slice_get, vec_capacity}
+use Rattle.drm_types.specs.Limits.{spec_fault}
+use Rattle.drm_buffer.specs.Memory.{sizes_of}
+use Rattle.drm_fence.specs.declared.timeline.FenceState.{FenceState}
+use Rattle.drm_core.specs.declared.journal.JobRecord.{JobRecord}
+use Rattle.drm_core.specs.declared.table.RingRow.{RingRow}
+use Rattle.drm_core.specs.declared.table.Table.{Table}
+use Rattle.drm_core.specs.State.{RingState, DeviceState}
+use Rattle.drm_core.specs.Journal.{is_complete}
+use Rattle.drm_core.specs.Outcomes.{final_outcome}
+use Rattle.drm_types.specs.declared.outcome.Outcome.{Outcome}
+use Rattle.drm_core.specs.Ring.{credit_limit_of}
+use Rattle.drm_core.specs.Steady.{IsSteady}
+use Rattle.drm_core.specs.Plain.{WaitsStand}
+
+abbrev pub ring_of_row : RingRow → RingState
+ring_of_row row = record { pending = row.pending.items; since = row.since }
+
+-- the fence of a job
+abbrev pub fence_of : JobRecord → FenceState
+fence_of r = record { phase = r.phase; ran = r.ran }
+
+abbrev pub state_of : Table → DeviceState
+state_of t = record {
+  spec = t.spec;
+  memory = t.memory;
+  journal = t.journal.items;
+  rings = map ring_of_row t.rings.items;
+  entities = t.entities.items;
+}
+
+-- the ring with one more pending job, from now on where it is the first
+abbrev pub put_in : ℕ → ℕ → RingState → RingState
+put_in number now s = record {
+  pending = s.pending ++ number ∷ [];
+  since = if length s.pending == 0 then now else s.since;
+}
+
+-- the ring without its head. The next job's age counts from now
+abbrev pub popped_at : ℕ → RingState → RingState
+popped_at now s = record { pending = drop 1 s.pending; since = if length s.pending == 1 then s.since else now }
+
+-- how a job ends, where the ring is done with it
+abbrev pub ending : JobRecord → Option Outcome
+ending r = if is_complete r then Some (final_outcome r) else None
+
+-- the room that was taken when the device was opened: for all jobs, and for the pending jobs of each ring
+pub record HasRooms (t : Table) : Type 0 where
+  pub jobs : t.spec.max_jobs ≤ vec_capacity t.journal
+  pub waits : t.spec.max_jobs ≤ vec_capacity t.waits
+  pub places : t.fences.places ≡ t.spec.max_jobs
+  pub pending : (ring : ℕ) (row : RingRow) → slice_get t.rings.items ring ≡ Some row → credit_limit_of (state_of t) ring ≤ vec_capacity row.pending
+
+-- the tables of a steady device: its fences are those of its jobs, each job that has not ended has its dependencies,
+-- and there is room for what may come
+pub record IsWhole (t : Table) : Type 0 where
+  pub steady : IsSteady (state_of t)
+  pub limits : spec_fault t.spec ≡ None
+  pub count : length t.journal.items ≤ t.spec.max_jobs
+  pub fences : t.fences.list ≡ map fence_of t.journal.items
+  pub waits : WaitsStand t.journal.items t.waits.items
+  pub sizes : sizes_of t.memory ≡ sizes_of t.spec.buffers
+  pub rooms : HasRooms t

@@ -1,0 +1,101 @@
+ghost use Rattle.std.specs.Prelude.{◌≡◌, ℕ, ◌<◌, ◌≤◌, length, Some, None, Option, IsTrue, find, nat_le, slice_get, false};
+ghost use Rattle.std.specs.Option.{option_map_or};
+ghost use Rattle.drm_job.specs.Fault.{IsJob};
+ghost use Rattle.drm_core.specs.Arming.{armed_device, ring_of};
+ghost use Rattle.drm_core.specs.Refusals.{arm_refusal as arm_refusal_of};
+ghost use Rattle.drm_core.specs.Ring.{is_stopped};
+ghost use Rattle.drm_core.specs.Tables.{state_of, IsWhole};
+ghost use Rattle.drm_core.specs.Cores.{DepsCover, all_named, entity_at};
+
+use crate::cores::Plan;
+use crate::device::EntityState;
+use crate::event::Refusal;
+use crate::journal::JobRecord;
+use crate::table::Table;
+use drm_fence::Phase;
+use drm_job::Job;
+use drm_resv::Deps;
+use drm_types::{EntityId, FenceId};
+
+fn marked_stopped(entities: &[EntityState], entity: EntityId) -> bool
+    ensures { result ≡ option_map_or (λ e. e.is_stopped) (slice_get entities.now entity) false }
+{
+    match entities.get(entity as usize) {
+        Some(state) => state.is_stopped,
+        None => false,
+    }
+}
+
+// The first of these fences that was not armed yet.
+fn first_unarmed(after: &[FenceId], armed: u32) -> Option<FenceId>
+    ensures { result ≡ find (λ f. nat_le armed f) after.now }
+{
+    after.iter().copied().find(|fence| armed <= *fence)
+}
+
+// The entity of the job of this number.
+fn entity_of(journal: &[JobRecord], fence: FenceId) -> EntityId
+    ensures { result ≡ entity_at journal.now fence }
+{
+    match journal.get(fence as usize) {
+        Some(record) => record.job.entity(),
+        None => 0,
+    }
+}
+
+// The fences that the job names are noted beside those that its reservations ask to wait for.
+fn note_named(journal: &[JobRecord], after: &[FenceId], deps: &mut Deps)
+    requires { (r : JobRecord) (f : ℕ) → slice_get journal.now f ≡ Some r → r.job.entity < 64 }
+    ensures { deps.new ≡ all_named journal.now deps.old after.now }
+{
+    for fence in after {
+        deps.note(entity_of(journal, *fence), *fence);
+    }
+}
+
+impl Table {
+    // Why the job is not armed: its entity is stopped, the device is full, or it names a fence not armed yet.
+    pub(crate) fn arm_refusal(&self, job: &Job) -> Option<Refusal>
+        requires { IsWhole self.now }
+        ensures { result ≡ arm_refusal_of (state_of self.now) job.now }
+    {
+        if marked_stopped(&self.entities, job.entity()) {
+            return Some(Refusal::Stopped);
+        }
+        let armed = self.journal.len() as u32;
+        if self.spec.max_jobs <= armed {
+            return Some(Refusal::Full);
+        }
+        match first_unarmed(job.after(), armed) {
+            Some(fence) => Some(Refusal::NoFence { fence }),
+            None => None,
+        }
+    }
+
+    /// Arms the job (`drm_sched_job_arm` and `drm_sched_entity_push_job` in one), which nothing refuses: it gets
+    /// the next number, its fence, and its place at the end of its entity's queue.
+    pub(crate) fn arm(&mut self, plan: Plan) -> FenceId
+        requires job { IsJob self.old.spec plan.job }
+        requires covers { DepsCover (state_of self.old) plan.job plan.deps }
+        requires may { arm_refusal_of (state_of self.old) plan.job ≡ None }
+        requires whole { IsWhole self.old }
+        ensures number { result ≡ length self.old.journal.items }
+        ensures armed { state_of self.new ≡ armed_device (state_of self.old) plan.job }
+        ensures whole { IsWhole self.new }
+    {
+        let Plan { job, mut deps } = plan;
+        note_named(&self.journal, job.after(), &mut deps);
+        let ring = self.spec.entities.as_slice()[job.entity() as usize].ring;
+        self.waits.push_reserved(deps);
+        self.journal.push_reserved(JobRecord {
+            job,
+            ring,
+            phase: Phase::Queued,
+            ran: 0,
+            is_skipped: false,
+            resets: 0,
+            karma: 0,
+        });
+        self.fences.arm()
+    }
+}

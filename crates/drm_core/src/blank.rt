@@ -1,0 +1,116 @@
+ghost use Rattle.std.specs.Prelude.{◌≡◌, false, [], None, IfOk, map, replicate};
+ghost use Rattle.drm_types.specs.Limits.{spec_fault};
+ghost use Rattle.drm_core.specs.State.{opened_device, opened};
+ghost use Rattle.drm_core.specs.Tables.{ring_of_row, state_of, IsWhole};
+ghost use Rattle.drm_core.specs.Cores.{core_state, IsCore};
+ghost use Rattle.drm_core.specs.Building.{HaveRoomFor};
+
+use crate::cores::{ContextRow, CoreTable};
+use crate::device::EntityState;
+use crate::table::{RingRow, Table};
+use drm_buffer::Memory;
+use drm_fence::Timeline;
+use drm_resv::Resv;
+use drm_types::{CtxId, DeviceSpec, RingSpec};
+use std::alloc::{AllocError, Global};
+
+// A row for each ring: nothing is pending, and there is room for as many jobs as its credits allow.
+fn blank_rings(alloc: Global, specs: &[RingSpec]) -> Result<Vec<RingRow>, AllocError>
+    ensures rows { IfOk result (λ rows. map ring_of_row rows.items ≡ map (λ ring. record { pending = []; since = 0 }) specs.now) }
+    ensures room { IfOk result (λ rows. HaveRoomFor specs.now rows.items) }
+{
+    let mut rows = Vec::with_capacity(alloc, specs.len())?;
+    for ring in specs {
+        let pending = Vec::with_capacity(alloc, ring.credit_limit as usize)?;
+        rows.push(RingRow { pending, since: 0 })?;
+    }
+    Ok(rows)
+}
+
+// Entities that run.
+fn blank_entities(alloc: Global, count: usize) -> Result<Vec<EntityState>, AllocError>
+    ensures { IfOk result (λ rows. rows.items ≡ replicate count (record { is_stopped = false; is_guilty = false })) }
+{
+    let running = EntityState {
+        is_stopped: false,
+        is_guilty: false,
+    };
+    Ok(vec![in alloc; running; count]?)
+}
+
+// Reservations of buffers that nobody has used.
+fn blank_reservations(alloc: Global, count: usize) -> Result<Vec<Resv>, AllocError>
+    ensures { IfOk result (λ rows. map (λ r. r.kept) rows.items ≡ replicate count (record { entries = []; history = [] })) }
+{
+    let mut rows = Vec::with_capacity(alloc, count)?;
+    for _ in 0..count {
+        rows.push(Resv::new(alloc))?;
+    }
+    Ok(rows)
+}
+
+// Buffers that no context holds.
+fn no_holders(alloc: Global, count: usize) -> Result<Vec<Option<CtxId>>, AllocError>
+    ensures { IfOk result (λ rows. rows.items ≡ replicate count None) }
+{
+    Ok(vec![in alloc; None; count]?)
+}
+
+// Contexts of which none has begun.
+fn no_contexts(alloc: Global, count: usize) -> Result<Vec<Option<ContextRow>>, AllocError>
+    ensures { IfOk result (λ rows. rows.items ≡ replicate count None) }
+{
+    let mut rows = Vec::with_capacity(alloc, count)?;
+    for _ in 0..count {
+        rows.push(None)?;
+    }
+    Ok(rows)
+}
+
+impl Table {
+    /// The tables of a device on which no job was armed. All memory that its events need is taken here.
+    pub(crate) fn open(alloc: Global, spec: DeviceSpec) -> Result<Table, AllocError>
+        requires limits { spec_fault spec ≡ None }
+        ensures opened { IfOk result (λ t. state_of t ≡ opened_device spec) }
+        ensures whole { IfOk result (λ t. IsWhole t) }
+    {
+        let memory = Memory::copy_of(alloc, &spec.buffers)?;
+        let max_jobs = spec.max_jobs as usize;
+        let journal = Vec::with_capacity(alloc, max_jobs)?;
+        let waits = Vec::with_capacity(alloc, max_jobs)?;
+        let fences = Timeline::new(alloc, spec.max_jobs)?;
+        let rings = blank_rings(alloc, spec.rings.as_slice())?;
+        let entities = blank_entities(alloc, spec.entities.len())?;
+        Ok(Table {
+            spec,
+            memory,
+            journal,
+            waits,
+            fences,
+            rings,
+            entities,
+        })
+    }
+}
+
+impl CoreTable {
+    /// The tables of a core to which nothing has happened.
+    pub(crate) fn open(alloc: Global, spec: DeviceSpec) -> Result<CoreTable, AllocError>
+        requires limits { spec_fault spec ≡ None }
+        ensures opened { IfOk result (λ c. core_state c ≡ opened spec) }
+        ensures core { IfOk result (λ c. IsCore c) }
+    {
+        let buffers = spec.buffers.len();
+        let reservations = blank_reservations(alloc, buffers)?;
+        let holders = no_holders(alloc, buffers)?;
+        let contexts = no_contexts(alloc, 64)?;
+        let table = Table::open(alloc, spec)?;
+        Ok(CoreTable {
+            table,
+            reservations,
+            holders,
+            contexts,
+            next_ticket: 1,
+        })
+    }
+}

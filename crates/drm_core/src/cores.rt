@@ -1,0 +1,31 @@
+use crate::table::Table;
+use drm_job::Job;
+use drm_resv::{Deps, Resv};
+use drm_types::{CtxId, Ticket};
+
+/// A job and the fences that it waits for, collected from the reservations that its context holds.
+#[derive(Drop)]
+pub struct Plan {
+    pub job: Job,
+    pub deps: Deps,
+}
+
+/// A context that has begun (`ww_acquire_ctx`).
+#[derive(Drop)]
+pub struct ContextRow {
+    pub ticket: Ticket,
+    /// It locks no more.
+    pub is_sealed: bool,
+    pub plan: Option<Plan>,
+}
+
+/// The tables of a core: its device, the reservation and the holder of each buffer, the contexts, and the
+/// ticket that is drawn next.
+#[derive(Drop)]
+pub struct CoreTable {
+    pub table: Table,
+    pub reservations: Vec<Resv>,
+    pub holders: Vec<Option<CtxId>>,
+    pub contexts: Vec<Option<ContextRow>>,
+    pub next_ticket: Ticket,
+}

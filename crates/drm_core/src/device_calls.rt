@@ -1,0 +1,159 @@
+ghost use Rattle.std.specs.Prelude.{◌≡◌, ◌<◌, length, Some, None, IfOk, IfErr, OnOk, MatchOption, option_map, slice_get};
+ghost use Rattle.std.specs.List.{filter};
+ghost use Rattle.drm_types.specs.Limits.{spec_fault};
+ghost use Rattle.drm_buffer.specs.Memory.{bytes_of};
+ghost use Rattle.drm_fence.specs.Phases.{has_ended, status_of};
+ghost use Rattle.drm_core.specs.declared.event.Answer.TheVariants as answer;
+ghost use Rattle.drm_core.specs.Answers.{picked, stepped, finished, timed_out};
+ghost use Rattle.drm_core.specs.Building.{RefusesToBuild};
+ghost use Rattle.drm_core.specs.Outcomes.{pick_outcome, step_outcome, finish_outcome, timeout_outcome, cancelled_device, reap_outcome};
+ghost use Rattle.drm_core.specs.Refusals.{pick_refusal, step_refusal, finish_refusal, cancel_refusal, reap_refusal};
+ghost use Rattle.drm_core.specs.State.{opened_device};
+
+use crate::answer::{Expired, Finished, Picked, Stepped};
+use crate::event::Refusal;
+use crate::journal::JobRecord;
+use crate::machine::BuildError;
+use crate::table::Table;
+use drm_types::{BufferId, DeviceSpec, EntityId, FenceId, Moment, RingId};
+use std::alloc::{AllocError, Global};
+use std::marker::Model;
+
+/// A device: its memory, its armed jobs, its rings and its entities (`drm_gpu_scheduler`, without the reservations
+/// that tell a job what to wait for).
+///
+/// Contracts see it as its state. A call that is refused changes nothing, and none but `build` takes memory.
+#[derive(Drop)]
+pub struct Device {
+    table: Table,
+}
+
+impl Model for Device {
+    ghost use Rattle.drm_core.specs.State.{DeviceState};
+    ghost use Rattle.drm_core.specs.Tables.{state_of, IsWhole};
+
+    ghost Value = { DeviceState };
+
+    ghost view = { λ d. state_of d.table };
+
+    ghost invariant = { λ d. IsWhole d.table };
+}
+
+impl Device {
+    /// A device on which no job was armed. It takes the description over, and all memory that it needs in its life.
+    ///
+    /// # Errors
+    ///
+    /// Where the description is out of its limits, or memory is refused.
+    pub fn build(alloc: Global, spec: DeviceSpec) -> Result<Device, BuildError>
+        ensures ok { IfOk result (λ device. (device ≡ opened_device spec) × (spec_fault spec ≡ None)) }
+        ensures err { IfErr result (RefusesToBuild spec) }
+    {
+        if let Err(bad) = spec.check() {
+            return Err(BuildError::Spec(bad));
+        }
+        match Table::open(alloc, spec) {
+            Ok(table) => Ok(Device { table }),
+            Err(AllocError) => Err(BuildError::Memory),
+        }
+    }
+
+    /// Gives the ring the job that it takes next, if it fits (`drm_sched_run_job_work`).
+    pub fn pick(&mut self, ring: RingId, now: Moment) -> Result<Picked, Refusal>
+        requires there { ring < length self.old.spec.rings }
+        ensures picked { IfOk result (λ p. (pick_refusal self.old ring ≡ None) × (pick_outcome self.old ring now ≡ (picked p, self.new))) }
+        ensures refused { IfErr result (λ r. (pick_refusal self.old ring ≡ Some r) × (self.new ≡ self.old)) }
+    {
+        self.table.pick(ring, now)
+    }
+
+    /// Runs one packet of the first pending job of the ring that has some left.
+    pub fn step(&mut self, ring: RingId) -> Result<Stepped, Refusal>
+        requires there { ring < length self.old.spec.rings }
+        ensures ran { IfOk result (λ s. (step_refusal self.old ring ≡ None) × (step_outcome self.old ring ≡ (stepped s, self.new))) }
+        ensures refused { IfErr result (λ r. (step_refusal self.old ring ≡ Some r) × (self.new ≡ self.old)) }
+    {
+        self.table.step(ring)
+    }
+
+    /// Ends the head of the ring, which is complete (`drm_sched_job_done`).
+    pub fn finish(&mut self, ring: RingId, now: Moment) -> Result<Finished, Refusal>
+        requires there { ring < length self.old.spec.rings }
+        ensures finished { IfOk result (λ f. (finish_refusal self.old ring ≡ None) × (finish_outcome self.old ring now ≡ (finished f, self.new))) }
+        ensures refused { IfErr result (λ r. (finish_refusal self.old ring ≡ Some r) × (self.new ≡ self.old)) }
+    {
+        self.table.finish(ring, now)
+    }
+
+    /// Looks at the head of the ring after a time (`drm_sched_job_timedout`). A head that hangs goes on at its next
+    /// packet.
+    pub fn timeout(&mut self, ring: RingId, now: Moment) -> Expired
+        requires there { ring < length self.old.spec.rings }
+        ensures expired { timeout_outcome self.old ring now ≡ (timed_out result, self.new) }
+    {
+        self.table.timeout(ring, now)
+    }
+
+    /// Stops the entity (`drm_sched_entity_kill`). Its queued jobs stay, and end one after another as they are reaped.
+    pub fn cancel(&mut self, entity: EntityId) -> Result<(), Refusal>
+        requires there { entity < length self.old.spec.entities }
+        ensures stopped { OnOk result ((cancel_refusal self.old entity ≡ None) × (self.new ≡ cancelled_device self.old entity)) }
+        ensures refused { IfErr result (λ r. (cancel_refusal self.old entity ≡ Some r) × (self.new ≡ self.old)) }
+    {
+        self.table.cancel(entity)
+    }
+
+    /// Ends the first queued job of a stopped entity, once all that it waits for has ended
+    /// (`drm_sched_entity_kill_jobs_cb`).
+    pub fn reap(&mut self, entity: EntityId) -> Result<FenceId, Refusal>
+        requires there { entity < length self.old.spec.entities }
+        ensures reaped { IfOk result (λ f. (reap_refusal self.old entity ≡ None) × (reap_outcome self.old entity ≡ (answer.Reaped f, self.new))) }
+        ensures refused { IfErr result (λ r. (reap_refusal self.old entity ≡ Some r) × (self.new ≡ self.old)) }
+    {
+        self.table.reap(entity)
+    }
+
+    /// The bytes of the buffer, at this moment.
+    pub fn bytes(&self, buffer: BufferId) -> &[u8]
+        requires { buffer < length self.now.memory }
+        ensures { result.now ≡ bytes_of self.now.memory buffer }
+    {
+        self.table.memory.bytes(buffer)
+    }
+
+    /// The status of the job's finished fence (`dma_fence_get_status`), as `Phase::status` tells it. `None` where no
+    /// job of this number is armed.
+    pub fn status(&self, fence: FenceId) -> Option<i32>
+        ensures { MatchOption result (slice_get self.now.journal fence ≡ None) (λ s. option_map (λ r. status_of r.phase) (slice_get self.now.journal fence) ≡ Some s) }
+    {
+        match self.table.journal.get(fence as usize) {
+            Some(record) => Some(record.phase.status()),
+            None => None,
+        }
+    }
+
+    /// How many jobs were armed: the number that the next one gets.
+    pub fn armed(&self) -> u32
+        ensures { result ≡ length self.now.journal }
+    {
+        self.table.journal.len() as u32
+    }
+
+    /// How many jobs have an outcome.
+    pub fn ended(&self) -> u32
+        ensures { result ≡ length (filter (λ r. has_ended r.phase) self.now.journal) }
+    {
+        self.table
+            .journal
+            .iter()
+            .filter(|record| record.phase.is_ended())
+            .count() as u32
+    }
+
+    /// What is known of the job of this number, where it is armed.
+    pub fn record(&self, fence: FenceId) -> Option<&JobRecord>
+        ensures { MatchOption result (slice_get self.now.journal fence ≡ None) (λ r. slice_get self.now.journal fence ≡ Some r.now) }
+    {
+        self.table.journal.as_slice().get(fence as usize)
+    }
+}

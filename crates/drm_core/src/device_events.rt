@@ -1,0 +1,120 @@
+ghost use Rattle.std.specs.Prelude.{◌≡◌, ◌<◌, length};
+ghost use Rattle.drm_core.specs.declared.event.Event.TheVariants as event;
+ghost use Rattle.drm_core.specs.Step.{reply};
+ghost use Rattle.drm_core.specs.Answers.{picked as picked_answer, stepped as stepped_answer, finished as finished_answer, timed_out as timed_out_answer};
+ghost use Rattle.drm_core.specs.Cores.{core_state, IsCore};
+
+use crate::answer::{Expired, Finished, Picked, Stepped};
+use crate::cores::CoreTable;
+use crate::event::{Answer, Refusal};
+use drm_types::{EntityId, Moment, RingId};
+
+fn picked(picked: Picked) -> Answer
+    ensures { result ≡ picked_answer picked }
+{
+    Answer::Picked {
+        fence: picked.fence,
+        skipped: picked.skipped,
+    }
+}
+
+fn stepped(stepped: Stepped) -> Answer
+    ensures { result ≡ stepped_answer stepped }
+{
+    match stepped {
+        Stepped::Ran { fence, packet } => Answer::Ran { fence, packet },
+        Stepped::Stalled { fence } => Answer::Stalled { fence },
+    }
+}
+
+fn finished(finished: Finished) -> Answer
+    ensures { result ≡ finished_answer finished }
+{
+    Answer::Finished {
+        fence: finished.fence,
+        outcome: finished.outcome,
+    }
+}
+
+fn timed_out(expired: Expired) -> Answer
+    ensures { result ≡ timed_out_answer expired }
+{
+    match expired {
+        Expired::Empty => Answer::Empty,
+        Expired::NotYet { due_in } => Answer::NotYet { due_in },
+        Expired::Complete => Answer::Complete,
+        Expired::Resumed => Answer::Resumed,
+        Expired::Guilty { entity } => Answer::Guilty { entity },
+    }
+}
+
+impl CoreTable {
+    pub(crate) fn pick(&mut self, ring: RingId, now: Moment) -> Answer
+        requires there { ring < length self.old.table.spec.rings }
+        requires core { IsCore self.old }
+        ensures reply { reply (core_state self.old) (event.Pick ring now) ≡ (result, core_state self.new) }
+        ensures core { IsCore self.new }
+    {
+        match self.table.pick(ring, now) {
+            Ok(answer) => picked(answer),
+            Err(refusal) => Answer::Refused(refusal),
+        }
+    }
+
+    pub(crate) fn step(&mut self, ring: RingId) -> Answer
+        requires there { ring < length self.old.table.spec.rings }
+        requires core { IsCore self.old }
+        ensures reply { reply (core_state self.old) (event.Step ring) ≡ (result, core_state self.new) }
+        ensures core { IsCore self.new }
+    {
+        match self.table.step(ring) {
+            Ok(answer) => stepped(answer),
+            Err(refusal) => Answer::Refused(refusal),
+        }
+    }
+
+    pub(crate) fn finish(&mut self, ring: RingId, now: Moment) -> Answer
+        requires there { ring < length self.old.table.spec.rings }
+        requires core { IsCore self.old }
+        ensures reply { reply (core_state self.old) (event.Finish ring now) ≡ (result, core_state self.new) }
+        ensures core { IsCore self.new }
+    {
+        match self.table.finish(ring, now) {
+            Ok(answer) => finished(answer),
+            Err(refusal) => Answer::Refused(refusal),
+        }
+    }
+
+    pub(crate) fn timeout(&mut self, ring: RingId, now: Moment) -> Answer
+        requires there { ring < length self.old.table.spec.rings }
+        requires core { IsCore self.old }
+        ensures reply { reply (core_state self.old) (event.Timeout ring now) ≡ (result, core_state self.new) }
+        ensures core { IsCore self.new }
+    {
+        timed_out(self.table.timeout(ring, now))
+    }
+
+    pub(crate) fn cancel(&mut self, entity: EntityId) -> Answer
+        requires there { entity < length self.old.table.spec.entities }
+        requires core { IsCore self.old }
+        ensures reply { reply (core_state self.old) (event.Cancel entity) ≡ (result, core_state self.new) }
+        ensures core { IsCore self.new }
+    {
+        match self.table.cancel(entity) {
+            Ok(()) => Answer::Ok,
+            Err(refusal) => Answer::Refused(refusal),
+        }
+    }
+
+    pub(crate) fn reap(&mut self, entity: EntityId) -> Answer
+        requires there { entity < length self.old.table.spec.entities }
+        requires core { IsCore self.old }
+        ensures reply { reply (core_state self.old) (event.Reap entity) ≡ (result, core_state self.new) }
+        ensures core { IsCore self.new }
+    {
+        match self.table.reap(entity) {
+            Ok(fence) => Answer::Reaped { fence },
+            Err(refusal) => Answer::Refused(refusal),
+        }
+    }
+}

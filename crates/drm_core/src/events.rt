@@ -1,0 +1,38 @@
+ghost use Rattle.std.specs.Prelude.{IsTrue};
+ghost use Rattle.drm_core.specs.Names.{names_exist as names_exist_in};
+ghost use Rattle.drm_core.specs.Step.{Step};
+ghost use Rattle.drm_core.specs.Cores.{core_state, IsCore};
+
+use crate::cores::CoreTable;
+use crate::event::{Answer, Event};
+use std::alloc::Global;
+
+impl CoreTable {
+    /// One event. It names only what the device has.
+    pub(crate) fn apply(&mut self, alloc: Global, event: Event) -> Answer
+        requires names { IsTrue (names_exist_in self.old.table.spec event) }
+        requires core { IsCore self.old }
+        ensures step { Step (core_state self.old) event result (core_state self.new) }
+        ensures core { IsCore self.new }
+    {
+        match event {
+            Event::Submit { draft } => self.submit(draft),
+            Event::Begin { ctx } => self.begin(ctx),
+            Event::Try { ctx, buffer } => self.try_claim(ctx, buffer),
+            Event::Done { ctx } => self.done(ctx),
+            Event::Drop { ctx, buffer } => self.drop_held(ctx, buffer),
+            Event::End { ctx } => self.end(ctx),
+            Event::Plan { ctx, draft } => self.plan(ctx, draft),
+            Event::Arm { ctx } => self.arm(ctx),
+            Event::Pick { ring, now } => self.pick(ring, now),
+            Event::Step { ring } => self.step(ring),
+            Event::Finish { ring, now } => self.finish(ring, now),
+            Event::Timeout { ring, now } => self.timeout(ring, now),
+            Event::Cancel { entity } => self.cancel(entity),
+            Event::Reap { entity } => self.reap(entity),
+            Event::Read { ctx, buffer } => self.read(alloc, ctx, buffer),
+            Event::Status { fence } => self.status(fence),
+            Event::Dump { buffer } => self.dump(alloc, buffer),
+        }
+    }
+}

@@ -1,0 +1,40 @@
+//! The device and the core over it: one event at a time.
+//!
+//! A `Core` is a device with the reservations of its buffers and the contexts that lock them; a `Device` is the part
+//! below the locks. Contracts see either as its state. Each call promises one step of the definition
+//! (`specs/Step`), and that the state which it leads to is lawful; a list of events on a core just opened leaves it as
+//! promised (`specs/Headline`). No call takes memory but those that may answer that it is refused.
+#![tactic(auto)]
+
+mod answer;
+mod arming;
+mod blank;
+mod choice;
+mod cores;
+mod device;
+mod device_calls;
+mod device_events;
+mod event;
+mod events;
+mod journal;
+mod laws;
+mod locking;
+mod looking;
+mod machine;
+mod names;
+mod planned;
+mod planning;
+mod recovery;
+mod running;
+mod stopping;
+mod submission;
+mod table;
+
+pub use answer::{Expired, Finished, Picked, Stepped};
+pub use device::EntityState;
+pub use device_calls::Device;
+pub use drm_fence::Phase;
+pub use event::{Answer, Event, Refusal};
+pub use journal::JobRecord;
+pub use laws::{every_run_is_lawful, headline};
+pub use machine::{BuildError, Core};

@@ -1,0 +1,99 @@
+ghost use Rattle.std.specs.Prelude.{◌≡◌, ◌⊎◌, ◌<◌, ◌&&◌, not, length, map};
+ghost use Rattle.drm_types.specs.declared.access.Usage.TheVariants as usage;
+ghost use Rattle.drm_types.specs.Usages.{is_as_strong};
+ghost use Rattle.drm_fence.specs.Fences.{has_ended_at};
+ghost use Rattle.drm_buffer.specs.Memory.{bytes_of};
+ghost use Rattle.drm_core.specs.declared.event.Answer.TheVariants as answer;
+ghost use Rattle.drm_core.specs.declared.event.Refusal.TheVariants as refusal;
+ghost use Rattle.drm_core.specs.declared.event.Event.TheVariants as event;
+ghost use Rattle.drm_core.specs.Refusals.{busy_fence};
+ghost use Rattle.drm_core.specs.Step.{reply, Step};
+ghost use Rattle.drm_core.specs.Tables.{fence_of};
+ghost use Rattle.drm_core.specs.Cores.{core_state, IsCore};
+
+use crate::cores::CoreTable;
+use crate::event::{Answer, Refusal};
+use crate::table::Table;
+use drm_fence::Timeline;
+use drm_resv::{Entry, Resv};
+use drm_types::{BufferId, CtxId, FenceId, Sequence, Usage};
+use std::alloc::Global;
+
+// Whether the entry is of WRITE or stronger, and has no outcome.
+fn is_busy(entry: &Entry, fences: &Timeline) -> bool
+    ensures { result ≡ (is_as_strong entry.now.usage usage.Write && not (has_ended_at fences.now.list entry.now.fence)) }
+{
+    entry.usage.is_as_strong_as(Usage::Write) && !fences.has_ended(entry.fence)
+}
+
+impl Table {
+    /// The least fence without an outcome among the reservation's entries of WRITE and stronger: a read of the
+    /// buffer has to wait for it.
+    pub(crate) fn busy_fence(&self, resv: &Resv) -> Option<FenceId>
+        requires { self.now.fences.list ≡ map fence_of self.now.journal.items }
+        ensures { result ≡ busy_fence self.now.journal.items resv.now.kept }
+    {
+        resv.fences()
+            .iter()
+            .filter(|entry| is_busy(entry, &self.fences))
+            .map(|entry| entry.fence)
+            .min()
+    }
+
+    // The bytes of the buffer, copied.
+    fn copy_of(&self, alloc: Global, buffer: BufferId) -> Answer
+        requires { buffer < length self.now.memory }
+        ensures { (result ≡ answer.Bytes (bytes_of self.now.memory buffer)) ⊎ (result ≡ answer.Refused refusal.Memory) }
+    {
+        match Vec::from_slice(alloc, self.memory.bytes(buffer)) {
+            Ok(bytes) => Answer::Bytes {
+                bytes: Sequence::from_vec(bytes),
+            },
+            Err(_) => Answer::Refused(Refusal::Memory),
+        }
+    }
+}
+
+impl CoreTable {
+    /// A copy of the buffer's bytes, for a context that holds it, once the writers have ended.
+    pub(crate) fn read(&self, alloc: Global, ctx: CtxId, buffer: BufferId) -> Answer
+        requires ctx { ctx < 64 }
+        requires buffer { buffer < length self.now.table.spec.buffers }
+        requires core { IsCore self.now }
+        ensures step { Step (core_state self.now) (event.Read ctx buffer) result (core_state self.now) }
+    {
+        if !self.has_begun(ctx) {
+            return Answer::Refused(Refusal::CtxIdle);
+        }
+        if !self.holds(ctx, buffer) {
+            return Answer::Refused(Refusal::NotHeld { buffer });
+        }
+        match self
+            .table
+            .busy_fence(&self.reservations[buffer.number() as usize])
+        {
+            Some(fence) => Answer::Refused(Refusal::Busy { fence }),
+            None => self.table.copy_of(alloc, buffer),
+        }
+    }
+
+    /// The status of a job's fence (`dma_fence_get_status`).
+    pub(crate) fn status(&self, fence: FenceId) -> Answer
+        requires core { IsCore self.now }
+        ensures reply { reply (core_state self.now) (event.Status fence) ≡ (result, core_state self.now) }
+    {
+        match self.table.fences.status(fence) {
+            Ok(status) => Answer::Status { status },
+            Err(_) => Answer::Refused(Refusal::NoFence { fence }),
+        }
+    }
+
+    /// A copy of the buffer's bytes as they are, whoever writes them.
+    pub(crate) fn dump(&self, alloc: Global, buffer: BufferId) -> Answer
+        requires buffer { buffer < length self.now.table.spec.buffers }
+        requires core { IsCore self.now }
+        ensures step { Step (core_state self.now) (event.Dump buffer) result (core_state self.now) }
+    {
+        self.table.copy_of(alloc, buffer)
+    }
+}

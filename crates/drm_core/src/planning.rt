@@ -1,0 +1,126 @@
+ghost use Rattle.std.specs.Prelude.{◌≡◌, ℕ, ◌<◌, ◌≤◌, length, map, Some, None, Option, find, fold, IsTrue, OnOk, slice_get};
+ghost use Rattle.std.specs.Option.{option_map_or, option_and_then};
+ghost use Rattle.std.specs.List.{list_all};
+ghost use Rattle.drm_fence.specs.Fences.{has_ended_at};
+ghost use Rattle.drm_types.specs.declared.access.Usage.{Usage};
+ghost use Rattle.drm_resv.specs.Entries.{added_to};
+ghost use Rattle.drm_core.specs.Reservation.{usage_at};
+ghost use Rattle.drm_core.specs.Planning.{is_held_in, holds_in, all_collected, MoreRoom, HasRoomFor, AreRoomy, HaveUses};
+
+use drm_fence::Timeline;
+use drm_job::Job;
+use drm_resv::{Deps, Resv};
+use drm_types::{Access, BufferId, CtxId, FenceId, adds, wanted};
+use std::alloc::AllocError;
+
+// Whether a context holds the buffer.
+fn is_held(holders: &[Option<CtxId>], buffer: BufferId) -> bool
+    ensures { result ≡ is_held_in holders.now buffer }
+{
+    match holders.get(buffer.number() as usize) {
+        Some(Some(_)) => true,
+        Some(None) => false,
+        None => false,
+    }
+}
+
+// Whether this context holds the buffer.
+fn holds(holders: &[Option<CtxId>], ctx: CtxId, buffer: BufferId) -> bool
+    ensures { result ≡ holds_in holders.now ctx buffer }
+{
+    match holders.get(buffer.number() as usize) {
+        Some(Some(holder)) => *holder == ctx,
+        Some(None) => false,
+        None => false,
+    }
+}
+
+// The first of these buffers that a context holds.
+pub(crate) fn first_held(
+    holders: &[Option<CtxId>],
+    declared: &[(BufferId, Access)],
+) -> Option<BufferId>
+    ensures { result ≡ find (is_held_in holders.now) (map (λ d. d.0) declared.now) }
+{
+    declared
+        .iter()
+        .map(|use_of| use_of.0)
+        .find(|buffer| is_held(holders, *buffer))
+}
+
+// Whether the context holds all these buffers.
+pub(crate) fn holds_all(
+    holders: &[Option<CtxId>],
+    ctx: CtxId,
+    declared: &[(BufferId, Access)],
+) -> bool
+    ensures { result ≡ list_all (holds_in holders.now ctx) (map (λ d. d.0) declared.now) }
+{
+    declared
+        .iter()
+        .map(|use_of| use_of.0)
+        .all(|buffer| holds(holders, ctx, buffer))
+}
+
+// Room for one more use. Where there is room nothing changes.
+fn take_room(resv: &mut Resv) -> Result<(), AllocError>
+    ensures kept { resv.new.kept ≡ resv.old.kept }
+    ensures stays { IsTrue resv.old.has_room → IsTrue resv.new.has_room }
+    ensures room { OnOk result (IsTrue resv.new.has_room) }
+{
+    if resv.has_room() {
+        return Ok(());
+    }
+    resv.reserve()
+}
+
+// Room for one more use of each of these buffers. Where memory is refused some may have more room.
+pub(crate) fn reserve(
+    reservations: &mut [Resv],
+    declared: &[(BufferId, Access)],
+) -> Result<(), AllocError>
+    requires { (k : ℕ) (d : ℕ × Access) → slice_get declared.now k ≡ Some d → d.0 < length reservations.old }
+    ensures more { MoreRoom reservations.old reservations.new }
+    ensures room { OnOk result (HasRoomFor declared.now reservations.new) }
+{
+    for use_of in declared {
+        take_room(&mut reservations[use_of.0.number() as usize])?;
+    }
+    Ok(())
+}
+
+// What the reservations of these buffers ask a new job to wait for.
+pub(crate) fn collect(reservations: &[Resv], declared: &[(BufferId, Access)]) -> Deps
+    requires { (k : ℕ) (d : ℕ × Access) → slice_get declared.now k ≡ Some d → d.0 < length reservations.now }
+    ensures { result ≡ all_collected reservations.now declared.now }
+{
+    let mut deps = Deps::new();
+    for use_of in declared {
+        reservations[use_of.0.number() as usize].collect(wanted(use_of.1), &mut deps);
+    }
+    deps
+}
+
+// The job's use of a buffer, if it uses it, is added to the buffer's reservation.
+fn add_use(resv: &mut Resv, buffer: BufferId, job: &Job, fence: FenceId, timeline: &Timeline)
+    requires room { (usage : Usage) → usage_at buffer job.now ≡ Some usage → IsTrue resv.old.has_room }
+    requires entity { job.now.entity < 64 }
+    ensures used { (usage : Usage) → usage_at buffer job.now ≡ Some usage → resv.new.kept ≡ added_to (has_ended_at timeline.now.list) resv.old.kept (record { fence = fence; entity = job.now.entity; usage = usage }) }
+    ensures unused { usage_at buffer job.now ≡ None → resv.new ≡ resv.old }
+{
+    if let Some(access) = job.access_of(buffer) {
+        resv.add(fence, job.entity(), adds(access), timeline);
+    }
+}
+
+// The uses of a new job are added to the reservations of its buffers.
+pub(crate) fn add_uses(reservations: &mut [Resv], job: &Job, fence: FenceId, timeline: &Timeline)
+    requires room { AreRoomy job.now reservations.old }
+    requires entity { job.now.entity < 64 }
+    requires few { length reservations.old ≤ 64 }
+    ensures { HaveUses (has_ended_at timeline.now.list) fence job.now reservations.old reservations.new }
+{
+    for (place, resv) in reservations.iter_mut().enumerate() {
+        add_use(resv, BufferId::new(place as u32), job, fence, timeline);
+    }
+}

@@ -1,0 +1,147 @@
+ghost use Rattle.std.specs.Prelude.{◌≡◌, ◌<◌, length, map, Some, slice_get, vec_len, vec_capacity};
+ghost use Rattle.std.specs.Option.{option_map_or};
+ghost use Rattle.drm_fence.specs.Phases.{is_scheduled as is_scheduled_phase};
+ghost use Rattle.drm_reset.specs.Blame.{one_more as one_more_of};
+ghost use Rattle.drm_reset.specs.declared.verdict.Verdict.TheVariants.{Hang};
+ghost use Rattle.drm_core.specs.Answers.{timed_out};
+ghost use Rattle.drm_core.specs.Journal.{changed_at};
+ghost use Rattle.drm_core.specs.Outcomes.{condemned, is_kernel as is_kernel_entity, timeout_outcome};
+ghost use Rattle.drm_core.specs.Recovery.{blamed_by, guilty_in, verdict_at};
+ghost use Rattle.drm_core.specs.Ring.{head_of};
+ghost use Rattle.drm_core.specs.Tables.{state_of, IsWhole};
+
+use crate::answer::Expired;
+use crate::device::EntityState;
+use crate::journal::JobRecord;
+use crate::table::{self, Table};
+use drm_fence::Phase;
+use drm_reset::{HeadView, Verdict, judge};
+use drm_types::{EntityId, FenceId, Moment, Priority, RingId};
+
+fn is_scheduled(phase: Phase) -> bool
+    ensures { result ≡ is_scheduled_phase phase }
+{
+    match phase {
+        Phase::Queued => false,
+        Phase::Scheduled => true,
+        Phase::Ended(_) => false,
+    }
+}
+
+// One more, up to the greatest count.
+fn one_more(count: u16) -> u16
+    ensures { result ≡ one_more_of count }
+{
+    if count == 65_535 { count } else { count + 1 }
+}
+
+// Whether the job runs no packet any more, once the entity is guilty on the ring.
+fn is_condemned(record: &JobRecord, ring: RingId, entity: EntityId) -> bool
+    ensures { result ≡ (condemned ring entity record.now).is_skipped }
+{
+    (is_scheduled(record.phase) && record.ring == ring && record.job.entity() == entity)
+        || record.is_skipped
+}
+
+// All pending jobs of the entity on the ring are skipped.
+fn condemn(journal: &mut Vec<JobRecord>, ring: RingId, entity: EntityId)
+    ensures journal { journal.new.items ≡ map (condemned ring entity) journal.old.items }
+    ensures room { vec_capacity journal.new ≡ vec_capacity journal.old }
+{
+    for number in 0..journal.len() {
+        let skipped = is_condemned(&journal[number], ring, entity);
+        journal[number].is_skipped = skipped;
+    }
+}
+
+// The job met one more hang, which counts against its entity unless that is of KERNEL priority. Answers its karma.
+fn blame(journal: &mut Vec<JobRecord>, number: FenceId, kernel: bool) -> u16
+    requires { number < vec_len journal.old }
+    ensures journal { journal.new.items ≡ changed_at journal.old.items number (blamed_by kernel) }
+    ensures karma { result ≡ option_map_or (λ r. (blamed_by kernel r).karma) (slice_get journal.old.items number) 0 }
+    ensures room { vec_capacity journal.new ≡ vec_capacity journal.old }
+{
+    let record = &mut journal[number as usize];
+    record.resets = one_more(record.resets);
+    if !kernel {
+        record.karma = one_more(record.karma);
+    }
+    record.karma
+}
+
+// The entity is guilty from now on.
+fn mark_guilty(entities: &mut Vec<EntityState>, entity: EntityId)
+    requires { entity < vec_len entities.old }
+    ensures { entities.new.items ≡ guilty_in entities.old.items entity }
+{
+    entities[entity as usize].is_guilty = true;
+}
+
+impl Table {
+    /// Whether the entity's priority is KERNEL.
+    fn is_kernel(&self, entity: EntityId) -> bool
+        ensures { result ≡ is_kernel_entity (state_of self.now) entity }
+    {
+        match self.spec.entities.as_slice().get(entity as usize) {
+            Some(spec) => spec.priority == Priority::Kernel,
+            None => false,
+        }
+    }
+
+    /// What a timeout finds of this job as the head of the ring.
+    fn judge_head(&self, ring: RingId, number: FenceId, now: Moment) -> Verdict
+        requires spec { ring < length self.now.spec.rings }
+        requires there { ring < length self.now.rings.items }
+        requires job { number < length self.now.journal.items }
+        ensures { result ≡ verdict_at (state_of self.now) ring number now }
+    {
+        let head = HeadView {
+            since: self.rings[ring as usize].since,
+            is_complete: table::is_complete(&self.journal[number as usize]),
+        };
+        judge(Some(head), self.ring_spec(ring).timeout, now)
+    }
+
+    /// Blames the head of the ring for a hang (`drm_sched_increase_karma`). With more karma than the ring allows, its
+    /// entity is guilty.
+    fn hang(&mut self, ring: RingId, number: FenceId, now: Moment) -> Expired
+        requires there { ring < length self.old.spec.rings }
+        requires whole { IsWhole self.old }
+        requires head { head_of (state_of self.old) ring ≡ Some number }
+        requires hangs { verdict_at (state_of self.old) ring number now ≡ Hang }
+        ensures expired { timeout_outcome (state_of self.old) ring now ≡ (timed_out result, state_of self.new) }
+        ensures whole { IsWhole self.new }
+    {
+        let entity = self.journal[number as usize].job.entity();
+        let kernel = self.is_kernel(entity);
+        let karma = blame(&mut self.journal, number, kernel);
+        self.rings[ring as usize].since = now;
+        if karma as u32 <= self.ring_spec(ring).hang_limit {
+            return Expired::Resumed;
+        }
+        condemn(&mut self.journal, ring, entity);
+        mark_guilty(&mut self.entities, entity);
+        Expired::Guilty { entity }
+    }
+
+    /// Looks at the head of the ring after a time (`drm_sched_job_timedout`). A head that hangs goes on at its next
+    /// packet.
+    pub(crate) fn timeout(&mut self, ring: RingId, now: Moment) -> Expired
+        requires there { ring < length self.old.spec.rings }
+        requires whole { IsWhole self.old }
+        ensures expired { timeout_outcome (state_of self.old) ring now ≡ (timed_out result, state_of self.new) }
+        ensures whole { IsWhole self.new }
+    {
+        let Some(number) = self.head(ring) else {
+            return Expired::Empty;
+        };
+        match self.judge_head(ring, number, now) {
+            Verdict::Empty => Expired::Empty,
+            Verdict::NotYet(due_in) => Expired::NotYet {
+                due_in: due_in as u64,
+            },
+            Verdict::Complete => Expired::Complete,
+            Verdict::Hang => self.hang(ring, number, now),
+        }
+    }
+}

@@ -1,0 +1,114 @@
+ghost use Rattle.std.specs.Prelude.{◌≡◌, ◌<◌, ◌||◌, ◌==◌, not, length, OnOk, IfOk, IfErr, Some, None, true, vec_len};
+ghost use Rattle.std.specs.List.{list_all};
+ghost use Rattle.drm_fence.specs.Phases.{has_ended};
+ghost use Rattle.drm_core.specs.declared.event.Answer.TheVariants as answer;
+ghost use Rattle.drm_core.specs.Journal.{is_at};
+ghost use Rattle.drm_core.specs.Ring.{is_stopped, entity_changed};
+ghost use Rattle.drm_core.specs.Outcomes.{cancelled_device, reap_outcome};
+ghost use Rattle.drm_core.specs.Refusals.{cancel_refusal, reap_refusal};
+ghost use Rattle.drm_core.specs.Stopping.{may_end_after};
+ghost use Rattle.drm_core.specs.Tables.{state_of, IsWhole};
+
+use crate::device::EntityState;
+use crate::event::Refusal;
+use crate::journal::JobRecord;
+use crate::table::Table;
+use crate::{choice, running};
+use drm_resv::Deps;
+use drm_types::{EntityId, FenceId, Outcome};
+
+// The entity takes no jobs any more.
+fn stop(entities: &mut Vec<EntityState>, entity: EntityId)
+    requires { entity < vec_len entities.old }
+    ensures { entities.new.items ≡ entity_changed entities.old.items entity (λ e. record e { is_stopped = true }) }
+{
+    entities[entity as usize].is_stopped = true;
+}
+
+// Whether the job is there and has its outcome.
+fn has_outcome(journal: &[JobRecord], fence: FenceId) -> bool
+    ensures { result ≡ is_at journal.now fence (λ r. has_ended r.phase) }
+{
+    match journal.get(fence as usize) {
+        Some(record) => record.phase.is_ended(),
+        None => false,
+    }
+}
+
+// Whether all these dependencies have outcomes.
+fn have_outcomes(journal: &[JobRecord], deps: &Deps) -> bool
+    ensures { result ≡ list_all (λ d. is_at journal.now d.1 (λ r. has_ended r.phase)) deps.now }
+{
+    deps.as_slice()
+        .iter()
+        .all(|dep| has_outcome(journal, dep.1))
+}
+
+// Whether all these jobs have outcomes, as far as they are of the entity.
+fn jobs_have_outcomes(records: &[JobRecord], entity: EntityId) -> bool
+    ensures { result ≡ list_all (λ r. not (r.job.entity == entity) || has_ended r.phase) records.now }
+{
+    records.iter().all(|record| record.job.entity() != entity || record.phase.is_ended())
+}
+
+// Whether the jobs that this one waits for, and the earlier ones of its entity, all have outcomes.
+fn may_end(journal: &[JobRecord], deps: &Deps, number: FenceId, entity: EntityId) -> bool
+    requires { number < length journal.now }
+    ensures { result ≡ may_end_after journal.now deps.now number entity }
+{
+    have_outcomes(journal, deps) && jobs_have_outcomes(&journal[..number as usize], entity)
+}
+
+impl Table {
+    /// Whether the entity takes no jobs any more.
+    pub(crate) fn is_stopped(&self, entity: EntityId) -> bool
+        ensures { result ≡ is_stopped (state_of self.now) entity }
+    {
+        match self.entities.get(entity as usize) {
+            Some(state) => state.is_stopped,
+            None => false,
+        }
+    }
+
+    /// Stops the entity (`drm_sched_entity_kill`). Its queued jobs stay, and end one after another as they are reaped.
+    pub(crate) fn cancel(&mut self, entity: EntityId) -> Result<(), Refusal>
+        requires there { entity < length self.old.spec.entities }
+        requires whole { IsWhole self.old }
+        ensures stopped { OnOk result ((cancel_refusal (state_of self.old) entity ≡ None) × (state_of self.new ≡ cancelled_device (state_of self.old) entity)) }
+        ensures refused { IfErr result (λ r. (cancel_refusal (state_of self.old) entity ≡ Some r) × (self.new ≡ self.old)) }
+        ensures whole { IsWhole self.new }
+    {
+        if self.is_stopped(entity) {
+            return Err(Refusal::AlreadyStopped);
+        }
+        stop(&mut self.entities, entity);
+        Ok(())
+    }
+
+    /// Ends the first queued job of a stopped entity, once all that it waits for has ended
+    /// (`drm_sched_entity_kill_jobs_cb`).
+    pub(crate) fn reap(&mut self, entity: EntityId) -> Result<FenceId, Refusal>
+        requires there { entity < length self.old.spec.entities }
+        requires whole { IsWhole self.old }
+        ensures reaped { IfOk result (λ f. (reap_refusal (state_of self.old) entity ≡ None) × (reap_outcome (state_of self.old) entity ≡ (answer.Reaped f, state_of self.new))) }
+        ensures refused { IfErr result (λ r. (reap_refusal (state_of self.old) entity ≡ Some r) × (self.new ≡ self.old)) }
+        ensures whole { IsWhole self.new }
+    {
+        if !self.is_stopped(entity) {
+            return Err(Refusal::Nothing);
+        }
+        let Some(number) = choice::head_of_queue(&self.journal, entity) else {
+            return Err(Refusal::Nothing);
+        };
+        if !may_end(&self.journal, &self.waits[number as usize], number, entity) {
+            return Err(Refusal::Waits);
+        }
+        running::end_job(
+            &mut self.journal,
+            &mut self.fences,
+            number,
+            Outcome::Stopped,
+        );
+        Ok(number)
+    }
+}

@@ -1,0 +1,4 @@
+pub mod Walks
+pub mod Changed
+pub mod Room
+pub mod Seen

@@ -1,0 +1,4 @@
+pub mod Phases
+pub mod Fences
+pub mod Waiting
+pub mod Cells

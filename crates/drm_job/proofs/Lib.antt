@@ -1,0 +1,7 @@
+pub mod Apart
+pub mod Within
+pub mod InRange
+pub mod Repeats
+pub mod NoFault
+pub mod Distinct
+pub mod Sound

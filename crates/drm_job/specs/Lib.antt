@@ -1,0 +1,6 @@
+pub mod Uses
+pub mod Conflicts
+pub mod Fault
+pub mod Ranges
+pub mod Sound
+pub mod Laws

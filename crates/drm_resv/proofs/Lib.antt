@@ -1,0 +1,3 @@
+pub mod NotedIs
+pub mod AddedIs
+pub mod ActiveIs

@@ -1,0 +1,5 @@
+pub mod Reservation
+pub mod Entries
+pub mod Latest
+pub mod Noting
+pub mod Active

@@ -1,0 +1,159 @@
+ghost use Rattle.std.specs.Prelude.{◌≡◌, ℕ, ◌<◌, ◌≤◌, IsTrue, IsFalse, [], length, OnOk, slice_get, Some, cond, not, ◌&&◌};
+ghost use Rattle.drm_resv.specs.Entries.{added_to, entries_of, replaces};
+ghost use Rattle.drm_resv.specs.Noting.{all_noted};
+ghost use Rattle.drm_resv.specs.Active.{least_active as least_active_of, lesser};
+ghost use Rattle.drm_types.specs.Usages.{is_as_strong};
+ghost use Rattle.drm_resv.specs.declared.entry.Entry.{Entry};
+ghost use Rattle.drm_fence.specs.Fences.{has_ended_at};
+
+use crate::deps::Deps;
+use crate::entry::Entry;
+use drm_fence::Timeline;
+use drm_types::{EntityId, FenceId, Usage};
+use std::alloc::{AllocError, Global};
+use std::marker::Model;
+
+/// The reservation of one buffer (`struct dma_resv`): the fences to wait for, and every use that there ever was.
+///
+/// Contracts see it as what is kept and whether there is room for one more use. Room says nothing of what is kept:
+/// callers compare `kept` alone.
+#[derive(Drop)]
+pub struct Resv {
+    entries: Vec<Entry>,
+    history: Vec<(FenceId, Usage)>,
+}
+
+impl Model for Resv {
+    ghost use Rattle.std.specs.Prelude.{◌&&◌, ◌<◌, nat_lt, vec_len, vec_capacity, All};
+    ghost use Rattle.drm_resv.specs.Reservation.{WithRoom};
+
+    ghost Value = { WithRoom };
+
+    ghost view = { λ r. record { kept = record { entries = r.entries.items; history = r.history.items }; has_room = nat_lt (vec_len r.entries) (vec_capacity r.entries) && nat_lt (vec_len r.history) (vec_capacity r.history) } };
+
+    ghost invariant = { λ r. All (λ e. e.entity < 64) r.entries.items };
+}
+
+impl Resv {
+    /// The reservation of a buffer that nobody has used. It takes no memory yet.
+    pub fn new(alloc: Global) -> Resv
+        ensures { result.kept ≡ record { entries = []; history = [] } }
+    {
+        Resv {
+            entries: Vec::new(alloc),
+            history: Vec::new(alloc),
+        }
+    }
+
+    /// The entries to wait for (`dma_resv_for_each_fence`).
+    pub fn fences(&self) -> &[Entry]
+        ensures { result.now ≡ self.now.kept.entries }
+    {
+        &self.entries
+    }
+
+    /// Each fence that was ever added, with its usage, in order. It is never cut.
+    pub fn history(&self) -> &[(FenceId, Usage)]
+        ensures { result.now ≡ self.now.kept.history }
+    {
+        &self.history
+    }
+
+    /// Whether there is room for one use more.
+    pub fn has_room(&self) -> bool
+        ensures { result ≡ self.now.has_room }
+    {
+        self.entries.len() < self.entries.capacity() && self.history.len() < self.history.capacity()
+    }
+
+    /// Takes room for one use more (`dma_resv_reserve_fences`). Where memory is refused, nothing but the room may
+    /// have changed. It takes no memory where there is room.
+    pub fn reserve(&mut self) -> Result<(), AllocError>
+        ensures kept { self.new.kept ≡ self.old.kept }
+        ensures ok { OnOk result (IsTrue self.new.has_room) }
+        ensures room { IsTrue self.old.has_room → OnOk result (IsTrue self.new.has_room) }
+    {
+        self.entries.reserve(1)?;
+        self.history.reserve(1)?;
+        Ok(())
+    }
+
+    /// Notes the fences of the usage and of all stronger ones (`drm_sched_job_add_resv_dependencies`), ended ones too.
+    pub fn collect(&self, usage: Usage, deps: &mut Deps)
+        ensures { deps.new ≡ all_noted deps.old (entries_of usage self.now.kept.entries) }
+    {
+        for entry in &self.entries {
+            if entry.usage.is_as_strong_as(usage) {
+                deps.note(entry.entity, entry.fence);
+            }
+        }
+    }
+
+    /// The least fence of the usage and of all stronger ones that has no outcome, if there is one: whom a reader of
+    /// the buffer still waits for (`dma_resv_test_signaled`).
+    pub fn least_active(&self, usage: Usage, timeline: &Timeline) -> Option<FenceId>
+        ensures { result ≡ least_active_of (has_ended_at timeline.now.list) usage self.now.kept.entries }
+    {
+        let mut found = None;
+        for entry in &self.entries {
+            found = with_entry(found, entry, usage, timeline);
+        }
+        found
+    }
+
+    /// Adds the fence of a new use (`dma_resv_add_fence`), for which there is room. It replaces the first entry that
+    /// it may replace, as `Entry::replaces` says, and else comes last; the history gains it in any case. Outcomes are
+    /// those of the timeline, which need not have the new fence yet.
+    pub fn add(&mut self, fence: FenceId, entity: EntityId, usage: Usage, timeline: &Timeline)
+        requires room { IsTrue self.old.has_room }
+        requires entity { entity < 64 }
+        ensures { self.new.kept ≡ added_to (has_ended_at timeline.now.list) self.old.kept (record { fence = fence; entity = entity; usage = usage }) }
+    {
+        let new = Entry {
+            fence,
+            entity,
+            usage,
+        };
+        self.history.push_reserved((fence, usage));
+        let place = place_for(&self.entries, &new, timeline);
+        if place < self.entries.len() {
+            self.entries[place] = new;
+        } else {
+            self.entries.push_reserved(new);
+        }
+    }
+}
+
+// The lesser of a fence that was found and that of the entry, if it is of the usage or stronger and has no outcome.
+fn with_entry(
+    found: Option<FenceId>,
+    entry: &Entry,
+    usage: Usage,
+    timeline: &Timeline,
+) -> Option<FenceId>
+    ensures { result ≡ cond (is_as_strong entry.now.usage usage && not (has_ended_at timeline.now.list entry.now.fence)) (lesser found entry.now.fence) found }
+{
+    if !entry.usage.is_as_strong_as(usage) || timeline.has_ended(entry.fence) {
+        return found;
+    }
+    match found {
+        Some(other) => Some(other.min(entry.fence)),
+        None => Some(entry.fence),
+    }
+}
+
+// The place of the first entry that the new one may replace, or the end.
+fn place_for(entries: &[Entry], new: &Entry, timeline: &Timeline) -> usize
+    ensures before { (k : ℕ) (e : Entry) → k < result → slice_get entries.now k ≡ Some e → IsFalse (replaces (has_ended_at timeline.now.list) new.now e) }
+    ensures here { (e : Entry) → slice_get entries.now result ≡ Some e → IsTrue (replaces (has_ended_at timeline.now.list) new.now e) }
+    ensures within { result ≤ length entries.now }
+{
+    let mut place = 0;
+    while place < entries.len() {
+        if new.replaces(&entries[place], timeline) {
+            return place;
+        }
+        place += 1;
+    }
+    place
+}

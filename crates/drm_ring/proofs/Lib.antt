@@ -1,0 +1,2 @@
+pub mod PassedIs
+pub mod RowsAre

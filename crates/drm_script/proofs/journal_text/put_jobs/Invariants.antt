@@ -1,0 +1,7 @@
+use Rattle.std.proofs.Common.{◌≡◌, ◌++◌, drop}
+use Rattle.std.specs.Prelude.{flat_map}
+use Rattle.drm_script.specs.JournalText.{line_of_job}
+use Rattle.drm_script.proofs.journal_text.put_jobs.Given as goal
+
+abbrev pub invariant-loop-armed : goal.invariant-loop-armed
+invariant-loop-armed l = l.out.items ++ flat_map line_of_job (drop l.armed-index l.jobs) ≡ l.fn.out.items ++ flat_map line_of_job l.jobs

@@ -1,0 +1,11 @@
+use Rattle.std.proofs.Common.{◌≡◌, [], length}
+use Rattle.drm_script.specs.Commands.{AllNamesExist, events_of}
+use Rattle.drm_script.proofs.script.read_events.Given as goal
+
+abbrev pub invariant-loop-bytes : goal.invariant-loop-bytes
+invariant-loop-bytes l =
+    (events_of l.spec l.events l.lines.line l.lines.bytes l.lines.more ≡ events_of l.spec [] l.fn.lines.line l.fn.lines.bytes l.fn.lines.more)
+    × (l.line ≡ l.lines.line) × AllNamesExist l.spec l.events
+
+abbrev pub decreases-loop-bytes : goal.decreases-loop-bytes
+decreases-loop-bytes l = length l.lines.more

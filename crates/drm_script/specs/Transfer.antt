@@ -1,0 +1,30 @@
+-- What is read from a reader, and what is written to a writer.
+use Rattle.std.specs.Prelude.{◌≡◌, ℕ, List, Option, Result, Ok, Err, IfSome, take}
+use Rattle.std.specs.Io.KnownBytes.{Appends}
+use Rattle.drm_text.specs.declared.fault.Fault.{Fault}
+use Rattle.drm_text.specs.declared.fault.ReadError.{ReadError}
+use Rattle.drm_text.specs.declared.fault.ReadError.TheVariants as reading
+use Rattle.drm_script.specs.declared.input.InputError.{InputError}
+use Rattle.drm_script.specs.declared.input.InputError.TheVariants as input
+
+-- where the reader tells its bytes, they spell this, or have this first fault
+abbrev pub IsReadOf : {X : Type 0} → (List ℕ → Result X Fault) → Option (List ℕ) → Result X InputError → Type 0
+IsReadOf judge known (Ok x) = IfSome known (λ text. judge text ≡ Ok x)
+IsReadOf judge known (Err (input.Fault fault)) = IfSome known (λ text. judge text ≡ Err fault)
+IsReadOf judge known (Err input.Memory) = Unit {0}
+IsReadOf judge known (Err input.Failed) = Unit {0}
+
+-- an error that says nothing of the text
+abbrev pub IsNoFault : InputError → Type 0
+IsNoFault (input.Fault fault) = ⊥
+IsNoFault input.Memory = Unit {0}
+IsNoFault input.Failed = Unit {0}
+
+-- the same error
+abbrev pub input_error_of : ReadError → InputError
+input_error_of reading.Memory = input.Memory
+input_error_of (reading.Fault fault) = input.Fault fault
+
+-- known bytes grow by a front of these
+abbrev pub AppendsFront : Option (List ℕ) → Option (List ℕ) → List ℕ → Type 0
+AppendsFront old new bytes = (n : ℕ) × Appends old new (take n bytes)

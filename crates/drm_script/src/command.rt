@@ -1,0 +1,133 @@
+//! Command lines: the events of a script.
+
+ghost use Rattle.std.specs.Prelude.{◌≡◌, ◌<◌, ◌≤◌, length, IfOk, IsTrue};
+ghost use Rattle.drm_core.specs.Names.{names_exist};
+ghost use Rattle.drm_text.specs.Reading.{Reads, Gives};
+ghost use Rattle.drm_script.specs.Commands.{context_and_buffer_at, ring_and_moment_at, command_of, event_at, event_line};
+
+use crate::job::read_job;
+use drm_core::Event;
+use drm_text::{Command, Fault, Keyword, ReadError, Words, order_fault, read_start};
+use drm_types::{BufferId, CtxId, DeviceSpec, Moment, RingId};
+use std::alloc::Global;
+
+/// How many contexts a core has.
+const CONTEXTS: usize = 64;
+
+#[tactic(auto, unfolding(crate::specs::Commands::context_and_buffer_at))]
+fn read_context_and_buffer(spec: &DeviceSpec, words: &mut Words) -> Result<(CtxId, BufferId), Fault>
+    ensures value { Reads (λ names. names) result (context_and_buffer_at spec.now words.old) }
+    ensures exist { IfOk result (λ names. (names.0 < 64) × (names.1 < length spec.now.buffers)) }
+{
+    let ctx = words.name(CONTEXTS)?;
+    let buffer = words.last_name(spec.buffers.len())?;
+    Ok((ctx, BufferId::new(buffer)))
+}
+
+#[tactic(auto, unfolding(crate::specs::Commands::ring_and_moment_at))]
+fn read_ring_and_moment(spec: &DeviceSpec, words: &mut Words) -> Result<(RingId, Moment), Fault>
+    ensures value { Reads (λ names. names) result (ring_and_moment_at spec.now words.old) }
+    ensures exist { IfOk result (λ names. names.0 < length spec.now.rings) }
+{
+    let ring = words.name(spec.rings.len())?;
+    let now = words.last_number(u64::MAX)?;
+    Ok((ring, now))
+}
+
+#[tactic(auto, unfolding(crate::specs::Commands::event_at))]
+fn read_event(
+    alloc: Global,
+    spec: &DeviceSpec,
+    command: Command,
+    words: &mut Words,
+) -> Result<Event, ReadError>
+    ensures value { Gives (λ event. event) result (event_at spec.now command words.old) }
+    ensures exist { IfOk result (λ event. IsTrue (names_exist spec.now event)) }
+{
+    match command {
+        Command::Submit => Ok(Event::Submit {
+            draft: read_job(alloc, words)?,
+        }),
+        Command::Begin => Ok(Event::Begin {
+            ctx: words.last_name(CONTEXTS)?,
+        }),
+        Command::Try => {
+            let (ctx, buffer) = read_context_and_buffer(spec, words)?;
+            Ok(Event::Try { ctx, buffer })
+        }
+        Command::Done => Ok(Event::Done {
+            ctx: words.last_name(CONTEXTS)?,
+        }),
+        Command::Drop => {
+            let (ctx, buffer) = read_context_and_buffer(spec, words)?;
+            Ok(Event::Drop { ctx, buffer })
+        }
+        Command::End => Ok(Event::End {
+            ctx: words.last_name(CONTEXTS)?,
+        }),
+        Command::Plan => Ok(Event::Plan {
+            ctx: words.name(CONTEXTS)?,
+            draft: read_job(alloc, words)?,
+        }),
+        Command::Arm => Ok(Event::Arm {
+            ctx: words.last_name(CONTEXTS)?,
+        }),
+        Command::Pick => {
+            let (ring, now) = read_ring_and_moment(spec, words)?;
+            Ok(Event::Pick { ring, now })
+        }
+        Command::Step => Ok(Event::Step {
+            ring: words.last_name(spec.rings.len())?,
+        }),
+        Command::Finish => {
+            let (ring, now) = read_ring_and_moment(spec, words)?;
+            Ok(Event::Finish { ring, now })
+        }
+        Command::Timeout => {
+            let (ring, now) = read_ring_and_moment(spec, words)?;
+            Ok(Event::Timeout { ring, now })
+        }
+        Command::Cancel => Ok(Event::Cancel {
+            entity: words.last_name(spec.entities.len())?,
+        }),
+        Command::Reap => Ok(Event::Reap {
+            entity: words.last_name(spec.entities.len())?,
+        }),
+        Command::Read => {
+            let (ctx, buffer) = read_context_and_buffer(spec, words)?;
+            Ok(Event::Read { ctx, buffer })
+        }
+        Command::Fence => Ok(Event::Status {
+            fence: words.last_number(u64::from(u32::MAX))? as u32,
+        }),
+        Command::Dump => Ok(Event::Dump {
+            buffer: BufferId::new(words.last_name(spec.buffers.len())?),
+        }),
+    }
+}
+
+fn find_command(keyword: Keyword) -> Option<Command>
+    ensures { result ≡ command_of keyword }
+{
+    match keyword {
+        Keyword::Command(command) => Some(command),
+        _ => None,
+    }
+}
+
+/// The event of a line.
+#[tactic(auto, unfolding(crate::specs::Commands::event_line))]
+pub fn read_event_line(
+    alloc: Global,
+    spec: &DeviceSpec,
+    line: u32,
+    bytes: &[u8],
+) -> Result<Event, ReadError>
+    requires { length bytes.now ≤ 1048576 }
+    ensures value { Gives (λ event. event) result (event_line spec.now line bytes.now) }
+    ensures exist { IfOk result (λ event. IsTrue (names_exist spec.now event)) }
+{
+    let (keyword, mut words) = read_start(line, bytes)?;
+    let command = find_command(keyword).ok_or(order_fault(line))?;
+    read_event(alloc, spec, command, &mut words)
+}

@@ -1,0 +1,66 @@
+//! Scripts: a header, and a command on each further line.
+
+ghost use Rattle.std.specs.Prelude.{◌≡◌, ◌≤◌, [], None, length, IfOk};
+ghost use Rattle.drm_types.specs.Limits.{spec_fault};
+ghost use Rattle.drm_text.specs.Reading.{Gives};
+ghost use Rattle.drm_script.specs.Commands.{AllNamesExist, events_of};
+ghost use Rattle.drm_script.specs.Script.{script_of, judge_script};
+
+use crate::command::read_event_line;
+use crate::header::read_header;
+use drm_core::Event;
+use drm_text::{Fault, Lines, MAX_TEXT, ReadError, TextFault};
+use drm_types::{DeviceSpec, Sequence};
+use std::alloc::Global;
+
+/// What a script spells.
+#[derive(Drop)]
+pub struct Script {
+    /// The device that the header describes.
+    pub spec: DeviceSpec,
+    /// The events of the command lines, in their order.
+    pub lines: Sequence<Event>,
+}
+
+/// The events of the lines that are left.
+#[tactic(auto, unfolding(crate::specs::Commands::events_of))]
+fn read_events(
+    alloc: Global,
+    spec: &DeviceSpec,
+    lines: &mut Lines,
+) -> Result<Sequence<Event>, ReadError>
+    ensures value { Gives (λ events. events) result (events_of spec.now [] lines.old.line lines.old.bytes lines.old.more) }
+    ensures exist { IfOk result (λ events. AllNamesExist spec.now events) }
+{
+    let mut events = Sequence::new(alloc);
+    let mut line = lines.number();
+    while let Some(bytes) = lines.next() {
+        events.push(read_event_line(alloc, spec, line, bytes)?)?;
+        line = lines.number();
+    }
+    lines.end()?;
+    Ok(events)
+}
+
+/// The script that the text spells.
+#[tactic(auto, unfolding(crate::specs::Script::judge_script))]
+pub fn read_script(alloc: Global, text: &[u8]) -> Result<Script, ReadError>
+    ensures value { Gives (λ script. script) result (judge_script text.now) }
+    ensures fits { IfOk result (λ script. spec_fault script.spec ≡ None) }
+    ensures exist { IfOk result (λ script. AllNamesExist script.spec script.lines) }
+{
+    if text.len() > MAX_TEXT {
+        return Err(ReadError::Fault(Fault::Text {
+            line: 0,
+            column: 0,
+            what: TextFault::TooLong,
+        }));
+    }
+    let mut lines = Lines::new(text);
+    let spec = read_header(alloc, &mut lines)?;
+    let events = read_events(alloc, &spec, &mut lines)?;
+    Ok(Script {
+        spec,
+        lines: events,
+    })
+}

@@ -1,0 +1,75 @@
+ghost use Rattle.std.specs.Prelude.{◌≡◌, All, IsTrue, IfOk};
+ghost use Rattle.drm_packet.specs.Touches.{is_in_range};
+ghost use Rattle.drm_job.specs.Ranges.{RunsIn};
+ghost use Rattle.drm_serial.specs.Serial.{serial, after_turn, after_packets};
+ghost use Rattle.drm_buffer.specs.Memory.{sizes_of};
+
+use drm_buffer::Memory;
+use drm_job::Job;
+use drm_packet::Packet;
+use drm_types::Sequence;
+use std::alloc::{AllocError, Global};
+use std::marker::Model;
+
+/// A job with the number of its packets that have run. A number above its packets counts as all of them.
+#[derive(Drop)]
+pub struct Turn<'a> {
+    pub job: &'a Job,
+    pub ran: u32,
+}
+
+impl<'a> Model for Turn<'a> {
+    ghost use Rattle.drm_serial.specs.Serial.{Turn};
+
+    ghost Value = { Turn };
+
+    ghost view = { λ t. record { job = t.job.now; ran = t.ran } };
+}
+
+/// The machine that runs jobs one after another.
+#[derive(Drop)]
+pub struct Serial {
+    memory: Memory,
+}
+
+impl Serial {
+    /// Runs the turns in the order of the list on copies of these buffers, and gives the buffers.
+    pub fn run(
+        alloc: Global,
+        initial: &Sequence<Sequence<u8>>,
+        turns: &[Turn],
+    ) -> Result<Sequence<Sequence<u8>>, AllocError>
+        requires { All (λ turn. RunsIn initial.now turn.job) turns.now }
+        ensures { IfOk result (λ buffers. buffers ≡ serial initial.now turns.now) }
+    {
+        let mut machine = Serial {
+            memory: Memory::copy_of(alloc, initial)?,
+        };
+        for turn in turns {
+            machine.take(turn);
+        }
+        Ok(machine.memory.into_buffers())
+    }
+
+    // Runs the first packets of the turn's job.
+    fn take(&mut self, turn: &Turn)
+        requires { RunsIn self.old.memory turn.now.job }
+        ensures turn { self.new.memory ≡ after_turn self.old.memory turn.now }
+        ensures sizes { sizes_of self.new.memory ≡ sizes_of self.old.memory }
+    {
+        let packets = turn.job.packets();
+        let ran = packets.len().min(turn.ran as usize);
+        run_each(&packets[..ran], &mut self.memory);
+    }
+}
+
+// Runs the packets one after another.
+fn run_each(packets: &[Packet], memory: &mut Memory)
+    requires { All (λ packet. IsTrue (is_in_range packet memory.old)) packets.now }
+    ensures ran { memory.new ≡ after_packets memory.old packets.now }
+    ensures sizes { sizes_of memory.new ≡ sizes_of memory.old }
+{
+    for packet in packets {
+        packet.run(memory);
+    }
+}

@@ -1,0 +1,57 @@
+-- The first part of a cut text.
+use Rattle.std.proofs.Common.{◌≡◌, ℕ, ◌+◌, ◌<◌, ◌≤◌, ◌==◌, Bool, true, false, List, [], ◌∷◌, length, take, drop, Option, Some, None, refl, sym, ap, ◌∙◌, arith, ◌-◌, inl, inr, le-leb}
+use Rattle.std.specs.Prelude.{unwrap_or}
+use Rattle.std.specs.List.{position_or_len, slice_split, All}
+use Rattle.std.proofs.lemmas.Bool.{cases_lt, lt-leb}
+use Rattle.std.proofs.lemmas.List.{drop-drop, length-drop, length-take-le}
+use Rattle.std.proofs.Math.Seq.{take-length}
+use Rattle.std.proofs.lemmas.List.Sums.{position_or_len_is, fails_before_first, prefix_len-le-length}
+use Rattle.std.proofs.lemmas.List.Elements.{All-from_get_or}
+use Rattle.std.proofs.lemmas.List.Splits.{slice_split_first, slice_split_none}
+use Rattle.memchr.specs.Find.{IsFirstByte, is_byte}
+use Rattle.drm_text.specs.Cut.{cut_from}
+
+pub is_false : (b : Bool) → ((b ≡ true) → ⊥) → b ≡ false
+is_false true h = absurd (h refl)
+is_false false h = refl
+
+-- the first place that a search found, or the length
+pub first_byte_is : (separator : ℕ) (bytes : List ℕ) (r : Option ℕ) → IsFirstByte (is_byte separator) bytes r → unwrap_or r (length bytes) ≡ position_or_len (λ b. b == separator) bytes
+first_byte_is separator bytes None nowhere =
+    sym (position_or_len_is (λ b. b == separator) bytes (length bytes) 0 (omega arith) (λ k lt. is_false _ (nowhere k (omega arith) lt)) (λ lt. absurd (omega arith)))
+first_byte_is separator bytes (Some i) found =
+    sym (position_or_len_is (λ b. b == separator) bytes i 0 (omega (arith, found.0.high)) (λ k lt. is_false _ (found.0.before k (omega arith) lt)) (λ lt. found.1))
+
+none_passes : (p : ℕ → Bool) (xs : List ℕ) → position_or_len p xs ≡ length xs → All (λ x. p x ≡ false) xs
+none_passes p xs is = All-from_get_or (λ x. p x ≡ false) xs 0 (λ i lt. fails_before_first p xs i 0 (omega arith))
+
+use_none : (separator : ℕ) (bytes : List ℕ) (past : ℕ) → length bytes < past → (cut_from separator bytes past).parts ≡ []
+use_none separator bytes past lt = rw (lt-leb past (length bytes) lt)
+
+pub first_part : (separator : ℕ) (bytes : List ℕ) (at : ℕ) → at ≤ length bytes
+    → (cut_from separator bytes at).parts ≡ take (position_or_len (λ b. b == separator) (drop at bytes)) (drop at bytes) ∷ (cut_from separator bytes (at + (position_or_len (λ b. b == separator) (drop at bytes) + 1))).parts
+first_part separator bytes at le =
+    let p = λ (b : ℕ). b == separator in
+    let rest = drop at bytes in
+    let n = position_or_len p rest in
+    let n_le : n ≤ length rest = prefix_len-le-length _ rest in
+    let len : length rest ≡ length bytes - at = length-drop at bytes in
+    let here : (cut_from separator bytes at).parts ≡ slice_split p rest = rw (le-leb at (length bytes) le) in
+    elim (cases_lt n (length rest)) [
+      | inl lt ↦
+          let next : (cut_from separator bytes (at + (n + 1))).parts ≡ slice_split p (drop (n + 1) rest) = rw (le-leb (at + (n + 1)) (length bytes) (omega arith), drop-drop (n + 1) at bytes) in
+          here ∙ slice_split_first p rest 0 lt ∙ ap (λ (k : List (List ℕ)). take n rest ∷ k) (sym next)
+      | inr ge ↦
+          let is : n ≡ length rest = omega arith in
+          let next : (cut_from separator bytes (at + (n + 1))).parts ≡ [] = use_none separator bytes (at + (n + 1)) (omega arith) in
+          let all : take n rest ≡ rest = ap (λ (k : ℕ). take k rest) is ∙ take-length rest in
+          here ∙ slice_split_none p rest (none_passes p rest is) ∙ ap (λ (k : List ℕ). k ∷ []) (sym all) ∙ ap (λ (k : List (List ℕ)). take n rest ∷ k) (sym next)
+    ]
+
+pub parts_left : (separator : ℕ) (bytes : List ℕ) (at n : ℕ) (part : List ℕ) → at ≤ length bytes → n ≡ position_or_len (λ b. b == separator) (drop at bytes) → part ≡ take n (drop at bytes)
+    → ((cut_from separator bytes at).parts ≡ part ∷ (cut_from separator bytes (at + (n + 1))).parts) × (length part ≡ n) × (at + n ≤ length bytes)
+parts_left separator bytes at n part le n_is part_is =
+    let m_le : position_or_len (λ b. b == separator) (drop at bytes) ≤ length (drop at bytes) = prefix_len-le-length _ (drop at bytes) in
+    let len : length (drop at bytes) ≡ length bytes - at = length-drop at bytes in
+    let part_len : length part ≡ n = rw part_is (length-take-le n (drop at bytes) (omega arith)) in
+    (rw (part_is, n_is) (first_part separator bytes at le), part_len, omega arith)

@@ -1,0 +1,23 @@
+-- Numbers that were read are in their range.
+use Rattle.std.proofs.Common.{◌≡◌, ℕ, ◌≤◌, Bool, true, false, cond, List, [], ◌∷◌, Some, None, Option, refl, arith}
+use Rattle.std.specs.Prelude.{IfSome, ◌&&◌}
+use Rattle.std.specs.Char.{is_ascii_digit}
+use Rattle.std.proofs.lemmas.Bool.{leb-true}
+use Rattle.drm_text.specs.Number.{with_digit, with_digits, digits_up_to}
+
+abbrev IsSmall : ℕ → Option ℕ → Type 0
+IsSmall most o = IfSome o (λ n. n ≤ most)
+
+small_if : (most n : ℕ) (a b : Bool) → (b ≡ true → n ≤ most) → IsSmall most (cond (a && b) (Some n) None)
+small_if most n true true h = h refl
+small_if most n true false h = tt
+small_if most n false b h = tt
+
+small_digits : (most : ℕ) (o : Option ℕ) (word : List ℕ) → IsSmall most o → IsSmall most (with_digits most o word)
+small_digits most None word h = tt
+small_digits most (Some value) [] h = h
+small_digits most (Some value) (byte ∷ word) h =
+    small_digits most (with_digit most value byte) word (small_if most _ (is_ascii_digit byte) _ (λ e. leb-true _ _ e))
+
+pub digits_are_small : (most : ℕ) (word : List ℕ) → IfSome (digits_up_to most word) (λ n. n ≤ most)
+digits_are_small most word = small_digits most (Some 0) word (omega arith)

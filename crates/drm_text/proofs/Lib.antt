@@ -1,0 +1,9 @@
+pub mod Cuts
+pub mod Digits
+pub mod Finding
+pub mod NumberLaws
+pub mod Pairs
+pub mod NumbersWritten
+pub mod BytesWritten
+pub mod KeywordsWritten
+pub mod PartsJoined

@@ -1,0 +1,9 @@
+pub mod Cut
+pub mod Faults
+pub mod Hexadecimal
+pub mod Keywords
+pub mod Laws
+pub mod Lines
+pub mod Number
+pub mod Reading
+pub mod Words

@@ -1,0 +1,134 @@
+//! The lines of a text, read one after the other.
+
+ghost use Rattle.std.specs.Prelude.{◌≡◌, ◌+◌, ◌≤◌, [], ◌∷◌, length, IfSome, IfNone};
+ghost use Rattle.drm_text.specs.Reading.{Reads};
+ghost use Rattle.drm_text.specs.Lines.{is_printable, text_fault, start_at, last_line, lines_of, out_of_order};
+
+use crate::fault::{Fault, TextFault};
+use crate::keywords::{Keyword, read_keyword};
+use crate::parts::Parts;
+use crate::words::Words;
+use std::marker::Model;
+
+/// What is left of the lines of a text.
+#[derive(Drop)]
+pub struct Lines<'a> {
+    line: u32,
+    bytes: &'a [u8],
+    rest: Parts<'a>,
+}
+
+impl<'a> Model for Lines<'a> {
+    ghost use Rattle.std.specs.Prelude.{◌+◌, ◌≤◌, length};
+    ghost use Rattle.drm_text.specs.Cut.{Left};
+
+    ghost Value = { Left };
+
+    ghost view = { λ l. record { line = l.line; bytes = l.bytes.now; more = l.rest.parts } };
+
+    ghost invariant = { λ l. (l.line ≤ l.rest.at + 1) × (l.rest.at ≤ 1048577) × (length l.bytes.now ≤ 1048576) };
+}
+
+impl<'a> Lines<'a> {
+    /// All lines of a text. None is judged yet.
+    pub fn new(text: &'a [u8]) -> Lines<'a>
+        requires { length text.now ≤ 1048576 }
+        ensures { result ≡ lines_of text.now }
+    {
+        let mut rest = Parts::new(text, b'\n');
+        let bytes = match rest.next() {
+            Some(first) => first,
+            None => &[],
+        };
+        Lines {
+            line: 1,
+            bytes,
+            rest,
+        }
+    }
+
+    /// The number of the next line.
+    pub fn number(&self) -> u32
+        ensures { result ≡ self.now.line }
+    {
+        self.line
+    }
+
+    /// The next line that has an end.
+    pub fn next(&mut self) -> Option<&'a [u8]>
+        ensures some { IfSome result (λ bytes. (bytes.now ≡ self.old.bytes) × (self.old.more ≡ self.new.bytes ∷ self.new.more)
+            × (self.new.line ≡ self.old.line + 1) × (length bytes.now ≤ 1048576)) }
+        ensures none { IfNone result ((self.old.more ≡ []) × (self.new ≡ self.old)) }
+    {
+        let next = self.rest.next()?;
+        let bytes = self.bytes;
+        self.bytes = next;
+        self.line += 1;
+        Some(bytes)
+    }
+
+    /// That nothing stands behind the last line end.
+    pub fn end(&self) -> Result<(), Fault>
+        ensures { Reads (λ _. tt) result (last_line self.now.line self.now.bytes) }
+    {
+        if self.bytes.is_empty() {
+            return Ok(());
+        }
+        check_text(self.line, self.bytes)?;
+        Err(Fault::Text {
+            line: self.line,
+            column: self.bytes.len() as u32 + 1,
+            what: TextFault::NoEnd,
+        })
+    }
+}
+
+fn is_text(byte: u8) -> bool
+    ensures { result ≡ is_printable byte }
+{
+    32 <= byte && byte <= 126
+}
+
+/// That each byte of a line is one that texts have.
+fn check_text(line: u32, bytes: &[u8]) -> Result<(), Fault>
+    requires { length bytes.now ≤ 1048576 }
+    ensures { Reads (λ _. tt) result (text_fault line 1 bytes.now) }
+{
+    let mut column = 1u32;
+    for byte in bytes {
+        if !is_text(*byte) {
+            return Err(Fault::Text {
+                line,
+                column,
+                what: TextFault::NotText,
+            });
+        }
+        column += 1;
+    }
+    Ok(())
+}
+
+/// The first word of a line, and its other words.
+#[tactic(auto, unfolding(crate::specs::Lines::start_at))]
+pub fn read_start<'a>(line: u32, bytes: &'a [u8]) -> Result<(Keyword, Words<'a>), Fault>
+    requires { length bytes.now ≤ 1048576 }
+    ensures { Reads (λ start. start) result (start_at line bytes.now) }
+{
+    check_text(line, bytes)?;
+    let mut words = Words::new(line, bytes);
+    let fault = words.fault(TextFault::Word);
+    let first = words.word()?;
+    let keyword = read_keyword(first).ok_or(fault)?;
+    Ok((keyword, words))
+}
+
+/// The fault of a line that is not allowed at its place.
+pub fn order_fault(line: u32) -> Fault
+    ensures { result ≡ out_of_order line }
+{
+    Fault::Text {
+        line,
+        column: 1,
+        what: TextFault::Order,
+    }
+}

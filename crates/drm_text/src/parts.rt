@@ -1,0 +1,76 @@
+//! The parts of a text between separators, in their order: its lines, the words of a line, the
+//! pieces of a word.
+
+ghost use Rattle.std.specs.Prelude.{◌≡◌, ◌+◌, ◌≤◌, ◌==◌, [], ◌∷◌, length, IfSome, IfNone};
+ghost use Rattle.std.specs.List.{position_or_len};
+ghost use Rattle.drm_text.specs.Cut.{cut_from};
+
+use memchr::memchr;
+use std::marker::Model;
+
+/// The most bytes of a text.
+pub const MAX_TEXT: usize = 1_048_576;
+
+/// The place of the first such byte, or the length.
+fn end_of(bytes: &[u8], separator: u8) -> usize
+    ensures { result ≡ position_or_len (λ b. b == separator) bytes.now }
+{
+    memchr(separator, bytes).unwrap_or(bytes.len())
+}
+
+/// What is left of a text that is cut at each separator.
+#[derive(Drop)]
+pub struct Parts<'a> {
+    bytes: &'a [u8],
+    separator: u8,
+    at: usize,
+}
+
+impl<'a> Model for Parts<'a> {
+    ghost use Rattle.std.specs.Prelude.{◌+◌, ◌≤◌, length};
+    ghost use Rattle.drm_text.specs.Cut.{Cut, cut_from};
+
+    ghost Value = { Cut };
+
+    ghost view = { λ p. cut_from p.separator p.bytes.now p.at };
+
+    ghost invariant = { λ p. (p.at ≤ length p.bytes.now + 1) × (length p.bytes.now ≤ 1048576) };
+}
+
+impl<'a> Parts<'a> {
+    /// All parts of these bytes, which the separator separates. Bytes without a separator are one part.
+    pub fn new(bytes: &'a [u8], separator: u8) -> Parts<'a>
+        requires { length bytes.now ≤ 1048576 }
+        ensures { result ≡ cut_from separator bytes.now 0 }
+    {
+        Parts {
+            bytes,
+            separator,
+            at: 0,
+        }
+    }
+
+    /// How many bytes lie before the next part, separators too.
+    pub fn at(&self) -> u32
+        ensures value { result ≡ self.now.at }
+        ensures bound { result ≤ 1048577 }
+    {
+        self.at as u32
+    }
+
+    /// The next part, if one is left. It may be empty.
+    pub fn next(&mut self) -> Option<&'a [u8]>
+        ensures some { IfSome result (λ part. (self.old.parts ≡ part.now ∷ self.new.parts)
+            × (self.new.at ≡ self.old.at + length part.now + 1) × (length part.now ≤ 1048576) × (self.new.at ≤ 1048577)) }
+        ensures none { IfNone result ((self.old.parts ≡ []) × (self.new ≡ self.old)) }
+    {
+        if self.at > self.bytes.len() {
+            return None;
+        }
+        let (_, rest) = self.bytes.split_at(self.at);
+        let len = end_of(rest, self.separator);
+        let (part, _) = rest.split_at(len);
+        self.at += len + 1;
+        Some(part)
+    }
+}

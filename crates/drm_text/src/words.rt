@@ -1,0 +1,159 @@
+//! The words of a line, read from left to right.
+
+ghost use Rattle.std.specs.Prelude.{◌≡◌, ◌+◌, ◌≤◌, ◌<◌, ℕ, [], ◌∷◌, length, IfOk, IfSome, IfNone};
+ghost use Rattle.drm_text.specs.declared.fault.Fault.TheVariants.{Text};
+ghost use Rattle.drm_text.specs.Cut.{cut_from};
+ghost use Rattle.drm_text.specs.Reading.{Reads};
+ghost use Rattle.drm_text.specs.Words.{word_at, number_at, last_number_at, name_at, last_name_at, end_at, position_of, fault_here};
+
+use crate::fault::{Fault, Position, TextFault};
+use crate::number::read_number;
+use crate::parts::Parts;
+use std::marker::Model;
+
+/// What is left of the words of a line.
+#[derive(Drop)]
+pub struct Words<'a> {
+    line: u32,
+    rest: Parts<'a>,
+}
+
+impl<'a> Model for Words<'a> {
+    ghost use Rattle.drm_text.specs.Cut.{Words};
+
+    ghost Value = { Words };
+
+    ghost view = { λ w. record { line = w.line; rest = w.rest } };
+}
+
+impl<'a> Words<'a> {
+    /// The words of a line with this number.
+    pub fn new(line: u32, bytes: &'a [u8]) -> Words<'a>
+        requires { length bytes.now ≤ 1048576 }
+        ensures { result ≡ record { line = line; rest = cut_from 32 bytes.now 0 } }
+    {
+        Words {
+            line,
+            rest: Parts::new(bytes, b' '),
+        }
+    }
+
+    /// Where the next word begins.
+    pub fn position(&self) -> Position
+        ensures { result ≡ position_of self.now }
+    {
+        Position {
+            line: self.line,
+            column: self.rest.at() + 1,
+        }
+    }
+
+    /// The next word, if one is left. It may be empty.
+    pub fn next(&mut self) -> Option<&'a [u8]>
+        ensures some { IfSome result (λ word. (self.old.rest.parts ≡ word.now ∷ self.new.rest.parts)
+            × (self.new.rest.at ≡ self.old.rest.at + length word.now + 1) × (self.new.line ≡ self.old.line) × (length word.now ≤ 1048576)) }
+        ensures none { IfNone result ((self.old.rest.parts ≡ []) × (self.new ≡ self.old)) }
+    {
+        self.rest.next()
+    }
+
+    /// A fault of the next word.
+    pub fn fault(&self, what: TextFault) -> Fault
+        ensures { result ≡ fault_here self.now what }
+    {
+        Fault::Text {
+            line: self.line,
+            column: self.rest.at() + 1,
+            what,
+        }
+    }
+
+    /// A fault of the whole line.
+    pub fn fault_of_line(&self, what: TextFault) -> Fault
+        ensures { result ≡ Text self.now.line 1 what }
+    {
+        Fault::Text {
+            line: self.line,
+            column: 1,
+            what,
+        }
+    }
+
+    /// The next word, which has to be there and may not be empty.
+    #[tactic(auto, unfolding(crate::specs::Words::word_at))]
+    pub fn word(&mut self) -> Result<&'a [u8], Fault>
+        ensures value { Reads (λ w. (w.now, self.new)) result (word_at self.old) }
+        ensures bound { IfOk result (λ w. length w.now ≤ 1048576) }
+    {
+        let empty = self.fault(TextFault::Word);
+        let missing = self.rest.at();
+        match self.rest.next() {
+            Some([]) => Err(empty),
+            Some(word) => Ok(word),
+            None => Err(Fault::Text {
+                line: self.line,
+                column: missing,
+                what: TextFault::Word,
+            }),
+        }
+    }
+
+    /// A number of at most `most`.
+    #[tactic(auto, unfolding(crate::specs::Words::number_at))]
+    pub fn number(&mut self, most: u64) -> Result<u64, Fault>
+        ensures value { Reads (λ n. (n, self.new)) result (number_at most self.old) }
+        ensures small { IfOk result (λ n. n ≤ most) }
+    {
+        let fault = self.fault(TextFault::Number);
+        let word = self.word()?;
+        read_number(word, most).ok_or(fault)
+    }
+
+    /// A number of at most `most`, which ends the line.
+    #[tactic(auto, unfolding(crate::specs::Words::last_number_at))]
+    pub fn last_number(&mut self, most: u64) -> Result<u64, Fault>
+        ensures value { Reads (λ n. n) result (last_number_at most self.old) }
+        ensures small { IfOk result (λ n. n ≤ most) }
+    {
+        let number = self.number(most)?;
+        self.end()?;
+        Ok(number)
+    }
+
+    /// The number of one of `count` things.
+    #[tactic(auto, unfolding(crate::specs::Words::name_at))]
+    pub fn name(&mut self, count: usize) -> Result<u32, Fault>
+        ensures value { Reads (λ n. (n, self.new)) result (name_at count self.old) }
+        ensures exists { IfOk result (λ n. n < count) }
+    {
+        let fault = self.fault(TextFault::NoSuch);
+        let name = self.number(u64::from(u32::MAX))? as u32;
+        if name as usize >= count {
+            return Err(fault);
+        }
+        Ok(name)
+    }
+
+    /// The number of one of `count` things, which ends the line.
+    #[tactic(auto, unfolding(crate::specs::Words::last_name_at))]
+    pub fn last_name(&mut self, count: usize) -> Result<u32, Fault>
+        ensures value { Reads (λ n. n) result (last_name_at count self.old) }
+        ensures exists { IfOk result (λ n. n < count) }
+    {
+        let name = self.name(count)?;
+        self.end()?;
+        Ok(name)
+    }
+
+    /// That no word is left.
+    #[tactic(auto, unfolding(crate::specs::Words::end_at))]
+    pub fn end(&mut self) -> Result<(), Fault>
+        ensures { Reads (λ _. tt) result (end_at self.old) }
+    {
+        let fault = self.fault(TextFault::Word);
+        match self.rest.next() {
+            Some(_) => Err(fault),
+            None => Ok(()),
+        }
+    }
+}

@@ -1,0 +1,69 @@
+ghost use Rattle.std.specs.Prelude.{◌≡◌};
+ghost use Rattle.drm_types.specs.Usages.{wanted_usage, added_usage, place_of, is_as_strong};
+
+/// What a job does with a buffer that it declares.
+#[derive(Clone, Copy, Debug, PartialEq, Eq)]
+pub enum Access {
+    /// Its packets may read the buffer. It waits for writers.
+    Read,
+    /// Its packets may read and write the buffer. It waits for readers and writers.
+    Write,
+}
+
+/// What a fence stands for at a buffer (`enum dma_resv_usage`), strongest first. Asking for a usage gives the
+/// fences of that usage and of all stronger ones.
+#[derive(Clone, Copy, Debug, PartialEq, Eq)]
+pub enum Usage {
+    /// Memory management. Everybody waits for it.
+    Kernel,
+    /// An implicit writer. Readers and writers wait for it.
+    Write,
+    /// An implicit reader. Writers wait for it.
+    Read,
+    /// No implicit sync. Only memory management waits for it.
+    Bookkeep,
+}
+
+/// The weakest usage that a job with this access waits for (`dma_resv_usage_rw`).
+///
+/// It is right that the two names cross: a new reader waits for the writers, and a new writer for the readers
+/// too, which asking for READ gives since WRITE is the stronger.
+pub fn wanted(access: Access) -> Usage
+    ensures { result ≡ wanted_usage access }
+{
+    match access {
+        Access::Read => Usage::Write,
+        Access::Write => Usage::Read,
+    }
+}
+
+/// The usage that a job with this access adds (`dma_resv_add_fence`).
+pub fn adds(access: Access) -> Usage
+    ensures { result ≡ added_usage access }
+{
+    match access {
+        Access::Read => Usage::Read,
+        Access::Write => Usage::Write,
+    }
+}
+
+impl Usage {
+    // The place of the usage in their order, strongest first.
+    fn place(self) -> u32
+        ensures { result ≡ place_of self }
+    {
+        match self {
+            Usage::Kernel => 0,
+            Usage::Write => 1,
+            Usage::Read => 2,
+            Usage::Bookkeep => 3,
+        }
+    }
+
+    /// Whether this usage is at least as strong as the other.
+    pub fn is_as_strong_as(self, other: Usage) -> bool
+        ensures { result ≡ is_as_strong self other }
+    {
+        self.place() <= other.place()
+    }
+}

@@ -1,0 +1,93 @@
+-- A board that is taken apart.
+use Rattle.std.proofs.Common.{◌≡◌, ◌≢◌, ℕ, ◌+◌, ◌<◌, ◌≤◌, zero, suc, List, [], ◌∷◌, ◌++◌, length, get_or, set, sym, refl, ap, ◌∙◌, subst, arith, Bool, false}
+use Rattle.std.specs.Prelude as plain
+use Rattle.std.specs.Prelude.{Some, None}
+use mathlib.Core.Logic.{dite}
+use mathlib.Core.Option.{some, some-injective, some-ne-none}
+use native.Mathlib.Decide.{ℕ_discrete}
+use lib.ListN.{get_elem?}
+use Rattle.atomic_table.specs.Table.{Final, Seen}
+use Rattle.atomic_table.proofs.Lists.{at_map, at_last}
+use Rattle.ww_lock.specs.declared.board.View.{View}
+use Rattle.ww_lock.specs.declared.board.Slot.{Slot}
+use Rattle.ww_lock.specs.declared.board.Slot.TheVariants.{Pivot, Value}
+use Rattle.ww_lock.specs.Rule.{In, Keeps, pivot_of}
+use Rattle.ww_lock.specs.Lifetime.{FitsAll}
+use Rattle.ww_lock.proofs.Trying.{value_or}
+use Rattle.ww_lock.proofs.Finding.{below}
+
+at_get : (l : List ℕ) (i n : ℕ) → get_elem? l i ≡ some n → get_or l i 0 ≡ n
+at_get [] i n e = absurd (some-ne-none n (sym e))
+at_get (x ∷ xs) zero n e = some-injective x n e
+at_get (x ∷ xs) (suc i) n e = at_get xs i n e
+
+abbrev pub pivot_or : {P X T : Type 0} → P → Slot P X T → P
+pivot_or d (Pivot p) = p
+pivot_or d s = d
+
+abbrev pub first_pivot : {P X T : Type 0} → P → List (ℕ × Slot P X T) → P
+first_pivot d [] = d
+first_pivot d (p ∷ ps) = pivot_or d p.1
+
+-- each value that came back stands in the slot of its place, whose word was 0
+abbrev pub Back : {P X T : Type 0} → List ℕ → List (Slot P X T) → List (plain.Option X) → Type 0
+Back {P} {X} {T} ws xs out = (i : ℕ) (x : X) → get_elem? out i ≡ some (Some x) → (get_elem? xs (i + 1) ≡ some (Value x)) × (get_elem? ws (i + 2) ≡ some 0)
+
+pub more_back : {P X T : Type 0} (ws : List ℕ) (xs : List (Slot P X T)) (out : List (plain.Option X)) (b : ℕ) (o : plain.Option X) → length out ≡ b → Back ws xs out
+    → ((x : X) → o ≡ Some x → (get_elem? xs (b + 1) ≡ some (Value x)) × (get_elem? ws (b + 2) ≡ some 0)) → Back ws xs (out ++ o ∷ [])
+more_back {P} {X} {T} ws xs out b o len back here i x e = dite (ℕ_discrete i b)
+    (λ same. subst (λ k. (get_elem? xs (k + 1) ≡ some (Value x)) × (get_elem? ws (k + 2) ≡ some 0)) (sym same)
+    (here x (some-injective o (Some x) (sym (at_last out o b len) ∙ (ap (get_elem? (out ++ o ∷ [])) (sym same) ∙ e)))))
+    (λ ne. back i x (other out i o (Some x) (λ q. ne (q ∙ len)) e)) where
+      other : {A : Type 0} (l : List A) (j : ℕ) (a c : A) → j ≢ length l → get_elem? (l ++ a ∷ []) j ≡ some c → get_elem? l j ≡ some c
+      other [] zero a c ne h = absurd (ne refl)
+      other [] (suc j) a c ne h = h
+      other (y ∷ ys) zero a c ne h = h
+      other (y ∷ ys) (suc j) a c ne h = other ys j a c (λ q. ne (ap suc q)) h
+
+pub back_same : {P X T : Type 0} (ws ws' : List ℕ) (xs xs' : List (Slot P X T)) (out : List (plain.Option X)) → ws ≡ ws' → xs ≡ xs' → Back ws xs out → Back ws' xs' out
+back_same ws ws' xs xs' out d e back i x at = let b = back i x at in (ap (λ l. get_elem? l (i + 1)) (sym e) ∙ b.0, ap (λ l. get_elem? l (i + 2)) (sym d) ∙ b.1)
+
+pub set_false : (l : List Bool) (i : ℕ) → get_or (set l i false) i false ≡ false
+set_false [] i = refl
+set_false (x ∷ xs) zero = refl
+set_false (x ∷ xs) (suc i) = set_false xs i
+
+fits_all : {X : Type 0} (fit : ℕ → X → Type 0) (k : ℕ) (xs : List (plain.Option X)) → ((i : ℕ) (x : X) → get_elem? xs i ≡ some (Some x) → fit (k + i) x) → FitsAll fit k xs
+fits_all fit k [] h = tt
+fits_all {X} fit k (None ∷ xs) h = (tt, fits_all fit (k + 1) xs (λ i x e. subst (λ n. fit n x) (let q : k + suc i ≡ k + 1 + i = omega arith in q) (h (suc i) x e)))
+fits_all {X} fit k (Some y ∷ xs) h = (subst (λ n. fit n y) (let q : k + 0 ≡ k = omega arith in q) (h 0 y refl), fits_all fit (k + 1) xs (λ i x e. subst (λ n. fit n x) (let q : k + suc i ≡ k + 1 + i = omega arith in q) (h (suc i) x e)))
+
+module _ {P X T : Type 0} (good : P → Type 0) (fits : ℕ → P → X → Type 0) (grows : P → P → Type 0) (posted : P → ℕ → ℕ) (busy : P → T → Type 0) (posts : ℕ) (id : ℕ) (v : View P X T) (ws : List ℕ) (xs : List (Slot P X T)) where
+  abbrev pub Ended : Type 0
+  Ended = Final (Seen (Keeps good fits grows posted busy posts) id v) ws xs
+
+  abbrev shown_at : Ended → P
+  shown_at e = e.1.0.shown
+
+  home_value : (e : Ended) (b : ℕ) → b + 1 < length xs → get_elem? ws (b + 2) ≡ some 0 → (x : X) × (get_elem? xs (b + 1) ≡ some (Value x)) × fits b (shown_at e) x
+  home_value e b low z = let r = e.1.0 in let deep = r.deep in let len = e.3 in let inside : b < r.n = omega arith in
+      let h = r.locks.home b inside (ap (λ l. get_or l (b + 2) 0) e.2 ∙ at_get ws (b + 2) 0 z) in (h.0, e.4 (b + 1) (Value h.0) h.1, h.2)
+
+  -- the slot of a value whose word is 0 has a value
+  pub value_at_home : Ended → (b : ℕ) (s : Slot P X T) → b + 1 < length xs → get_elem? ws (b + 2) ≡ some 0 → get_elem? xs (b + 1) ≡ some s → ((x : X) → s ≡ Value x → ⊥) → ⊥
+  value_at_home e b s low z here never = let h = home_value e b low z in never h.0 (some-injective s (Value h.0) (sym here ∙ h.1))
+
+  home_pivot : (e : Ended) → get_elem? ws 1 ≡ some 0 → get_elem? xs 0 ≡ some (Pivot (shown_at e))
+  home_pivot e z = let r = e.1.0 in e.4 0 (Pivot (shown_at e)) (r.pivots.at_home (ap (λ l. get_or l 1 0) e.2 ∙ at_get ws 1 0 z))
+
+  -- the slot of the pivot, where its word is 0, has a pivot
+  pub pivot_at_home : Ended → (s : Slot P X T) → get_elem? ws 1 ≡ some 0 → get_elem? xs 0 ≡ some s → ((p : P) → s ≡ Pivot p → ⊥) → ⊥
+  pivot_at_home e s z here never = never (shown_at e) (some-injective s _ (sym here ∙ home_pivot e z))
+
+  -- what comes back is what the board showed
+  pub comes_back : Ended → (p : P) (out : List (plain.Option X)) → length out + 1 ≤ length xs → get_elem? ws 1 ≡ some 0 → get_elem? xs 0 ≡ some (Pivot p) → Back ws xs out
+      → good p × ((q : P) → In q v.pivot.seen → grows q p) × FitsAll (λ b x. fits b p x) 0 out
+  comes_back e p out low z here back = let r = e.1.0 in
+      let same : shown_at e ≡ p = ap (pivot_or p) (some-injective _ _ (sym (home_pivot e z) ∙ here)) in (
+        subst good same r.pivots.is_good,
+        (λ q h. subst (grows q) same ((r.pivots.each id v.pivot (at_map pivot_of e.0.views id v e.1.1)).grown q h)),
+        fits_all (λ b x. fits b p x) 0 out (λ i x at. let b = back i x at in let l = below out i (Some x) at in let t = home_value e i (omega arith) b.1 in
+            let one : t.0 ≡ x = ap (value_or x) (some-injective _ _ (sym t.1 ∙ b.0)) in
+            subst (λ k. fits k p x) (let q : i ≡ 0 + i = omega arith in q) (subst (λ y. fits i p y) one (subst (λ u. fits i u t.0) same t.2))),
+      )

@@ -1,0 +1,13 @@
+pub mod Lists
+pub mod LocksKept
+pub mod PivotsKept
+pub mod LooksKept
+pub mod TasksKept
+pub mod Kept
+pub mod Trying
+pub mod Opening
+pub mod Waiting
+pub mod Turning
+pub mod Finding
+pub mod Closing
+pub mod Releasing

@@ -1,0 +1,59 @@
+use Rattle.std.proofs.Common.{rules, arith, ◌≡◌, ◌<◌, ◌≤◌, ◌+◌, ℕ, List, length, get_or, sym, refl, ap, ◌∙◌, subst, inl, inr, false, true, get_or-set_other, Option, Some, None, vec_capacity, length-append, ◌++◌, ◌∷◌, []}
+use mathlib.Core.Logic.{dite}
+use native.Mathlib.Decide.{ℕ_discrete}
+use Rattle.std.specs.Mem.Slots.{slots_items, slots_filled, slots_counts}
+use lib.ListN.{get_elem?}
+use mathlib.Core.Option.{some}
+use Rattle.ww_lock.specs.declared.board.Slot.TheVariants.{Value}
+use Rattle.ww_lock.proofs.Closing.{value_at_home, pivot_at_home, comes_back, set_false, more_back, back_same, Back}
+use Rattle.ww_lock.proofs.board.Board.close.Goals.{then-holder-eq0+in-Value, else-holder-eq0+in-Pivot-1, else-holder-eq0+in-Value-1, else-holder-eq0+in-Announced-1, else-holder-eq0+in-Gone-1}
+use Rattle.ww_lock.proofs.board.Board.close.Goals as goal
+
+abbrev some_value : {X : Type 0} → X → Option X → X
+some_value d None = d
+some_value d (Some x) = x
+
+some-of : {X : Type 0} {x y : X} → Some x ≡ Some y → x ≡ y
+some-of {X} {x} {y} e = ap (some_value x) e
+
+pub unreachable-requires : goal.unreachable-requires
+unreachable-requires g c = let w = g.W.Ward in let i = c.loop-b.invariant in let e = c.close_with-closed.ensures in let t = c.take-pivot.ensures.others in let low = c.loop-b-test.true in let n = slots_counts c.close_with-closed.result.slots in let s₁ = c.args.self.sized in
+    let words : get_elem? (slots_items c.close_with-closed.result.words) (c.loop-b.b + 2) ≡ some 0 = ap (λ z. get_elem? (slots_items z) (c.loop-b.b + 2)) (sym (i.0 ∙ t.3)) ∙ (c.word-holder.ensures ∙ ap some c.if-holder-eq0.true) in
+    let slot : get_elem? (slots_items c.close_with-closed.result.slots) (c.loop-b.b + 1) ≡ some c.take-slot.result = ap (λ z. get_elem? z (c.loop-b.b + 1)) (sym (i.1 ∙ t.0)) ∙ c.take-slot.ensures.value in
+    let count = e.counts in value_at_home w.good w.fits w.grows w.posted w.busy _ _ _ _ _ e.values.2 c.loop-b.b c.take-slot.result (let s = s₁.2 in let k = e.counts.1 in omega arith) words slot c.in_default.not-Value
+
+pub unreachable-requires-in_default-pivot : goal.unreachable-requires-in_default-pivot
+unreachable-requires-in_default-pivot g c = let w = g.W.Ward in let e = c.close_with-closed.ensures in
+    pivot_at_home w.good w.fits w.grows w.posted w.busy _ _ _ _ _ e.values.2 c.take-pivot.result (c.word-at.ensures ∙ ap some c.if-at-ne0.false) c.take-pivot.ensures.value c.in_default-pivot.not-Pivot
+
+pub loop-b-preserved : goal.loop-b-preserved
+loop-b-preserved g c = let i = c.loop-b.invariant in let t = c.take-slot.ensures.others in let low = c.loop-b-test.true in let X = g.row.W-Value.Denot in
+    let H : Option X → Type 0 = λ o. (x : X) → o ≡ Some x → (get_elem? (slots_items c.take-slot.new.self.slots) (c.loop-b.b + 1) ≡ some (Value x)) × (get_elem? (slots_items c.take-slot.new.self.words) (c.loop-b.b + 2) ≡ some 0) in
+    let N : Type 0 = (o : Option X) × (c.if-holder-eq0.out.items ≡ c.loop-b.out.items ++ o ∷ []) × (vec_capacity c.if-holder-eq0.out ≡ vec_capacity c.loop-b.out) × H o in
+    let absent : H None = λ x e. absurd (cc (e)) in
+    let next : N = elim c.if-holder-eq0.branch [
+      | then-holder-eq0+in-Value w ↦ (Some w.in-Value.value, ap (λ z. z.items) w.out-is ∙ w.push_reserved.ensures.items, ap vec_capacity w.out-is ∙ w.push_reserved.ensures.capacity, λ x e. (ap (λ z. get_elem? z (c.loop-b.b + 1)) t.0 ∙ (c.take-slot.ensures.value ∙ ap some (w.in-Value.is ∙ ap Value (some-of e))), ap (λ z. get_elem? (slots_items z) (c.loop-b.b + 2)) t.3 ∙ (c.word-holder.ensures ∙ ap some w.if-holder-eq0.true)))
+      | else-holder-eq0+in-Pivot-1 w ↦ (None, ap (λ z. z.items) w.out-is ∙ w.push_reserved-else-holder-eq0.ensures.items, ap vec_capacity w.out-is ∙ w.push_reserved-else-holder-eq0.ensures.capacity, absent)
+      | else-holder-eq0+in-Value-1 w ↦ (None, ap (λ z. z.items) w.out-is ∙ w.push_reserved-else-holder-eq0.ensures.items, ap vec_capacity w.out-is ∙ w.push_reserved-else-holder-eq0.ensures.capacity, absent)
+      | else-holder-eq0+in-Announced-1 w ↦ (None, ap (λ z. z.items) w.out-is ∙ w.push_reserved-else-holder-eq0.ensures.items, ap vec_capacity w.out-is ∙ w.push_reserved-else-holder-eq0.ensures.capacity, absent)
+      | else-holder-eq0+in-Gone-1 w ↦ (None, ap (λ z. z.items) w.out-is ∙ w.push_reserved-else-holder-eq0.ensures.items, ap vec_capacity w.out-is ∙ w.push_reserved-else-holder-eq0.ensures.capacity, absent)
+    ] in (
+      t.3 ∙ i.0,
+      t.0 ∙ i.1,
+      t.2 ∙ i.2,
+      (λ k h. dite (ℕ_discrete k (c.loop-b.b + 1))
+          (λ same. ap (λ l. get_or l k false) t.1 ∙ (ap (λ n. get_or (Rattle.std.proofs.Common.set (slots_filled c.loop-b.closed.slots) (c.loop-b.b + 1) false) n false) same ∙ set_false (slots_filled c.loop-b.closed.slots) (c.loop-b.b + 1)))
+          (λ ne. ap (λ l. get_or l k false) t.1 ∙ (get_or-set_other (slots_filled c.loop-b.closed.slots) (c.loop-b.b + 1) k false false (λ q. ne q) ∙ i.3 k (omega arith)))),
+      (λ k h l. ap (λ l. get_or l k false) t.1 ∙ (get_or-set_other (slots_filled c.loop-b.closed.slots) (c.loop-b.b + 1) k false false (λ q. omega arith) ∙ i.4 k (omega arith) (let m = t.2 in omega arith))),
+      omega arith,
+      (let q = ap length next.1 in let n = length-append c.loop-b.out.items (next.0 ∷ []) in let had = i.6 in omega arith),
+      (let q = next.2 in let had = i.7 in omega arith),
+      subst (Back (slots_items c.take-slot.new.self.words) (slots_items c.take-slot.new.self.slots)) (sym next.1)
+          (more_back (slots_items c.take-slot.new.self.words) (slots_items c.take-slot.new.self.slots) c.loop-b.out.items c.loop-b.b next.0 i.6
+          (back_same _ _ _ _ c.loop-b.out.items (ap slots_items (sym t.3)) (sym t.0) i.8) next.3),
+    )
+
+pub returns-clause-pivot : goal.returns-clause-pivot
+returns-clause-pivot g c = let w = g.W.Ward in let i = c.loop-b.invariant in let e = c.close_with-closed.ensures in let t = c.take-pivot.ensures.others in let n = slots_counts c.close_with-closed.result.slots in let count = e.counts in
+    comes_back w.good w.fits w.grows w.posted w.busy _ _ _ _ _ e.values.2 c.in-Pivot.pivot c.loop-b.out.items (let had = i.6 in let low = i.5 in let s₁ = c.args.self.sized in let s = s₁.2 in omega arith) (c.word-at.ensures ∙ ap some c.if-at-ne0.false) (c.take-pivot.ensures.value ∙ ap some c.in-Pivot.is)
+    (back_same _ _ _ _ c.loop-b.out.items (ap slots_items (i.0 ∙ t.3)) (i.1 ∙ t.0) i.8)

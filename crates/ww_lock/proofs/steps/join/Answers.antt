@@ -1,0 +1,6 @@
+use Rattle.std.proofs.Common.{arith}
+use Rattle.ww_lock.proofs.Kept.{joins}
+use Rattle.ww_lock.proofs.steps.join.Goals as goal
+
+pub join_seat-requires : goal.join_seat-requires
+join_seat-requires g c = let ward = g.W.Ward in let q = c.requires in (q.0, q.1, q.2, omega arith, joins ward.good ward.fits ward.grows ward.posted ward.busy ward.reflexive ward.transitive ward.onward c.args.shared.now.key.posts _ _ _ _ q.4 q.6 q.5)

@@ -1,0 +1,81 @@
+-- A caller that has drawn a ticket.
+use Rattle.std.specs.Prelude.{ℕ, ◌≡◌, ◌<◌, ◌≤◌, ◌+◌, List, [], ◌∷◌, ◌++◌, length, vec_capacity, Bool, true, false, Result, Ok, Err}
+use Rattle.atomic_table.specs.Seated.{TableId}
+use Rattle.ww_lock.specs.declared.board.View.{View}
+use Rattle.ww_lock.specs.declared.board.Slot.{Slot}
+use Rattle.ww_lock.specs.declared.acquire.Acquire.{Acquire}
+use Rattle.ww_lock.specs.declared.locks.TryLockError.{TryLockError}
+use Rattle.ww_lock.specs.declared.locks.TryLockError.TheVariants.{Sealed, Already, Older, Younger}
+use Rattle.ww_lock.specs.declared.locks.LockError.{LockError}
+use Rattle.ww_lock.specs.declared.locks.LockError.TheVariants.{Backoff}
+use Rattle.ww_lock.specs.declared.locks.LockError.TheVariants as lock
+use Rattle.ww_lock.specs.declared.board.Slot.TheVariants.{Gone}
+use Rattle.ww_lock.specs.Rule.{In}
+use Rattle.ww_lock.specs.Steps.{with_claim, with_met, with_mets}
+use Rattle.ww_lock.specs.Held.{IsSameKeys, IsApart, Lacks, HasAt, emptied}
+
+-- the slots of one who is inside begin with the pivot's
+abbrev pub behind_pivot : {P X T : Type 0} → Bool → List (ℕ × Slot P X T) → List (ℕ × Slot P X T)
+behind_pivot true slots = (0, Gone) ∷ slots
+behind_pivot false slots = slots
+
+-- the caller is a seat of the table z, inside or not, has what its view says, and room for every value of the board until it is done
+pub record Holds {P X T : Type 0} (is_inside : Bool) (z : TableId) (a : Acquire P X T) : Type 0 where
+  pub seated : a.place.table_id ≡ z
+  pub ticket : (a.place.me.0.lock.ticket ≡ a.ticket) × (0 < a.ticket)
+  pub keys : IsSameKeys a.place.me.0.lock.owes a.held.items
+  pub apart : IsApart a.held.items
+  pub within : (b : ℕ) (x : X) → In (b, x) a.held.items → b + 1 < z.slots
+  pub room : a.sealed ≡ false → z.slots ≤ vec_capacity a.held + 1
+  pub hands : a.place.me.1 ≡ behind_pivot is_inside (emptied a.held.items)
+  pub inside : a.place.me.0.pivot.inside ≡ is_inside
+
+-- the same of a caller that is done and whose values are taken out
+pub record HasLent {P X T : Type 0} (is_inside : Bool) (z : TableId) (a : Acquire P X T) : Type 0 where
+  pub seated : a.place.table_id ≡ z
+  pub ticket : (a.place.me.0.lock.ticket ≡ a.ticket) × (0 < a.ticket)
+  pub sealed : a.sealed ≡ true
+  pub apart : IsApart a.place.me.0.lock.owes
+  pub within : (b : ℕ) (x : X) → In (b, x) a.place.me.0.lock.owes → b + 1 < z.slots
+  pub hands : a.place.me.1 ≡ behind_pivot is_inside (emptied a.place.me.0.lock.owes)
+  pub inside : a.place.me.0.pivot.inside ≡ is_inside
+
+abbrev pub HoldsOutside : {P X T : Type 0} → TableId → Acquire P X T → Type 0
+HoldsOutside z a = Holds false z a
+
+abbrev pub HoldsInside : {P X T : Type 0} → TableId → Acquire P X T → Type 0
+HoldsInside z a = Holds true z a
+
+-- each value that is held fits whatever the owed one fits
+abbrev pub IsAsOwed : {P X T : Type 0} → (ℕ → P → X → Type 0) → Acquire P X T → Type 0
+IsAsOwed {P} {X} {T} fits a = (b : ℕ) (x y : X) → In (b, x) a.place.me.0.lock.owes → In (b, y) a.held.items → (p : P) → fits b p x → fits b p y
+
+abbrev pub view : {P X T : Type 0} → Acquire P X T → View P X T
+view a = a.place.me.0
+
+abbrev pub IsSameAcquire : {P X T : Type 0} → Acquire P X T → Acquire P X T → Type 0
+IsSameAcquire a a' = (a'.ticket ≡ a.ticket) × (a'.sealed ≡ a.sealed) × (a'.place.id ≡ a.place.id)
+
+-- what a try to lock value b answers, and what is so after it
+abbrev pub AnswersTry : {P X T : Type 0} → ℕ → Acquire P X T → Acquire P X T → Result (Unit {0}) TryLockError → Type 0
+AnswersTry b a a' (Err Sealed) = (a.sealed ≡ true) × (a' ≡ a)
+AnswersTry {P} {X} b a a' (Err Already) = (a.sealed ≡ false) × ((i : ℕ) × HasAt b i a.held.items) × (a' ≡ a)
+AnswersTry {P} {X} b a a' (Ok u) = (a.sealed ≡ false) × Lacks b a.held.items × IsSameAcquire a a' × ((x : X) × (view a' ≡ with_claim b x (view a)) × (a'.held.items ≡ a.held.items ++ (b, x) ∷ []))
+AnswersTry b a a' (Err (Older h)) = (a.sealed ≡ false) × Lacks b a.held.items × IsSameAcquire a a' × (h < a.ticket) × (view a' ≡ with_met b h (view a)) × (a'.held ≡ a.held)
+AnswersTry b a a' (Err (Younger h)) = (a.sealed ≡ false) × Lacks b a.held.items × IsSameAcquire a a' × (a.ticket < h) × (view a' ≡ with_met b h (view a)) × (a'.held ≡ a.held)
+
+-- the tries that failed have been noted, and nothing else has changed
+abbrev pub Waited : {P X T : Type 0} → Acquire P X T → Acquire P X T → Type 0
+Waited a a' = IsSameAcquire a a' × (a'.held ≡ a.held) × ((ms : List (ℕ × ℕ)) × (view a' ≡ with_mets ms (view a)))
+
+-- after some tries that failed, value b was claimed
+abbrev pub Claimed : {P X T : Type 0} → ℕ → Acquire P X T → Acquire P X T → Type 0
+Claimed {P} {X} b a a' = (a.sealed ≡ false) × Lacks b a.held.items × IsSameAcquire a a'
+    × ((x : X) × (ms : List (ℕ × ℕ)) × (view a' ≡ with_claim b x (with_mets ms (view a))) × (a'.held.items ≡ a.held.items ++ (b, x) ∷ []))
+
+-- what a lock of value b answers, and what is so after it
+abbrev pub AnswersLock : {P X T : Type 0} → ℕ → Acquire P X T → Acquire P X T → Result (Unit {0}) LockError → Type 0
+AnswersLock b a a' (Err lock.Sealed) = (a.sealed ≡ true) × (a' ≡ a)
+AnswersLock b a a' (Err lock.Already) = (a.sealed ≡ false) × ((i : ℕ) × HasAt b i a.held.items) × (a' ≡ a)
+AnswersLock b a a' (Ok u) = Claimed b a a'
+AnswersLock b a a' (Err (Backoff h)) = (a.sealed ≡ false) × Lacks b a.held.items × (h < a.ticket) × (0 < length a.held.items) × In (b, h) (view a').lock.met × Waited a a'

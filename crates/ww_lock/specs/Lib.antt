@@ -1,0 +1,10 @@
+pub mod Fences
+pub mod Rule
+pub mod Steps
+pub mod Held
+pub mod Acquiring
+pub mod Lifetime
+pub mod Lending
+pub mod Begun
+pub mod Sample
+pub mod Leaving

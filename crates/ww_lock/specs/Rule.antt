@@ -1,0 +1,115 @@
+-- What holds of a board between any two steps.
+use Rattle.std.specs.Prelude.{◌≡◌, ◌≢◌, ◌⊎◌, ℕ, ◌+◌, ◌<◌, ◌≤◌, ◌^◌, List, [], ◌∷◌, map, length, slice_index, true, false}
+use mathlib.Core.Option.{Option, some, none}
+use lib.ListN.{get_elem?}
+use Rattle.atomic_table.specs.Table.{State}
+use Rattle.ww_lock.specs.declared.board.View.{View}
+use Rattle.ww_lock.specs.declared.board.LockView.{LockView}
+use Rattle.ww_lock.specs.declared.board.PivotView.{PivotView}
+use Rattle.std.specs.Prelude.{Some}
+use Rattle.std.specs.Prelude as plain
+use Rattle.ww_lock.specs.Fences.{NotBack}
+use Rattle.ww_lock.specs.declared.board.Slot.{Slot}
+use Rattle.ww_lock.specs.declared.board.Slot.TheVariants.{Pivot, Value}
+
+-- x stands in the list
+abbrev pub In : {A : Type 0} → A → List A → Type 0
+In a [] = ⊥
+In a (x ∷ xs) = (a ≡ x) ⊎ In a xs
+
+abbrev pub idle : {X : Type 0} → LockView X
+idle = record { ticket = 0; owes = []; had = []; met = [] }
+
+abbrev pub saw : {P : Type 0} → List P → PivotView P
+saw ps = record { seen = ps; mine = []; inside = false; posted = false }
+
+abbrev pub newcomer : {P X T : Type 0} → P → View P X T
+newcomer p = record { lock = idle; pivot = saw (p ∷ []); looked = []; task = plain.None }
+
+abbrev pub lock_of : {P X T : Type 0} → View P X T → LockView X
+lock_of v = v.lock
+
+abbrev pub pivot_of : {P X T : Type 0} → View P X T → PivotView P
+pivot_of v = v.pivot
+
+abbrev pub looked_of : {P X T : Type 0} → View P X T → List (ℕ × ℕ)
+looked_of v = v.looked
+
+abbrev pub task_of : {P X T : Type 0} → View P X T → plain.Option T
+task_of v = v.task
+
+abbrev pub At : {V : Type 0} → List V → ℕ → V → Type 0
+At views j v = get_elem? views j ≡ some v
+
+module _ {X : Type 0} where
+  -- some seat holds value b, by the ticket t
+  abbrev pub Held : List (LockView X) → ℕ → ℕ → Type 0
+  Held views b t = (k : ℕ) × (w : LockView X) × (x : X) × At views k w × (w.ticket ≡ t) × In (b, x) w.owes
+
+  -- some seat claimed value b by the ticket h
+  abbrev pub Met : List (LockView X) → ℕ → ℕ → Type 0
+  Met views b h = (k : ℕ) × (w : LockView X) × At views k w × In (b, h) w.had
+
+abbrev pub Owed : {X : Type 0} → (ℕ → X → Type 0) → List ℕ → ℕ → LockView X → ℕ → X → Type 0
+Owed fit words n v b x = (b < n) × (slice_index words (b + 2) ≡ v.ticket) × (0 < v.ticket) × fit b x × In (b, v.ticket) v.had
+
+-- the n values, each at home or with one seat, which has drawn a ticket of its own. Each fits
+pub record Locks {P X T : Type 0} (fit : ℕ → X → Type 0) (n : ℕ) (words : List ℕ) (homes : List (Option (Slot P X T))) (views : List (LockView X)) : Type 0 where
+  pub counter : (0 < slice_index words 0) × (slice_index words 0 ≤ 2 ^ 63)
+  pub tickets : (j : ℕ) (v : LockView X) → At views j v → v.ticket < slice_index words 0
+  pub apart : (j k : ℕ) (v w : LockView X) → At views j v → At views k w → 0 < v.ticket → v.ticket ≡ w.ticket → j ≡ k
+  pub home : (b : ℕ) → b < n → slice_index words (b + 2) ≡ 0 → (x : X) × (get_elem? homes (b + 1) ≡ some (some (Value x))) × fit b x
+  pub out : (b : ℕ) → b < n → slice_index words (b + 2) ≢ 0 → (get_elem? homes (b + 1) ≡ some none) × Held views b (slice_index words (b + 2))
+  pub owed : (j : ℕ) (v : LockView X) (b : ℕ) (x : X) → At views j v → In (b, x) v.owes → Owed fit words n v b x
+  pub met : (j : ℕ) (v : LockView X) (b h : ℕ) → At views j v → In (b, h) v.met → Met views b h
+
+-- of two calls, one was left before the other was found
+abbrev pub Comes : {P : Type 0} → (P → P → Type 0) → P × P → P × P → Type 0
+Comes grows c d = grows c.1 d.0 ⊎ grows d.1 c.0
+
+abbrev pub Ordered : {P : Type 0} → (P → P → Type 0) → List (P × P) → Type 0
+Ordered grows [] = Unit {0}
+Ordered grows (c ∷ cs) = ((d : _) → In d cs → Comes grows c d) × Ordered grows cs
+
+-- what the seat knows, where the pivot is p and the word of the pivot is x
+pub record Sees {P : Type 0} (grows : P → P → Type 0) (p : P) (x : ℕ) (v : PivotView P) : Type 0 where
+  pub inside : v.inside ≡ true → (x ≡ 1) × (v.seen ≡ p ∷ [])
+  pub grown : (q : P) → In q v.seen → grows q p
+  pub order : (q r : P) → In q v.seen → In r v.seen → grows q r ⊎ grows r q
+  pub lefts : (c : P × P) → In c v.mine → (q : P) × In q v.seen × grows c.1 q
+  pub stays : (c : P × P) → In c v.mine → grows c.1 p
+  pub calls : (c : P × P) → In c v.mine → grows c.0 c.1
+  pub ordered : Ordered grows v.mine
+
+-- of two seats, what each saw, what each left, and which is inside
+pub record Beside {P : Type 0} (grows : P → P → Type 0) (v w : PivotView P) : Type 0 where
+  pub seens : (p q : P) → In p v.seen → In q w.seen → grows p q ⊎ grows q p
+  pub both : (c d : P × P) → In c v.mine → In d w.mine → Comes grows c d
+  pub alone : v.inside ≡ true → w.inside ≡ false
+
+pub record Pivots {P X T : Type 0} (good : P → Type 0) (grows : P → P → Type 0) (p : P) (x : ℕ) (homes : List (Option (Slot P X T))) (views : List (PivotView P)) : Type 0 where
+  pub at_home : x ≡ 0 → get_elem? homes 0 ≡ some (some (Pivot p))
+  pub away : x ≢ 0 → (x ≡ 1) × (get_elem? homes 0 ≡ some none) × ((k : ℕ) × (w : PivotView P) × At views k w × (w.inside ≡ true))
+  pub is_good : good p
+  pub each : (j : ℕ) (v : PivotView P) → At views j v → Sees grows p x v
+  pub two : (j k : ℕ) (v w : PivotView P) → At views j v → At views k w → j ≢ k → Beside grows v w
+
+-- the fence words are those of the pivot, and none has gone back since it was looked at
+pub record Looks (word : ℕ → ℕ) (n posts : ℕ) (words : List ℕ) (views : List (List (ℕ × ℕ))) : Type 0 where
+  pub at : (f : ℕ) → f < posts → slice_index words (n + 2 + f) ≡ word f
+  pub past : (j : ℕ) (v : List (ℕ × ℕ)) (f x : ℕ) → At views j v → In (f, x) v → NotBack x (word f)
+
+-- the pivot is busy with each task, and no task is two seats'
+pub record Tasks {T : Type 0} (busy : T → Type 0) (views : List (plain.Option T)) : Type 0 where
+  pub each : (j : ℕ) (t : T) → At views j (Some t) → busy t
+  pub once : (j k : ℕ) (t : T) → At views j (Some t) → At views k (Some t) → j ≡ k
+
+pub record Keeps {P X T : Type 0} (good : P → Type 0) (fits : ℕ → P → X → Type 0) (grows : P → P → Type 0) (posted : P → ℕ → ℕ) (busy : P → T → Type 0) (posts : ℕ) (s : State (Slot P X T) (View P X T)) : Type 0 where
+  pub n : ℕ
+  pub shown : P
+  pub wide : length s.words ≡ n + 2 + posts
+  pub deep : length s.homes ≡ n + 1
+  pub locks : Locks (λ b x. fits b shown x) n s.words s.homes (map lock_of s.views)
+  pub pivots : Pivots good grows shown (slice_index s.words 1) s.homes (map pivot_of s.views)
+  pub looks : Looks (posted shown) n posts s.words (map looked_of s.views)
+  pub tasks : Tasks (busy shown) (map task_of s.views)

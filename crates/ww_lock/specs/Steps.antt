@@ -1,0 +1,143 @@
+-- What each step tells: of the step, the seat before, the number found and the seat after.
+use Rattle.std.specs.Prelude.{◌≡◌, ◌≢◌, ℕ, ◌+◌, ◌<◌, List, [], ◌∷◌, ◌++◌, map, true, false, ◌==◌, if◌then◌else◌}
+use mathlib.Core.Option.{Option, some}
+use Rattle.std.specs.Prelude as plain
+use Rattle.std.specs.Prelude.{Bool, ◌&&◌, not, Some}
+use Rattle.ww_lock.specs.Fences.{NotBack}
+use Rattle.ww_lock.specs.declared.board.TaskChange.{TaskChange}
+use Rattle.ww_lock.specs.declared.board.TaskChange.TheVariants.{Same, Begins, Ends}
+use Rattle.atomic_table.specs.Table.{Me, Step, rest}
+use Rattle.ww_lock.specs.declared.board.View.{View}
+use Rattle.ww_lock.specs.declared.board.Slot.{Slot}
+use Rattle.ww_lock.specs.declared.board.Slot.TheVariants.{Pivot, Value, Announced}
+use Rattle.ww_lock.specs.Rule.{In, idle, saw}
+
+abbrev pub Sat : Type 0 → Type 0 → Type 0 → Type 0
+Sat P X T = Me (Slot P X T) (View P X T)
+
+-- the list without the pairs of b
+abbrev pub without : {A : Type 0} → ℕ → List (ℕ × A) → List (ℕ × A)
+without b [] = []
+without b (x ∷ xs) = if x.0 == b then without b xs else x ∷ without b xs
+
+-- each call was left before the later ones were found
+abbrev pub IsChain : {P : Type 0} → (P → P → Type 0) → List (P × P) → Type 0
+IsChain grows [] = Unit {0}
+IsChain grows (c ∷ cs) = ((d : _) → In d cs → grows c.1 d.0) × IsChain grows cs
+
+abbrev pub number_of : {A B : Type 0} → A × B → A
+number_of x = x.0
+
+-- the calls of a seat, with one more where it gains one
+abbrev pub calls_with : {P : Type 0} → Bool → List (P × P) → P → P → List (P × P)
+calls_with gains cs p q = if gains then cs ++ (p, q) ∷ [] else cs
+
+abbrev pub task_after : {T : Type 0} → TaskChange T → plain.Option T → plain.Option T
+task_after Same t = t
+task_after (Begins t) u = Some t
+task_after Ends u = plain.None
+
+-- what becomes of the tasks where p becomes q
+abbrev pub Turns : {P T : Type 0} → (P → T → Type 0) → P → P → plain.Option T → TaskChange T → Type 0
+Turns {P} {T} busy p q task Same = (t : T) → busy p t → busy q t
+Turns {P} {T} busy p q task (Begins t) = (task ≡ plain.None) × (busy p t → ⊥) × busy q t × ((s : T) → busy p s → busy q s)
+Turns {P} {T} busy p q task Ends = (t : T) × (task ≡ Some t) × ((s : T) → (s ≡ t → ⊥) → busy p s → busy q s)
+
+module _ {P X T : Type 0} where
+  abbrev pub spent : View P X T
+  spent = record { lock = idle; pivot = saw []; looked = []; task = plain.None }
+
+  abbrev pub right_half : View P X T → View P X T
+  right_half v = record { lock = idle; pivot = saw v.pivot.seen; looked = v.looked; task = plain.None }
+
+  abbrev pub joined : View P X T → View P X T → View P X T
+  joined v w = record {
+    lock = record v.lock { had = v.lock.had ++ w.lock.had; met = v.lock.met ++ w.lock.met };
+    pivot = record v.pivot { seen = v.pivot.seen ++ w.pivot.seen; mine = v.pivot.mine ++ w.pivot.mine };
+    looked = v.looked ++ w.looked;
+    task = v.task;
+  }
+
+  abbrev pub with_ticket : ℕ → View P X T → View P X T
+  with_ticket t v = record v { lock = record v.lock { ticket = t } }
+
+  abbrev pub with_claim : ℕ → X → View P X T → View P X T
+  with_claim b x v = record v { lock = record v.lock { owes = v.lock.owes ++ (b, x) ∷ []; had = v.lock.had ++ (b, v.lock.ticket) ∷ [] } }
+
+  abbrev pub with_met : ℕ → ℕ → View P X T → View P X T
+  with_met b h v = record v { lock = record v.lock { met = v.lock.met ++ (b, h) ∷ [] } }
+
+  abbrev pub with_mets : List (ℕ × ℕ) → View P X T → View P X T
+  with_mets ms v = record v { lock = record v.lock { met = v.lock.met ++ ms } }
+
+  abbrev pub with_release : ℕ → View P X T → View P X T
+  with_release b v = record v { lock = record v.lock { owes = without b v.lock.owes } }
+
+  abbrev pub with_entry : P → View P X T → View P X T
+  with_entry p v = record v { pivot = record v.pivot { seen = p ∷ []; inside = true; posted = false } }
+
+  -- the seat found p and left q, and owes xs. A call that was posted is among its calls already
+  abbrev pub with_exit : Bool → TaskChange T → P → P → List (ℕ × X) → View P X T → View P X T
+  with_exit is_call change p q xs v = record {
+    lock = record v.lock { owes = xs };
+    pivot = record { seen = q ∷ []; mine = calls_with (is_call && not v.pivot.posted) v.pivot.mine p q; inside = false; posted = false };
+    looked = v.looked;
+    task = task_after change v.task;
+  }
+
+  -- the seat found p and shows q, and owes xs
+  abbrev pub with_post : P → P → List (ℕ × X) → View P X T → View P X T
+  with_post p q xs v = record v {
+    lock = record v.lock { owes = xs };
+    pivot = record { seen = q ∷ []; mine = v.pivot.mine ++ (p, q) ∷ []; inside = true; posted = true };
+  }
+
+  abbrev pub with_look : ℕ → ℕ → View P X T → View P X T
+  with_look f x v = record v { looked = v.looked ++ (f, x) ∷ [] }
+
+  abbrev pub drawn : Step (Slot P X T) → Sat P X T → ℕ → Sat P X T → Type 0
+  drawn st m n m' = (n ≡ st.first → (m' ≡ (with_ticket n m.0, m.1)) × (0 < n)) × (n ≢ st.first → m' ≡ m)
+
+  abbrev pub claimed : Step (Slot P X T) → Sat P X T → ℕ → Sat P X T → Type 0
+  claimed st m n m' = (b : ℕ) → st.word ≡ b + 2
+      → (n ≡ 0 → (x : X) × (m' ≡ (with_claim b x m.0, (b + 1, Value x) ∷ m.1)))
+      × (n ≢ 0 → (n ≢ m.0.lock.ticket) × (m' ≡ (with_met b n m.0, m.1)))
+
+  abbrev pub released : Step (Slot P X T) → Sat P X T → ℕ → Sat P X T → Type 0
+  released st m n m' = (b : ℕ) → st.word ≡ b + 2 → m' ≡ (with_release b m.0, rest m.1)
+
+  -- the pivot was found at home, and is what the ward says
+  abbrev pub entered : (P → Type 0) → (ℕ → P → X → Type 0) → (P → P → Type 0) → (P → ℕ → ℕ) → (P → T → Type 0) → Step (Slot P X T) → Sat P X T → ℕ → Sat P X T → Type 0
+  entered good fits grows posted busy st m n m' =
+      (n ≡ 0 → (p : P) × (m' ≡ (with_entry p m.0, (0, Pivot p) ∷ m.1)) × good p × ((q : P) → In q m.0.pivot.seen → grows q p) × ((b : ℕ) (x : X) → In (b, x) m.0.lock.owes → fits b p x)
+      × ((f x : ℕ) → In (f, x) m.0.looked → NotBack x (posted p f)) × ((t : T) → m.0.task ≡ Some t → busy p t))
+      × (n ≢ 0 → m' ≡ m)
+
+  -- the seat that was told what it leaves, and what it owes
+  abbrev pub left_as : List P → Option (Slot P X T) → Sat P X T → Sat P X T
+  left_as (p ∷ ps) (some (Announced a)) m = (with_exit a.is_call a.change.value p a.pivot.value a.held.value.items m.0, rest m.1)
+  left_as ps x m = m
+
+  abbrev pub posted_as : List P → Option (Slot P X T) → Sat P X T → Sat P X T
+  posted_as (p ∷ ps) (some (Announced a)) m = (with_post p a.pivot.value a.held.value.items m.0, m.1)
+  posted_as ps x m = m
+
+  -- the word of the fence was found at what the pivot says
+  abbrev pub read_back : (P → ℕ → ℕ) → Step (Slot P X T) → Sat P X T → ℕ → Sat P X T → Type 0
+  read_back posted st m n m' = (m' ≡ m) × ((f : ℕ) (p : P) → st.word ≡ st.slots + 1 + f → m.0.pivot.inside ≡ true → m.0.pivot.seen ≡ p ∷ [] → n ≡ posted p f)
+
+  abbrev pub posts_word : Step (Slot P X T) → Sat P X T → ℕ → Sat P X T → Type 0
+  posts_word st m n m' = m' ≡ posted_as m.0.pivot.seen st.said m
+
+  -- a fence word was looked at. It has not gone back
+  abbrev pub looks_at : (P → ℕ → ℕ) → Step (Slot P X T) → Sat P X T → ℕ → Sat P X T → Type 0
+  looks_at posted st m n m' = (f : ℕ) → st.word ≡ st.slots + 1 + f
+      → (m' ≡ (with_look f n m.0, m.1)) × ((p : P) → In p m.0.pivot.seen → NotBack (posted p f) n) × ((x : ℕ) → In (f, x) m.0.looked → NotBack x n)
+
+  abbrev pub left : Step (Slot P X T) → Sat P X T → ℕ → Sat P X T → Type 0
+  left st m n m' = m' ≡ left_as m.0.pivot.seen st.said m
+
+  -- a joined seat has put its calls in order, and has seen the last of what it saw
+  abbrev pub settled : (P → P → Type 0) → Step (Slot P X T) → Sat P X T → ℕ → Sat P X T → Type 0
+  settled grows st m n m' = (p : P) × (cs : List (P × P)) × (m' ≡ (record m.0 { pivot = record m.0.pivot { seen = p ∷ []; mine = cs } }, m.1))
+      × IsChain grows cs × ((c : P × P) → (In c m.0.pivot.mine → In c cs) × (In c cs → In c m.0.pivot.mine)) × In p m.0.pivot.seen × ((q : P) → In q m.0.pivot.seen → grows q p) × ((c : P × P) → In c cs → grows c.1 p)

@@ -1,0 +1,117 @@
+//! The table that the threads share.
+//! Word 0 counts tickets, word 1 is 0 where the pivot is at home and 1 where it is out, and word b + 2 is 0 where value b is at home, or the ticket of its holder.
+//! The words after those are the fences'.
+//! Slot 0 is the pivot's and slot b + 1 that of value b.
+ghost use Rattle.std.specs.Prelude.{◌≡◌, ◌+◌, ◌≤◌};
+
+use crate::ward::Ward;
+use atomic_table::{Seat, Table, TableRule};
+use drm_types::BufferId;
+use std::alloc::Global;
+use std::collections::LinkedList;
+use std::marker::PhantomData;
+use std::snapshot::Snapshot;
+
+/// What lies in a slot of the table.
+#[derive(Drop)]
+pub enum Slot<P, X, T> {
+    Pivot(P),
+    Value(X),
+    /// Nothing: a caller has it.
+    Gone,
+    /// What a step announces. It is never in a slot.
+    Announced(Announcement<P, X, T>),
+}
+
+/// What a call does to the task of its caller: nothing, begin one, or end it.
+#[derive(Drop)]
+pub enum TaskChange<T> {
+    Same,
+    Begins(T),
+    Ends,
+}
+
+/// What a step announces: the pivot and the values that it leaves, what becomes of the task, and whether the seat's calls gain one.
+#[derive(Drop)]
+pub struct Announcement<P, X, T> {
+    pub pivot: Snapshot<P>,
+    pub held: Snapshot<Vec<(BufferId, X)>>,
+    pub change: Snapshot<TaskChange<T>>,
+    pub is_call: bool,
+}
+
+/// What a seat knows of the values. No value of it is made.
+pub struct LockView<X> {
+    /// The ticket that it drew last, or 0.
+    pub ticket: u64,
+    /// What it holds, and what it owes for each.
+    pub owes: LinkedList<(u32, X)>,
+    /// Each claim that it made, with the ticket of the time.
+    pub had: LinkedList<(u32, u64)>,
+    /// Each holder that its failed tries found.
+    pub met: LinkedList<(u32, u64)>,
+}
+
+/// What a seat knows of the pivot. No value of it is made.
+pub struct PivotView<P> {
+    /// The pivot that it saw last. A spent seat has none, and a joined one has two until it has looked.
+    pub seen: LinkedList<P>,
+    /// Its calls, each as the pivot found and the pivot left.
+    pub mine: LinkedList<(P, P)>,
+    pub inside: bool,
+    /// A fence word was posted since the entry.
+    pub posted: bool,
+}
+
+/// What a seat knows. No value of it is made.
+pub struct View<P, X, T> {
+    pub lock: LockView<X>,
+    pub pivot: PivotView<P>,
+    /// The fence words that its looks found.
+    pub looked: LinkedList<(u32, u64)>,
+    pub task: Option<T>,
+}
+
+/// What a board starts with: the pivot, and how many fence words it has.
+#[derive(Drop)]
+pub struct Start<P> {
+    pub pivot: Snapshot<P>,
+    pub posts: u32,
+}
+
+/// What holds of the table between any two steps.
+pub struct Rule<W> {
+    ward: PhantomData<W>,
+}
+
+impl<W: Ward> TableRule<
+    Slot<W::Pivot, W::Value, W::Task>,
+    View<W::Pivot, W::Value, W::Task>,
+    Start<W::Pivot>,
+> for Rule<W> {
+    ghost use Rattle.ww_lock.specs.Rule.{Keeps, newcomer};
+
+    ghost holds = { λ key. Keeps W.good W.fits W.grows W.posted W.busy key.posts };
+
+    ghost first = { λ key. newcomer key.pivot.value };
+}
+
+pub(crate) type Place<P, X, T> = Seat<Slot<P, X, T>, View<P, X, T>>;
+
+pub(crate) type Tables<W> = Table<
+    Slot<<W as Ward>::Pivot, <W as Ward>::Value, <W as Ward>::Task>,
+    View<<W as Ward>::Pivot, <W as Ward>::Value, <W as Ward>::Task>,
+    Start<<W as Ward>::Pivot>,
+    Rule<W>,
+    Global,
+>;
+
+/// The table of values and the pivot (the locks of one `ww_class`), which callers share by reference.
+#[derive(Drop)]
+pub struct Board<W: Ward> {
+    pub(crate) table: Tables<W>,
+    pub(crate) buffers: u32,
+    pub(crate) posts: u32,
+    pub(crate) alloc: Global,
+    ghost sized: { (table.shared.table_id.words ≡ buffers + 2 + posts) × (table.shared.key.posts ≡ posts) × (table.shared.table_id.slots ≡ buffers + 1) × (buffers ≤ 64) },
+}

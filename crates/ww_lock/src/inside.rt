@@ -1,0 +1,275 @@
+//! How seats are split and joined, how a caller takes the pivot and brings it home, and how fence words are shown and read.
+ghost use Rattle.std.specs.Prelude.{◌≡◌, ◌≢◌, ◌<◌, ◌+◌, ℕ, List, [], ◌∷◌, true, false, Option, Some, None};
+ghost use Rattle.atomic_table.specs.Table.{rest};
+ghost use Rattle.ww_lock.specs.Fences.{NotBack};
+ghost use Rattle.ww_lock.specs.Rule.{In};
+ghost use Rattle.ww_lock.specs.Held.{IsSameKeys};
+ghost use Rattle.ww_lock.specs.Acquiring.{HoldsOutside, HoldsInside, IsSameAcquire, view};
+ghost use Rattle.ww_lock.specs.Begun.{IsOutside, IsInside, IsJoined, sees};
+ghost use Rattle.ww_lock.specs.Leaving.{MayLeave, MayLeaveWith, MayPost, MayPostWith};
+ghost use Rattle.ww_lock.specs.Steps.{with_entry, with_exit, with_look, with_post, right_half};
+ghost use Rattle.ww_lock.specs.declared.board.Slot.TheVariants.{Gone};
+
+use crate::acquire::Acquire;
+use crate::board::{Board, Place, Slot, TaskChange};
+use crate::lifetime::Seat;
+use crate::steps::{SharedTable, enter, join, leave, look, post, read_back, settle, split};
+use crate::ward::Ward;
+use drm_types::{BufferId, FenceId};
+use std::snapshot::Snapshot;
+use std::sync::Wait;
+
+// Waits until the pivot is at home, and takes it.
+fn take_pivot<W: Ward, R: Wait>(
+    shared: &SharedTable<W>,
+    place: &mut Place<W::Pivot, W::Value, W::Task>,
+    rt: &R,
+) -> W::Pivot
+    requires { (place.old.table_id ≡ shared.now.table_id) × (1 < shared.now.table_id.words) }
+    ensures seat { (place.new.table_id ≡ place.old.table_id) × (place.new.id ≡ place.old.id) }
+    ensures entered { place.new.me ≡ (with_entry result place.old.me.0, (0, Gone) ∷ place.old.me.1) }
+    ensures good { W.good result }
+    ensures grows { (q : W.Pivot) → In q place.old.me.0.pivot.seen → W.grows q result }
+    ensures fits { (b : ℕ) (x : W.Value) → In (b, x) place.old.me.0.lock.owes → W.fits b result x }
+    ensures looked { (f x : ℕ) → In (f, x) place.old.me.0.looked → NotBack x (W.posted result f) }
+    ensures busy { (t : W.Task) → place.old.me.0.task ≡ Some t → W.busy result t }
+{
+    for _ in rt.forever() {
+        if enter(shared, place) == 0 {
+            let Slot::Pivot(pivot) = shared.exchange(place, 0, Slot::Gone) else {
+                unreachable!()
+            };
+            return pivot;
+        }
+        shared.park(rt, 1, 1);
+    }
+    unreachable!()
+}
+
+// Brings the pivot home. What is held is owed from now on.
+fn bring_home<W: Ward>(
+    shared: &SharedTable<W>,
+    place: &mut Place<W::Pivot, W::Value, W::Task>,
+    pivot: W::Pivot,
+    held: &Vec<(BufferId, W::Value)>,
+    change: &TaskChange<W::Task>,
+    is_call: bool,
+)
+    requires table { (place.old.table_id ≡ shared.now.table_id) × (1 < shared.now.table_id.words) }
+    requires seat { (place.old.me.0.pivot.inside ≡ true) × (place.old.me.1 ≡ (0, Gone) ∷ rest place.old.me.1) × IsSameKeys place.old.me.0.lock.owes held.now.items }
+    requires facts { MayLeaveWith W.good W.fits W.grows W.posted W.busy place.old.me.0 held.now.items pivot change.now }
+    ensures seat { (place.new.table_id ≡ place.old.table_id) × (place.new.id ≡ place.old.id) }
+    ensures left { (p : W.Pivot) × (place.old.me.0.pivot.seen ≡ p ∷ []) × (place.new.me ≡ (with_exit is_call change.now p pivot held.now.items place.old.me.0, rest place.old.me.1)) }
+{
+    let told = Snapshot::of(&pivot);
+    shared.exchange(place, 0, Slot::Pivot(pivot));
+    leave(shared, place, told, held, change, is_call);
+    shared.wake_one(1);
+}
+
+// Shows the pivot by the word of a fence.
+fn show<W: Ward>(
+    shared: &SharedTable<W>,
+    place: &mut Place<W::Pivot, W::Value, W::Task>,
+    at: usize,
+    fence: FenceId,
+    word: u64,
+    pivot: &W::Pivot,
+    held: &Vec<(BufferId, W::Value)>,
+)
+    requires table { (place.old.table_id ≡ shared.now.table_id) × (at ≡ shared.now.table_id.slots + 1 + fence) × (at < shared.now.table_id.words) × (fence < shared.now.key.posts) }
+    requires seat { (place.old.me.0.pivot.inside ≡ true) × IsSameKeys place.old.me.0.lock.owes held.now.items }
+    requires facts { MayPostWith W.good W.fits W.grows W.posted W.busy place.old.me.0 held.now.items pivot.now fence word }
+    ensures seat { (place.new.table_id ≡ place.old.table_id) × (place.new.id ≡ place.old.id) }
+    ensures posted { (p : W.Pivot) × (place.old.me.0.pivot.seen ≡ p ∷ []) × (place.new.me ≡ (with_post p pivot.now held.now.items place.old.me.0, place.old.me.1)) }
+{
+    let old = read_back(shared, place, at, fence);
+    let told = Snapshot::of(pivot);
+    post(shared, place, at, fence, old, word, told, held);
+}
+
+impl<W: Ward> Board<W> {
+    /// Makes a second seat, for another caller. It has seen what the first has seen, and has made no calls.
+    pub fn split(
+        &self,
+        seat: Seat<W::Pivot, W::Value, W::Task>,
+    ) -> (
+        Seat<W::Pivot, W::Value, W::Task>,
+        Seat<W::Pivot, W::Value, W::Task>,
+    )
+        requires { IsOutside self.now.table.shared.table_id seat × ((sees seat).task ≡ None) }
+        ensures seats { IsOutside self.now.table.shared.table_id result.0 × IsOutside self.now.table.shared.table_id result.1 }
+        ensures views { (sees result.0 ≡ sees seat) × (sees result.1 ≡ right_half (sees seat)) }
+    {
+        let Seat { mut place } = seat;
+        let other = split(&self.table.shared, &mut place);
+        (Seat { place }, Seat { place: other })
+    }
+
+    /// Makes one seat of two. The calls of both stand in one order, in which each was left before the next was found.
+    pub fn join(
+        &self,
+        one: Seat<W::Pivot, W::Value, W::Task>,
+        other: Seat<W::Pivot, W::Value, W::Task>,
+    ) -> Seat<W::Pivot, W::Value, W::Task>
+        requires seats { IsOutside self.now.table.shared.table_id one × IsOutside self.now.table.shared.table_id other }
+        requires idle { ((sees one).task ≡ None) × ((sees other).task ≡ None) }
+        requires seen { (q : W.Pivot) × (qs : List W.Pivot) × ((sees one).pivot.seen ≡ q ∷ qs) }
+        ensures seat { IsOutside self.now.table.shared.table_id result }
+        ensures view { IsJoined W.grows (sees one) (sees other) (sees result) }
+    {
+        let Seat { mut place } = one;
+        let Seat { place: second } = other;
+        join(&self.table.shared, &mut place, second);
+        settle(&self.table.shared, &mut place);
+        Seat { place }
+    }
+
+    /// Waits until the pivot is at home, and takes it. Nobody else has it until the caller leaves.
+    pub fn enter<R: Wait>(&self, seat: &mut Seat<W::Pivot, W::Value, W::Task>, rt: &R) -> W::Pivot
+        requires { IsOutside self.now.table.shared.table_id seat.old }
+        ensures seat { IsInside self.now.table.shared.table_id seat.new }
+        ensures view { sees seat.new ≡ with_entry result (sees seat.old) }
+        ensures good { W.good result }
+        ensures grows { (q : W.Pivot) → In q (sees seat.old).pivot.seen → W.grows q result }
+        ensures looked { (f x : ℕ) → In (f, x) (sees seat.old).looked → NotBack x (W.posted result f) }
+        ensures busy { (t : W.Task) → (sees seat.old).task ≡ Some t → W.busy result t }
+    {
+        take_pivot(&self.table.shared, &mut seat.place, rt)
+    }
+
+    /// `enter` for a caller that holds values: each of them fits the pivot found, as it is owed.
+    pub fn enter_with<R: Wait>(
+        &self,
+        acquire: &mut Acquire<W::Pivot, W::Value, W::Task>,
+        rt: &R,
+    ) -> W::Pivot
+        requires { HoldsOutside self.now.table.shared.table_id acquire.old }
+        ensures holds { HoldsInside self.now.table.shared.table_id acquire.new }
+        ensures same { IsSameAcquire acquire.old acquire.new × (acquire.new.held ≡ acquire.old.held) }
+        ensures view { view acquire.new ≡ with_entry result (view acquire.old) }
+        ensures good { W.good result }
+        ensures grows { (q : W.Pivot) → In q (view acquire.old).pivot.seen → W.grows q result }
+        ensures fits { (b : ℕ) (x : W.Value) → In (b, x) (view acquire.old).lock.owes → W.fits b result x }
+        ensures looked { (f x : ℕ) → In (f, x) (view acquire.old).looked → NotBack x (W.posted result f) }
+        ensures busy { (t : W.Task) → (view acquire.old).task ≡ Some t → W.busy result t }
+    {
+        take_pivot(&self.table.shared, &mut acquire.place, rt)
+    }
+
+    /// Brings the pivot home. `change` says whether a task begins or ends with this call, and `is_call` whether the
+    /// caller's calls gain one: a call that only waits, or that was posted already, adds none.
+    pub fn leave(
+        &self,
+        seat: &mut Seat<W::Pivot, W::Value, W::Task>,
+        pivot: W::Pivot,
+        change: &TaskChange<W::Task>,
+        is_call: bool,
+    )
+        requires seat { IsInside self.now.table.shared.table_id seat.old }
+        requires facts { MayLeave W.good W.fits W.grows W.posted W.busy (sees seat.old) pivot change.now }
+        requires posted { (sees seat.old).pivot.posted ≡ true → (sees seat.old).pivot.seen ≡ pivot ∷ [] }
+        ensures seat { IsOutside self.now.table.shared.table_id seat.new }
+        ensures view { (p : W.Pivot) × ((sees seat.old).pivot.seen ≡ p ∷ []) × (sees seat.new ≡ with_exit is_call change.now p pivot [] (sees seat.old)) }
+    {
+        let held: Vec<(BufferId, W::Value)> = Vec::new(self.alloc);
+        bring_home(
+            &self.table.shared,
+            &mut seat.place,
+            pivot,
+            &held,
+            change,
+            is_call,
+        );
+    }
+
+    /// `leave` for a caller that holds values. It owes them from now on as they are.
+    pub fn leave_with(
+        &self,
+        acquire: &mut Acquire<W::Pivot, W::Value, W::Task>,
+        pivot: W::Pivot,
+        change: &TaskChange<W::Task>,
+        is_call: bool,
+    )
+        requires holds { HoldsInside self.now.table.shared.table_id acquire.old }
+        requires facts { MayLeaveWith W.good W.fits W.grows W.posted W.busy (view acquire.old) acquire.old.held.items pivot change.now }
+        requires posted { (view acquire.old).pivot.posted ≡ true → (view acquire.old).pivot.seen ≡ pivot ∷ [] }
+        ensures holds { HoldsOutside self.now.table.shared.table_id acquire.new }
+        ensures same { IsSameAcquire acquire.old acquire.new × (acquire.new.held ≡ acquire.old.held) }
+        ensures view { (p : W.Pivot) × ((view acquire.old).pivot.seen ≡ p ∷ []) × (view acquire.new ≡ with_exit is_call change.now p pivot acquire.old.held.items (view acquire.old)) }
+    {
+        let owed = &acquire.held;
+        bring_home(
+            &self.table.shared,
+            &mut acquire.place,
+            pivot,
+            owed,
+            change,
+            is_call,
+        );
+    }
+
+    /// The word of a fence, by one load. It never goes back: from 0 to 1, and from there to a final word from 2 up.
+    pub fn look(&self, seat: &mut Seat<W::Pivot, W::Value, W::Task>, fence: FenceId) -> u64
+        requires { (seat.old.place.table_id ≡ self.now.table.shared.table_id) × (fence < self.now.posts) }
+        ensures seat { (seat.new.place.table_id ≡ seat.old.place.table_id) × (seat.new.place.me ≡ (with_look fence result (sees seat.old), seat.old.place.me.1)) }
+        ensures seen { (p : W.Pivot) → In p (sees seat.old).pivot.seen → NotBack (W.posted p fence) result }
+        ensures looked { (x : ℕ) → In (fence, x) (sees seat.old).looked → NotBack x result }
+    {
+        let word = self.buffers as usize + 2 + fence as usize;
+        look(&self.table.shared, &mut seat.place, word, fence)
+    }
+
+    /// Shows what becomes of the pivot by the word of a fence, before the pivot is brought home. At most once before
+    /// the caller leaves, which then leaves this very pivot.
+    pub fn post(
+        &self,
+        seat: &mut Seat<W::Pivot, W::Value, W::Task>,
+        fence: FenceId,
+        word: u64,
+        pivot: &W::Pivot,
+    )
+        requires seat { IsInside self.now.table.shared.table_id seat.old × ((sees seat.old).pivot.posted ≡ false) × (fence < self.now.posts) }
+        requires facts { MayPost W.good W.fits W.grows W.posted W.busy (sees seat.old) pivot.now fence word }
+        ensures seat { IsInside self.now.table.shared.table_id seat.new }
+        ensures view { (p : W.Pivot) × ((sees seat.old).pivot.seen ≡ p ∷ []) × (sees seat.new ≡ with_post p pivot.now [] (sees seat.old)) }
+    {
+        let at = self.buffers as usize + 2 + fence as usize;
+        let held: Vec<(BufferId, W::Value)> = Vec::new(self.alloc);
+        show(
+            &self.table.shared,
+            &mut seat.place,
+            at,
+            fence,
+            word,
+            pivot,
+            &held,
+        );
+    }
+
+    /// `post` for a caller that holds values. It owes them from now on as they are.
+    pub fn post_with(
+        &self,
+        acquire: &mut Acquire<W::Pivot, W::Value, W::Task>,
+        fence: FenceId,
+        word: u64,
+        pivot: &W::Pivot,
+    )
+        requires holds { HoldsInside self.now.table.shared.table_id acquire.old × ((view acquire.old).pivot.posted ≡ false) × (fence < self.now.posts) }
+        requires facts { MayPostWith W.good W.fits W.grows W.posted W.busy (view acquire.old) acquire.old.held.items pivot.now fence word }
+        ensures holds { HoldsInside self.now.table.shared.table_id acquire.new }
+        ensures same { IsSameAcquire acquire.old acquire.new × (acquire.new.held ≡ acquire.old.held) }
+        ensures view { (p : W.Pivot) × ((view acquire.old).pivot.seen ≡ p ∷ []) × (view acquire.new ≡ with_post p pivot.now acquire.old.held.items (view acquire.old)) }
+    {
+        let at = self.buffers as usize + 2 + fence as usize;
+        show(
+            &self.table.shared,
+            &mut acquire.place,
+            at,
+            fence,
+            word,
+            pivot,
+            &acquire.held,
+        );
+    }
+}

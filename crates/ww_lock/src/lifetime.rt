@@ -1,0 +1,123 @@
+//! How a board is made and taken apart.
+ghost use Rattle.std.specs.Prelude.{◌≡◌, ◌<◌, ◌≤◌, ◌+◌, ◌^◌, ℕ, [], ◌∷◌, length, IfOk, OnErr, MatchResult, Option, Some, None, vec_len, vec_capacity, Result};
+ghost use Rattle.ww_lock.specs.Rule.{In, newcomer};
+ghost use Rattle.ww_lock.specs.Lifetime.{FitsAll, Filled, AllFit};
+ghost use Rattle.ww_lock.specs.Begun.{IsOutside, sees};
+
+use crate::board::{Board, Place, Slot, Start, Tables};
+use crate::ward::Ward;
+use atomic_table::Table;
+use std::alloc::{AllocError, Global};
+use std::snapshot::Snapshot;
+
+/// A pass to a board, for one caller. It has no bytes, and what it knows is said by clauses alone.
+#[derive(Drop)]
+pub struct Seat<P, X, T> {
+    pub(crate) place: Place<P, X, T>,
+}
+
+/// The pivot was out when the board was closed.
+#[derive(Drop)]
+pub struct Inside;
+
+fn slots_of<P: Drop, X: Drop, T: Drop>(
+    alloc: Global,
+    pivot: P,
+    values: Vec<X>,
+) -> Result<Vec<Slot<P, X, T>>, AllocError>
+    ensures { IfOk result (λ s. Filled pivot values.items s.items) }
+{
+    let mut slots = Vec::with_capacity(alloc, values.len() + 1)?;
+    slots.push_reserved(Slot::Pivot(pivot));
+    for value in values {
+        slots.push_reserved(Slot::Value(value));
+    }
+    Ok(slots)
+}
+
+impl<W: Ward> Board<W> {
+    /// A board of at most 64 values, of a pivot that all of them fit, and of `posts` fence words, which start at 0;
+    /// and the first seat. It refuses where memory does.
+    pub fn new(
+        alloc: Global,
+        pivot: W::Pivot,
+        values: Vec<W::Value>,
+        posts: u32,
+    ) -> Result<(Board<W>, Seat<W::Pivot, W::Value, W::Task>), AllocError>
+        requires size { vec_len values ≤ 64 }
+        requires blank { (f : ℕ) → W.posted pivot f ≡ 0 }
+        requires facts { W.good pivot × AllFit (λ b x. W.fits b pivot x) 0 values.items }
+        ensures board { IfOk result (λ t. (t.0.buffers ≡ vec_len values) × (t.0.posts ≡ posts)) }
+        ensures seat { IfOk result (λ t. IsOutside t.0.table.shared.table_id t.1 × (sees t.1 ≡ newcomer pivot)) }
+    {
+        let buffers = values.len();
+        let key = Start {
+            pivot: Snapshot::of(&pivot),
+            posts,
+        };
+        let mut words = Vec::from_elem(alloc, 0u64, buffers + 2 + posts as usize)?;
+        words[0] = 1;
+        let slots = slots_of(alloc, pivot, values)?;
+        let (table, place): (Tables<W>, Place<W::Pivot, W::Value, W::Task>) = match Table::new(
+            alloc,
+            words.as_slice(),
+            slots,
+            &key,
+        ) {
+            Ok(made) => made,
+            Err(_refused) => return Err(AllocError),
+        };
+        Ok((
+            Board {
+                table,
+                buffers: buffers as u32,
+                posts,
+                alloc,
+            },
+            Seat { place },
+        ))
+    }
+
+    /// Takes a board apart: the pivot, and each value into `out`, in order. A value that was out comes as `None`.
+    pub fn close(
+        self,
+        seat: Seat<W::Pivot, W::Value, W::Task>,
+        out: &mut Vec<Option<W::Value>>,
+    ) -> Result<W::Pivot, Inside>
+        requires seat { seat.place.table_id ≡ self.table.shared.table_id }
+        requires out { (out.old.items ≡ []) × (self.buffers ≤ vec_capacity out.old) }
+        ensures pivot { MatchResult result (λ p. W.good p × ((q : W.Pivot) → In q seat.place.me.0.pivot.seen → W.grows q p) × FitsAll (λ b x. W.fits b p x) 0 out.new.items) (λ _. Unit {0}) }
+        ensures length { vec_len out.new ≡ self.buffers }
+    {
+        let Board {
+            table,
+            buffers,
+            posts: _,
+            alloc: _,
+        } = self;
+        let Seat { place } = seat;
+        let mut closed = table.close_with(place);
+        let at = closed.word(1);
+        let pivot = closed.take(0);
+        for b in 0..buffers as usize {
+            let holder = closed.word(b + 2);
+            let slot = closed.take(b + 1);
+            if holder == 0 {
+                let Slot::Value(value) = slot else {
+                    unreachable!()
+                };
+                out.push_reserved(Some(value));
+            } else {
+                out.push_reserved(None);
+            }
+        }
+        closed.free();
+        if at != 0 {
+            return Err(Inside);
+        }
+        let Slot::Pivot(pivot) = pivot else {
+            unreachable!()
+        };
+        Ok(pivot)
+    }
+}

@@ -1,0 +1,149 @@
+//! How values are claimed and given back.
+ghost use Rattle.std.specs.Prelude.{◌≡◌, ◌<◌, ◌+◌, ℕ, [], true, MatchResult};
+ghost use Rattle.ww_lock.specs.Acquiring.{HoldsOutside, IsSameAcquire, AnswersTry, AnswersLock, Claimed, view};
+ghost use Rattle.ww_lock.specs.Rule.{In};
+ghost use Rattle.ww_lock.specs.Steps.{with_release, without};
+ghost use Rattle.ww_lock.specs.Held.{HasAt};
+
+use crate::acquire::{Acquire, place_of};
+use crate::board::Board;
+use crate::steps::{bring, claim, pull, release};
+use crate::ward::Ward;
+use drm_types::{BufferId, Ticket};
+use std::sync::Wait;
+
+/// Why a try did not lock.
+#[derive(Debug, PartialEq, Eq, Drop)]
+pub enum TryLockError {
+    /// The caller has said that it locks no more (`ww_acquire_done`).
+    Sealed,
+    /// The caller holds the value already (`EALREADY`).
+    Already,
+    /// The holder drew its ticket earlier, so the caller has to back off if it holds anything.
+    Older { holder: Ticket },
+    /// The holder drew its ticket later, so the caller may wait.
+    Younger { holder: Ticket },
+}
+
+/// Why a lock was not taken.
+#[derive(Debug, PartialEq, Eq, Drop)]
+pub enum LockError {
+    /// The caller has said that it locks no more (`ww_acquire_done`).
+    Sealed,
+    /// The caller holds the value already (`EALREADY`).
+    Already,
+    /// The holder drew its ticket earlier and the caller holds something, which it has to give back first (`EDEADLK`).
+    Backoff { holder: Ticket },
+}
+
+/// The caller has said that it locks no more (`ww_acquire_done`).
+#[derive(Debug, PartialEq, Eq, Drop)]
+pub struct Sealed;
+
+impl<W: Ward> Board<W> {
+    /// Locks a value if it is at home, and never waits (`ww_mutex_trylock`). Else it says who holds the value.
+    pub fn try_lock(
+        &self,
+        acquire: &mut Acquire<W::Pivot, W::Value, W::Task>,
+        buffer: BufferId,
+    ) -> Result<(), TryLockError>
+        requires { HoldsOutside self.now.table.shared.table_id acquire.old × (buffer < self.now.buffers) }
+        ensures holds { HoldsOutside self.now.table.shared.table_id acquire.new }
+        ensures answers { AnswersTry buffer acquire.old acquire.new result }
+    {
+        if acquire.sealed {
+            return Err(TryLockError::Sealed);
+        }
+        if let Some(_) = place_of(&acquire.held, buffer) {
+            return Err(TryLockError::Already);
+        }
+        let shared = &self.table.shared;
+        let ticket = acquire.ticket;
+        let found = claim(shared, &mut acquire.place, buffer, ticket);
+        if found == 0 {
+            let value = pull(shared, &mut acquire.place, buffer);
+            acquire.held.push_reserved((buffer, value));
+            return Ok(());
+        }
+        if found < ticket {
+            Err(TryLockError::Older { holder: found })
+        } else {
+            Err(TryLockError::Younger { holder: found })
+        }
+    }
+
+    /// Locks a value (`ww_mutex_lock`). It waits for a younger holder, and for any holder where the caller holds nothing.
+    pub fn lock<R: Wait>(
+        &self,
+        acquire: &mut Acquire<W::Pivot, W::Value, W::Task>,
+        buffer: BufferId,
+        rt: &R,
+    ) -> Result<(), LockError>
+        requires { HoldsOutside self.now.table.shared.table_id acquire.old × (buffer < self.now.buffers) }
+        ensures holds { HoldsOutside self.now.table.shared.table_id acquire.new }
+        ensures answers { AnswersLock buffer acquire.old acquire.new result }
+    {
+        for _ in rt.forever() {
+            let Err(refusal) = self.try_lock(acquire, buffer) else {
+                return Ok(());
+            };
+            let holder = match refusal {
+                TryLockError::Sealed => return Err(LockError::Sealed),
+                TryLockError::Already => return Err(LockError::Already),
+                TryLockError::Older { holder } => {
+                    if acquire.held.len() > 0 {
+                        return Err(LockError::Backoff { holder });
+                    }
+                    holder
+                }
+                TryLockError::Younger { holder } => holder,
+            };
+            let low = (holder & 0xffff_ffff) as u32;
+            self.table
+                .shared
+                .park(rt, buffer.number() as usize + 2, low);
+        }
+        unreachable!()
+    }
+
+    /// Locks the value for which the caller backed off, and waits for whoever holds it (`ww_mutex_lock_slow`).
+    pub fn lock_slow<R: Wait>(
+        &self,
+        acquire: &mut Acquire<W::Pivot, W::Value, W::Task>,
+        buffer: BufferId,
+        rt: &R,
+    ) -> Result<(), Sealed>
+        requires { HoldsOutside self.now.table.shared.table_id acquire.old × (buffer < self.now.buffers) × (acquire.old.held.items ≡ []) }
+        ensures holds { HoldsOutside self.now.table.shared.table_id acquire.new }
+        ensures answers { MatchResult result (λ _. Claimed buffer acquire.old acquire.new) (λ _. (acquire.old.sealed ≡ true) × (acquire.new ≡ acquire.old)) }
+    {
+        match self.lock(acquire, buffer, rt) {
+            Ok(()) => Ok(()),
+            Err(LockError::Sealed) => Err(Sealed),
+            Err(LockError::Already) => unreachable!(),
+            Err(LockError::Backoff { holder: _ }) => unreachable!(),
+        }
+    }
+
+    /// Gives a value back (`ww_mutex_unlock`), and wakes those who wait for it.
+    pub fn release(&self, acquire: &mut Acquire<W::Pivot, W::Value, W::Task>, buffer: BufferId)
+        requires holds { HoldsOutside self.now.table.shared.table_id acquire.old }
+        requires held { (i : ℕ) × HasAt buffer i acquire.old.held.items }
+        requires fits { (x y : W.Value) → In (buffer, x) (view acquire.old).lock.owes → In (buffer, y) acquire.old.held.items → (p : W.Pivot) → W.fits buffer p x → W.fits buffer p y }
+        ensures holds { HoldsOutside self.now.table.shared.table_id acquire.new }
+        ensures same { IsSameAcquire acquire.old acquire.new }
+        ensures view { view acquire.new ≡ with_release buffer (view acquire.old) }
+        ensures held { acquire.new.held.items ≡ without buffer acquire.old.held.items }
+    {
+        let Some(i) = place_of(&acquire.held, buffer) else {
+            unreachable!()
+        };
+        let shared = &self.table.shared;
+        let (_, value) = acquire.held.remove(i);
+        bring(&mut acquire.place, i);
+        release(shared, &mut acquire.place, buffer, value);
+        let later = acquire.held.len() - i;
+        bring(&mut acquire.place, later);
+        shared.wake_all(buffer.number() as usize + 2);
+    }
+}

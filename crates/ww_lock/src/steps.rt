@@ -1,0 +1,226 @@
+//! The steps on the table.
+ghost use Rattle.std.specs.Prelude.{◌≡◌, ◌≢◌, ◌<◌, ◌≤◌, ◌^◌, ◌+◌, [], ◌∷◌, ◌++◌, true, false, ℕ, List};
+ghost use Rattle.ww_lock.specs.Rule.{In};
+ghost use Rattle.ww_lock.specs.Held.{IsSameKeys, turned_by};
+ghost use Rattle.ww_lock.specs.Steps.{drawn, claimed, entered, settled, with_exit, with_release, with_post, with_look, right_half, joined};
+ghost use Rattle.ww_lock.specs.Leaving.{MayLeaveWith};
+ghost use Rattle.ww_lock.specs.Fences.{NotBack};
+ghost use Rattle.atomic_table.specs.Table.{step, rest};
+ghost use Rattle.ww_lock.specs.declared.board.Slot.TheVariants.{Pivot, Value, Gone};
+ghost use mathlib.Core.Option.{none};
+
+use crate::board::{Announcement, Place, Rule, Slot, Start, TaskChange, View};
+use crate::plays::{Claim, Draw, Enter, Halves, Leave, Look, Post, ReadBack, Release, Settle};
+use crate::ward::Ward;
+use atomic_table::Shared;
+use drm_types::BufferId;
+use std::snapshot::Snapshot;
+
+pub(crate) type SharedTable<W> = Shared<
+    Slot<<W as Ward>::Pivot, <W as Ward>::Value, <W as Ward>::Task>,
+    View<<W as Ward>::Pivot, <W as Ward>::Value, <W as Ward>::Task>,
+    Start<<W as Ward>::Pivot>,
+    Rule<W>,
+>;
+
+// Where the counter is `old`, that is the seat's ticket.
+pub(crate) fn draw<W: Ward>(
+    shared: &SharedTable<W>,
+    place: &mut Place<W::Pivot, W::Value, W::Task>,
+    old: u64,
+) -> u64
+    requires { (place.old.table_id ≡ shared.now.table_id) × (1 < shared.now.table_id.words) × (old < 2 ^ 63) × (place.old.me.0.lock.owes ≡ []) }
+    ensures seat { (place.new.table_id ≡ place.old.table_id) × (place.new.id ≡ place.old.id) }
+    ensures drawn { drawn (step shared.now.table_id.slots 0 old (old + 1) none) place.old.me result place.new.me }
+{
+    shared.compare_exchange::<Draw>(place, 0, old, old + 1)
+}
+
+// Where the word of `buffer` is 0, the seat takes it.
+pub(crate) fn claim<W: Ward>(
+    shared: &SharedTable<W>,
+    place: &mut Place<W::Pivot, W::Value, W::Task>,
+    buffer: BufferId,
+    ticket: u64,
+) -> u64
+    requires table { (place.old.table_id ≡ shared.now.table_id) × (shared.now.table_id.slots + 1 ≤ shared.now.table_id.words) × (buffer + 1 < shared.now.table_id.slots) }
+    requires seat { (place.old.me.0.lock.ticket ≡ ticket) × (0 < ticket) }
+    requires free { (x : W.Value) → In (buffer, x) place.old.me.0.lock.owes → ⊥ }
+    ensures seat { (place.new.table_id ≡ place.old.table_id) × (place.new.id ≡ place.old.id) }
+    ensures claimed { claimed (step shared.now.table_id.slots (buffer + 2) 0 ticket none) place.old.me result place.new.me }
+{
+    shared.compare_exchange::<Claim>(place, buffer.number() as usize + 2, 0, ticket)
+}
+
+// Puts the value back into its slot, which was taken last, and gives the slot back.
+pub(crate) fn release<W: Ward>(
+    shared: &SharedTable<W>,
+    place: &mut Place<W::Pivot, W::Value, W::Task>,
+    buffer: BufferId,
+    value: W::Value,
+)
+    requires table { (place.old.table_id ≡ shared.now.table_id) × (shared.now.table_id.slots + 1 ≤ shared.now.table_id.words) × (buffer + 1 < shared.now.table_id.slots) }
+    requires seat { place.old.me.1 ≡ (buffer + 1, Gone) ∷ rest place.old.me.1 }
+    requires fits { (x : W.Value) × In (buffer, x) place.old.me.0.lock.owes × ((p : W.Pivot) → W.fits buffer p x → W.fits buffer p value) }
+    ensures seat { (place.new.table_id ≡ place.old.table_id) × (place.new.id ≡ place.old.id) }
+    ensures released { place.new.me ≡ (with_release buffer place.old.me.0, rest place.old.me.1) }
+{
+    let number = buffer.number() as usize;
+    shared.exchange(place, number + 1, Slot::Value(value));
+    shared.store::<Release>(place, number + 2, 0);
+}
+
+pub(crate) fn split<W: Ward>(
+    shared: &SharedTable<W>,
+    place: &mut Place<W::Pivot, W::Value, W::Task>,
+) -> Place<W::Pivot, W::Value, W::Task>
+    requires { (place.old.table_id ≡ shared.now.table_id) × (1 < shared.now.table_id.words) }
+    ensures { (place.new.table_id ≡ place.old.table_id) × (place.new.id ≡ place.old.id) × (place.new.me ≡ place.old.me) × (result.table_id ≡ place.old.table_id) × (result.me ≡ (right_half place.old.me.0, [])) }
+{
+    shared.split_seat::<Halves>(place)
+}
+
+pub(crate) fn join<W: Ward>(
+    shared: &SharedTable<W>,
+    place: &mut Place<W::Pivot, W::Value, W::Task>,
+    other: Place<W::Pivot, W::Value, W::Task>,
+)
+    requires { (place.old.table_id ≡ shared.now.table_id) × (other.table_id ≡ shared.now.table_id) × (other.me.1 ≡ []) × (1 < shared.now.table_id.words) × (other.me.0.lock.owes ≡ []) × (other.me.0.pivot.inside ≡ false) × (place.old.me.0.pivot.inside ≡ false) }
+    ensures { (place.new.table_id ≡ place.old.table_id) × (place.new.id ≡ place.old.id) × (place.new.me ≡ (joined place.old.me.0 other.me.0, place.old.me.1)) }
+{
+    shared.join_seat::<Halves>(place, other);
+}
+
+// Where the pivot is at home, the seat takes it.
+pub(crate) fn enter<W: Ward>(
+    shared: &SharedTable<W>,
+    place: &mut Place<W::Pivot, W::Value, W::Task>,
+) -> u64
+    requires { (place.old.table_id ≡ shared.now.table_id) × (1 < shared.now.table_id.words) }
+    ensures seat { (place.new.table_id ≡ place.old.table_id) × (place.new.id ≡ place.old.id) }
+    ensures entered { entered W.good W.fits W.grows W.posted W.busy (step shared.now.table_id.slots 1 0 1 none) place.old.me result place.new.me }
+{
+    shared.compare_exchange::<Enter<W>>(place, 1, 0, 1)
+}
+
+// Gives back the slot of the pivot, which was taken last and has the pivot again. The values that are held are as in `held`.
+pub(crate) fn leave<W: Ward>(
+    shared: &SharedTable<W>,
+    place: &mut Place<W::Pivot, W::Value, W::Task>,
+    pivot: Snapshot<W::Pivot>,
+    held: &Vec<(BufferId, W::Value)>,
+    change: &TaskChange<W::Task>,
+    is_call: bool,
+)
+    requires table { (place.old.table_id ≡ shared.now.table_id) × (1 < shared.now.table_id.words) }
+    requires seat { (place.old.me.0.pivot.inside ≡ true) × (place.old.me.1 ≡ (0, Pivot pivot.value) ∷ rest place.old.me.1) × IsSameKeys place.old.me.0.lock.owes held.now.items }
+    requires facts { MayLeaveWith W.good W.fits W.grows W.posted W.busy place.old.me.0 held.now.items pivot.value change.now }
+    ensures seat { (place.new.table_id ≡ place.old.table_id) × (place.new.id ≡ place.old.id) }
+    ensures left { (p : W.Pivot) × (place.old.me.0.pivot.seen ≡ p ∷ []) × (place.new.me ≡ (with_exit is_call change.now p pivot.value held.now.items place.old.me.0, rest place.old.me.1)) }
+{
+    let told = Slot::Announced(Announcement {
+        pivot,
+        held: Snapshot::of(held),
+        change: Snapshot::of(change),
+        is_call,
+    });
+    shared.compare_exchange_with::<Leave>(place, 1, 1, 0, &told);
+}
+
+// The word of a fence, by the seat that is inside.
+pub(crate) fn read_back<W: Ward>(
+    shared: &SharedTable<W>,
+    place: &mut Place<W::Pivot, W::Value, W::Task>,
+    word: usize,
+    fence: u32,
+) -> u64
+    requires table { (place.old.table_id ≡ shared.now.table_id) × (word ≡ shared.now.table_id.slots + 1 + fence) × (word < shared.now.table_id.words) × (fence < shared.now.key.posts) }
+    requires seat { place.old.me.0.pivot.inside ≡ true }
+    ensures seat { (place.new.table_id ≡ place.old.table_id) × (place.new.id ≡ place.old.id) × (place.new.me ≡ place.old.me) }
+    ensures reads { (p : W.Pivot) → place.old.me.0.pivot.seen ≡ p ∷ [] → result ≡ W.posted p fence }
+{
+    shared.load::<ReadBack<W>>(place, word)
+}
+
+// Shows the pivot, by the word of a fence.
+pub(crate) fn post<W: Ward>(
+    shared: &SharedTable<W>,
+    place: &mut Place<W::Pivot, W::Value, W::Task>,
+    word: usize,
+    fence: u32,
+    old: u64,
+    new: u64,
+    pivot: Snapshot<W::Pivot>,
+    held: &Vec<(BufferId, W::Value)>,
+)
+    requires table { (place.old.table_id ≡ shared.now.table_id) × (word ≡ shared.now.table_id.slots + 1 + fence) × (word < shared.now.table_id.words) × (fence < shared.now.key.posts) }
+    requires seat { (place.old.me.0.pivot.inside ≡ true) × IsSameKeys place.old.me.0.lock.owes held.now.items }
+    requires facts { (p : W.Pivot) × (place.old.me.0.pivot.seen ≡ p ∷ []) × W.good pivot.value × W.grows p pivot.value × ((b : ℕ) (x : W.Value) → In (b, x) held.now.items → W.fits b pivot.value x) × ((b : ℕ) (x : W.Value) → ((y : W.Value) → In (b, y) place.old.me.0.lock.owes → ⊥) → W.fits b p x → W.fits b pivot.value x)
+        × (old ≡ W.posted p fence) × (new ≡ W.posted pivot.value fence) × ((g : ℕ) → g ≢ fence → W.posted pivot.value g ≡ W.posted p g) × ((t : W.Task) → W.busy p t → W.busy pivot.value t) }
+    ensures seat { (place.new.table_id ≡ place.old.table_id) × (place.new.id ≡ place.old.id) }
+    ensures posted { (p : W.Pivot) × (place.old.me.0.pivot.seen ≡ p ∷ []) × (place.new.me ≡ (with_post p pivot.value held.now.items place.old.me.0, place.old.me.1)) }
+{
+    let told = Slot::Announced(Announcement {
+        pivot,
+        held: Snapshot::of(held),
+        change: Snapshot::of(&TaskChange::Same),
+        is_call: true,
+    });
+    shared.compare_exchange_with::<Post>(place, word, old, new, &told);
+}
+
+// The word of a fence, by any seat.
+pub(crate) fn look<W: Ward>(
+    shared: &SharedTable<W>,
+    place: &mut Place<W::Pivot, W::Value, W::Task>,
+    word: usize,
+    fence: u32,
+) -> u64
+    requires table { (place.old.table_id ≡ shared.now.table_id) × (word ≡ shared.now.table_id.slots + 1 + fence) × (word < shared.now.table_id.words) × (fence < shared.now.key.posts) }
+    ensures seat { (place.new.table_id ≡ place.old.table_id) × (place.new.id ≡ place.old.id) × (place.new.me ≡ (with_look fence result place.old.me.0, place.old.me.1)) }
+    ensures seen { (p : W.Pivot) → In p place.old.me.0.pivot.seen → NotBack (W.posted p fence) result }
+    ensures looked { (x : ℕ) → In (fence, x) place.old.me.0.looked → NotBack x result }
+{
+    shared.load::<Look<W>>(place, word)
+}
+
+// The value that was just claimed. Its slot goes behind the others.
+pub(crate) fn pull<W: Ward>(
+    shared: &SharedTable<W>,
+    place: &mut Place<W::Pivot, W::Value, W::Task>,
+    buffer: BufferId,
+) -> W::Value
+    requires table { place.old.table_id ≡ shared.now.table_id }
+    requires slot { (x : W.Value) × (place.old.me.1 ≡ (buffer + 1, Value x) ∷ rest place.old.me.1) }
+    ensures value { place.old.me.1 ≡ (buffer + 1, Value result) ∷ rest place.old.me.1 }
+    ensures seat { (place.new.table_id ≡ place.old.table_id) × (place.new.id ≡ place.old.id) × (place.new.me ≡ (place.old.me.0, rest place.old.me.1 ++ (buffer + 1, Gone) ∷ [])) }
+{
+    let slot = buffer.number() as usize + 1;
+    let Slot::Value(value) = shared.exchange(place, slot, Slot::Gone) else {
+        unreachable!()
+    };
+    place.turn();
+    value
+}
+
+// Puts the calls of a joined seat in order.
+pub(crate) fn settle<W: Ward>(
+    shared: &SharedTable<W>,
+    place: &mut Place<W::Pivot, W::Value, W::Task>,
+)
+    requires table { (place.old.table_id ≡ shared.now.table_id) × (0 < shared.now.table_id.words) }
+    requires outside { (place.old.me.0.pivot.inside ≡ false) × ((q : W.Pivot) × (qs : List W.Pivot) × (place.old.me.0.pivot.seen ≡ q ∷ qs)) }
+    ensures seat { (place.new.table_id ≡ place.old.table_id) × (place.new.id ≡ place.old.id) }
+    ensures settled { settled W.grows (step shared.now.table_id.slots 0 0 0 none) place.old.me 0 place.new.me }
+{
+    shared.load::<Settle<W>>(place, 0);
+}
+
+// The first `count` slots go behind the others.
+pub(crate) fn bring<P, X, T>(place: &mut Place<P, X, T>, count: usize)
+    ensures { (place.new.table_id ≡ place.old.table_id) × (place.new.id ≡ place.old.id) × (place.new.me ≡ (place.old.me.0, turned_by count place.old.me.1)) }
+{
+    for _ in 0..count {
+        place.turn();
+    }
+}
