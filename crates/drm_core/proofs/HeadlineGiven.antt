@@ -24,8 +24,9 @@ use Rattle.drm_core.specs.Context.{context_of, holder_of, holds, least_held, tic
 use Rattle.drm_core.specs.Refusals.{plan_of, idle_refusal, not_held_refusal, read_refusal, early_refusal, least}
 use Rattle.drm_core.specs.Outcomes.{armed_core, context_changed, outcome_of_event}
 use Rattle.drm_core.specs.Run.{Run}
+use Rattle.drm_core.proofs.Readback.{writers_free}
 use Rattle.drm_core.specs.Step.{unless_refused, Step}
-use Rattle.drm_core.specs.Steady.{IsSteadyCore}
+use Rattle.drm_core.specs.Steady.{IsSteadyCore, begun_in, HoldersBegun}
 use Rattle.drm_core.specs.Headline.{is_writer, MayRead}
 use Rattle.drm_core.proofs.Records.{at_test}
 use Rattle.drm_core.proofs.Pairs.{get_set_other}
@@ -33,13 +34,6 @@ use Rattle.drm_core.proofs.HeadlineSteps.{cases_step, at_cond, at_option}
 use Rattle.drm_core.proofs.HeadlineReads.{holds_in, get_set_here}
 
 -- ---- who holds a buffer has begun
-
--- the context of an entry of the contexts
-abbrev pub begun_in : List (Option Context) → ℕ → Bool
-begun_in contexts k = not (is_none (option_and_then (λ o. o) (slice_get contexts k)))
-
-abbrev pub HoldersBegun : CoreState → Type 0
-HoldersBegun s = (ctx b : ℕ) → holds s ctx b ≡ true → begun_in s.contexts ctx ≡ true
 
 -- who has begun still has when a context is changed
 pub begun_stays : (contexts : List (Option Context)) (ctx k : ℕ) (c : Context) → begun_in contexts k ≡ true → begun_in (set contexts ctx (Some c)) k ≡ true
@@ -162,32 +156,12 @@ opened_holders_begun spec k b held = absurd (nothing_held spec.buffers k b held)
 
 -- ---- a read that is not refused
 
--- two filters that no element passes together
-pub filters_apart : {X : Type 0} (p q : X → Bool) (xs : List X) → AllByRecursion (λ x. p x ≡ true → q x ≡ false) xs → filter q (filter p xs) ≡ []
-filters_apart p q [] all = refl
-filters_apart {X} p q (x ∷ xs) all = elim (cases_Bool (p x)) [
-  | inl passes ↦
-      ap (λ t. filter q (cond t (x ∷ filter p xs) (filter p xs))) passes
-      ∙ (ap (λ t. cond t (x ∷ filter q (filter p xs)) (filter q (filter p xs))) (all.0 passes) ∙ filters_apart p q xs all.1)
-  | inr fails ↦ ap (λ t. filter q (cond t (x ∷ filter p xs) (filter p xs))) fails ∙ filters_apart p q xs all.1
-]
-
 -- no fence of a writer is busy where all have ended
 pub read_not_busy : (s : CoreState) (ctx b : ℕ) → IsSteadyCore s → b < length s.device.spec.buffers → MayRead s ctx b
     → read_refusal s.device (slice_get s.reservations b) ≡ None
 read_not_busy s ctx b steady here may =
     let resv = steady.reservations b here in
-    let js = s.device.journal in
-    let p : Entry → Bool = λ e. is_as_strong e.usage Write in
-    let q : Entry → Bool = λ e. not (is_signaled js e.fence) in
-    let none : filter q (filter p resv.0.entries) ≡ [] = filters_apart p q resv.0.entries
-    (recursion_from_All (λ e. p e ≡ true → q e ≡ false) resv.0.entries
-    (All-weaker (IsOfJob b js) (λ e. p e ≡ true → q e ≡ false)
-    (λ e of_job strong.
-    let writer : is_writer of_job.0.job b ≡ true = ap (λ o. option_map_or (λ usage. is_as_strong usage Write) o false) of_job.2 ∙ strong in
-    ap not (at_test js e.fence of_job.0 (λ r. has_ended r.phase) of_job.1 ∙ may.writers e.fence of_job.0 of_job.1 writer))
-    resv.0.entries resv.2.of_jobs)) in
-    ap (read_refusal s.device) resv.1 ∙ ap (λ (es : List Entry). option_map Busy (least (map (λ (e : Entry). e.fence) es))) none
+    ap (read_refusal s.device) resv.1 ∙ ap (option_map Busy) (writers_free b s.device.journal resv.0 resv.2 may.writers)
 
 -- what a context that may read is answered
 pub read_given : (s : CoreState) (ctx b : ℕ) (a : Answer) (n : CoreState) → IsSteadyCore s → HoldersBegun s → b < length s.device.spec.buffers → MayRead s ctx b

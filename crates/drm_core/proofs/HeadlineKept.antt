@@ -34,14 +34,14 @@ use Rattle.drm_core.specs.Refusals.{idle_refusal, not_held_refusal, read_refusal
 use Rattle.drm_core.specs.Step.{Step}
 use Rattle.drm_core.specs.Run.{Run, LawfulRun, AllNamesExist}
 use Rattle.drm_core.specs.Lawful.{HasRightOutcome, IsLawfulDevice}
-use Rattle.drm_core.specs.Steady.{IsSteadyCore}
-use Rattle.drm_core.specs.Headline.{serial_memory, serial_bytes, WritersEnded, MayRead, IsRefused, TellsOutcome, Promises, PromisesKept, Headline}
+use Rattle.drm_core.specs.Steady.{IsSteadyCore, PlansHeld, HoldersBegun}
+use Rattle.drm_core.specs.Headline.{serial_memory, serial_bytes, WritersEnded, MayRead, IsRefused, TellsOutcome, Promises, Headline}
 use Rattle.drm_core.proofs.CoreSteps.{step_is_kept}
 use Rattle.drm_core.proofs.DeviceSteps.{not_when}
 use Rattle.drm_core.proofs.Opening.{opened_core_steady}
 use Rattle.drm_core.proofs.Readback.{writers_ended}
-use Rattle.drm_core.proofs.HeadlineGiven.{HoldersBegun, run_holders_begun, opened_holders_begun, read_given}
-use Rattle.drm_core.proofs.HeadlineReads.{PlansHeld, run_plans_held, opened_plans_held, may_read_on}
+use Rattle.drm_core.proofs.HeadlineGiven.{run_holders_begun, opened_holders_begun, read_given}
+use Rattle.drm_core.proofs.HeadlineReads.{run_plans_held, opened_plans_held, may_read_on}
 use Rattle.drm_core.proofs.HeadlineSteps.{is_refusal, cases_step, stands_within, ended_stays, refused_keeps, step_leaves_bytes}
 
 -- where a run leads is steady, and of the same description
@@ -75,12 +75,6 @@ dump_gives s spec a n b steady same (inr lacks) = inl lacks.answers
 dump_gives s spec a n b steady same (inl is) =
     inr (ap (λ (p : Answer × CoreState). p.0) is ∙ ap (λ m. answer.Bytes (bytes_of m b)) (memory_is s spec steady same))
 
--- a phase that is not without an outcome has one
-pub ended_from : (phase : Phase) → (outcome_of phase ≡ None → ⊥) → has_ended phase ≡ true
-ended_from Queued has = absurd (has refl)
-ended_from Scheduled has = absurd (has refl)
-ended_from (Ended o) has = refl
-
 pub no_busy : (o : Option ℕ) → option_map Busy o ≡ None → o ≡ None
 no_busy None e = refl
 no_busy (Some f) e = absurd (cc (e))
@@ -92,12 +86,7 @@ read_after_writers s b steady here free f r at writer =
     let resv = steady.reservations b here in
     let not_busy : busy_fence s.device.journal resv.0 ≡ None =
     no_busy (busy_fence s.device.journal resv.0) (sym (ap (read_refusal s.device) resv.1) ∙ free) in
-    ended_from r.phase (λ none. by_usage resv.0 resv.2 not_busy (usage_at b r.job) refl writer none)
-  where
-    by_usage : (resv : Reservation) → Fits b s.device.journal resv → busy_fence s.device.journal resv ≡ None
-        → (o : Option Usage) → usage_at b r.job ≡ o → option_map_or (λ usage. is_as_strong usage Write) o false ≡ true → outcome_of r.phase ≡ None → ⊥
-    by_usage resv fits free None is strong none = let never : false ≡ true = strong in cc (never)
-    by_usage resv fits free (Some u) is strong none = writers_ended b s.device.journal resv steady.device.lawful.entities fits free f r u at is strong none
+    writers_ended b s.device.journal resv.0 steady.device.lawful.entities resv.2 not_busy f r at writer
 
 -- the buffer of a read whose names exist
 pub buffer_there : (s : CoreState) (ctx b : ℕ) → names_exist s.device.spec (event.Read ctx b) ≡ true → b < length s.device.spec.buffers
@@ -215,16 +204,3 @@ headline spec events answers new names run =
     let end = run_is_steady (opened spec) spec events answers new (opened_core_steady spec) refl names run in
     promises_kept spec new end.0 (run_plans_held (opened spec) events answers new (opened_plans_held spec) run)
     (run_holders_begun (opened spec) events answers new (opened_holders_begun spec) run) end.1
-
--- a lawful run is a run
-pub plain_run : (old : CoreState) (events : List Event) (answers : List Answer) (new : CoreState) → LawfulRun old events answers new → Run old events answers new
-plain_run old [] [] new run = run.1
-plain_run old (e ∷ events) (a ∷ answers) new run = (run.1.0, run.1.1, plain_run run.1.0 events answers new run.1.3)
-plain_run old [] (a ∷ answers) new run = run
-plain_run old (e ∷ events) [] new run = run
-
-pub promises_of_run : (old new : CoreState) (events : List Event) (answers : List Answer) → AllNamesExist old.device.spec events
-    → LawfulRun old events answers new → PromisesKept old new
-promises_of_run old new events answers names run spec opens =
-    headline spec events answers new (subst (λ s. AllNamesExist s.device.spec events) opens names)
-    (subst (λ s. Run s events answers new) opens (plain_run old events answers new run))

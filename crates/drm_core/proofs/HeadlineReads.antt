@@ -34,6 +34,7 @@ use Rattle.drm_core.specs.Grows.{RecordGrows, Each}
 use Rattle.drm_core.specs.Refusals.{plan_of, idle_refusal, not_held_refusal, early_refusal}
 use Rattle.drm_core.specs.Outcomes.{must_stall, ran_device, stepped_by, armed_core, context_changed, outcome_of_event}
 use Rattle.drm_core.specs.Run.{Run}
+use Rattle.drm_core.specs.Steady.{PlansHeld}
 use Rattle.drm_core.specs.Step.{Step}
 use Rattle.drm_core.specs.Headline.{is_writer, MayRead, GivesUp}
 use Rattle.drm_core.proofs.Records.{to_map}
@@ -110,10 +111,6 @@ holder_stays s e ctx b held early stays = by_event e early stays
     by_event (event.Dump c) early stays = held
 
 -- ---- a plan's buffers are held by its context
-
--- each context holds the buffers of what it has planned
-abbrev pub PlansHeld : CoreState → Type 0
-PlansHeld s = (ctx : ℕ) (job : Draft) → plan_of s ctx ≡ Some job → (b : ℕ) → Contains (buffers_of job) b → holds s ctx b ≡ true
 
 -- where a plan after an event comes from: it was there, and its context dropped nothing, or it was planned now
 abbrev pub ComesFrom : CoreState → Event → ℕ → Draft → Type 0

@@ -48,3 +48,5 @@ pub mod HeadlineSteps
 pub mod HeadlineReads
 pub mod HeadlineGiven
 pub mod HeadlineKept
+pub mod HeldFacts
+pub mod CoreStands

@@ -130,10 +130,6 @@ pub record Promises (spec : DeviceSpec) (state : CoreState) : Type 0 where
   pub bytes_stay : (further : Event) (given : Answer) (next : CoreState) (buffer : ℕ) → IsTrue (names_exist spec further)
       → Step state further given next → WritersEnded state buffer → serial_bytes spec next buffer ≡ serial_bytes spec state buffer
 
--- where the old state is that of a core just opened, the new one is as promised
-abbrev pub PromisesKept : CoreState → CoreState → Type 0
-PromisesKept old new = (spec : DeviceSpec) → old ≡ opened spec → Promises spec new
-
 -- whatever events a core has met since it was opened, and whatever it answered, it keeps its promises
 abbrev pub Headline : Type 0
 Headline =

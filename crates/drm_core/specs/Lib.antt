@@ -26,3 +26,4 @@ pub mod Building
 pub mod Planning
 pub mod Claims
 pub mod Headline
+pub mod Held

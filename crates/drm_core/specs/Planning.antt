@@ -54,6 +54,12 @@ pub record HaveUses (ended : ℕ → Bool) (fence : ℕ) (job : Draft) (old new 
   pub count : length new ≡ length old
   pub each : (k : ℕ) (r : WithRoom) → slice_get old k ≡ Some r → (m : WithRoom) × (slice_get new k ≡ Some m) × HasUse ended fence job k r m
 
+-- so for reservations that stand with their buffers
+pub record HeldHaveUses (ended : ℕ → Bool) (fence : ℕ) (job : Draft) (old new : List (ℕ × WithRoom)) : Type 0 where
+  pub count : length new ≡ length old
+  pub each : (k : ℕ) (h : ℕ × WithRoom) → slice_get old k ≡ Some h
+      → (m : ℕ × WithRoom) × (slice_get new k ≡ Some m) × (m.0 ≡ h.0) × HasUse ended fence job h.0 h.1 m.1
+
 -- the two jobs declare no buffer in common
 abbrev pub AreApart : Draft → Draft → Type 0
 AreApart job other =

@@ -1,14 +1,15 @@
 -- What holds of every device beside its laws, and from which they follow at the next event.
-use Rattle.std.specs.Prelude.{◌≡◌, ℕ, ◌<◌, ◌⊎◌, IsTrue, IsFalse, List, length, Some, slice_get}
+use Rattle.std.specs.Prelude.{◌≡◌, ℕ, ◌<◌, ◌⊎◌, IsTrue, IsFalse, Bool, not, List, length, Option, Some, is_none, option_and_then, slice_get, Contains}
 use Rattle.drm_core.specs.declared.journal.JobRecord.{JobRecord}
-use Rattle.drm_core.specs.State.{DeviceState, CoreState}
+use Rattle.drm_core.specs.State.{DeviceState, Context, CoreState}
 use Rattle.drm_resv.specs.Reservation.{Reservation}
 use Rattle.drm_fence.specs.Phases.{is_queued}
 use Rattle.drm_core.specs.Order.{comes_after, is_met}
 use Rattle.drm_core.specs.Ring.{pending_of}
 use Rattle.drm_core.specs.Arming.{ring_of}
 use Rattle.drm_job.specs.declared.Draft.{Draft}
-use Rattle.drm_job.specs.Fault.{IsJob}
+use Rattle.drm_job.specs.Fault.{IsJob, buffers_of}
+use Rattle.drm_core.specs.Context.{holds}
 use Rattle.drm_core.specs.Refusals.{plan_of}
 use Rattle.drm_core.specs.Reservation.{Fits}
 use Rattle.drm_core.specs.Lawful.{EachTwo, IsLawfulDevice}
@@ -40,3 +41,16 @@ pub record IsSteadyCore (state : CoreState) : Type 0 where
   pub plans : (ctx : ℕ) (job : Draft) → plan_of state ctx ≡ Some job → IsJob state.device.spec job
   pub reservations : (buffer : ℕ) → buffer < length state.device.spec.buffers
       → (resv : Reservation) × (slice_get state.reservations buffer ≡ Some resv) × Fits buffer state.device.journal resv
+
+-- each context holds the buffers of what it has planned
+abbrev pub PlansHeld : CoreState → Type 0
+PlansHeld state =
+    (ctx : ℕ) (job : Draft) → plan_of state ctx ≡ Some job → (buffer : ℕ) → Contains (buffers_of job) buffer → IsTrue (holds state ctx buffer)
+
+-- whether the context has begun
+abbrev pub begun_in : List (Option Context) → ℕ → Bool
+begun_in contexts ctx = not (is_none (option_and_then (λ o. o) (slice_get contexts ctx)))
+
+-- who holds a buffer has begun
+abbrev pub HoldersBegun : CoreState → Type 0
+HoldersBegun state = (ctx buffer : ℕ) → IsTrue (holds state ctx buffer) → IsTrue (begun_in state.contexts ctx)

@@ -1,14 +1,18 @@
 use crate::table::Table;
 use drm_job::Job;
 use drm_resv::{Deps, Resv};
-use drm_types::{CtxId, Ticket};
+use drm_types::{BufferId, CtxId, Ticket};
 
-/// A job and the fences that it waits for, collected from the reservations that its context holds.
+/// A job and the fences that it waits for, collected from the reservations that its context holds (`drm_sched_job`
+/// between `drm_sched_job_init` and `drm_sched_job_arm`).
 #[derive(Drop)]
 pub struct Plan {
     pub job: Job,
     pub deps: Deps,
 }
+
+/// The reservations that a context holds, each with its buffer (`ww_mutex`es of one `ww_acquire_ctx`).
+pub type Held = Vec<(BufferId, Resv)>;
 
 /// A context that has begun (`ww_acquire_ctx`).
 #[derive(Drop)]

@@ -5,16 +5,25 @@ ghost use Rattle.drm_buffer.specs.Memory.{bytes_of};
 ghost use Rattle.drm_fence.specs.Phases.{has_ended, status_of};
 ghost use Rattle.drm_core.specs.declared.event.Answer.TheVariants as answer;
 ghost use Rattle.drm_core.specs.Answers.{picked, stepped, finished, timed_out};
+ghost use Rattle.drm_core.specs.Arming.{armed_device};
 ghost use Rattle.drm_core.specs.Building.{RefusesToBuild};
+ghost use Rattle.drm_core.specs.Cores.{DepsCover};
+ghost use Rattle.drm_core.specs.Held.{HaveRoom, kept_of, armed_held, AllFit, HaveEnded};
+ghost use Rattle.drm_core.specs.Reservation.{Fits};
+ghost use Rattle.drm_core.specs.declared.event.Refusal.TheVariants as refusal;
+ghost use Rattle.drm_job.specs.Fault.{IsJob};
 ghost use Rattle.drm_core.specs.Outcomes.{pick_outcome, step_outcome, finish_outcome, timeout_outcome, cancelled_device, reap_outcome};
-ghost use Rattle.drm_core.specs.Refusals.{pick_refusal, step_refusal, finish_refusal, cancel_refusal, reap_refusal};
+ghost use Rattle.drm_core.specs.Refusals.{arm_refusal, busy_fence, pick_refusal, step_refusal, finish_refusal, cancel_refusal, reap_refusal};
 ghost use Rattle.drm_core.specs.State.{opened_device};
 
 use crate::answer::{Expired, Finished, Picked, Stepped};
+use crate::cores::{Held, Plan};
 use crate::event::Refusal;
 use crate::journal::JobRecord;
 use crate::machine::BuildError;
+use crate::planning;
 use crate::table::Table;
+use drm_resv::Resv;
 use drm_types::{BufferId, DeviceSpec, EntityId, FenceId, Moment, RingId};
 use std::alloc::{AllocError, Global};
 use std::marker::Model;
@@ -111,6 +120,62 @@ impl Device {
         ensures refused { IfErr result (λ r. (reap_refusal self.old entity ≡ Some r) × (self.new ≡ self.old)) }
     {
         self.table.reap(entity)
+    }
+
+    /// Arms the job, and adds its uses to the reservations that its context holds: they have those of all buffers that
+    /// the job declares, and the others stay as they are (`drm_sched_job_arm`, `drm_sched_entity_push_job` and
+    /// `dma_resv_add_fence`). The fences that the job names join what it waits for.
+    ///
+    /// # Errors
+    ///
+    /// The plan, given back, and why the device does not take the job: its entity is stopped, the device is full, or
+    /// the job names a fence that is not armed yet.
+    pub fn arm(&mut self, plan: Plan, held: &mut Held) -> Result<FenceId, (Plan, Refusal)>
+        requires job { IsJob self.old.spec plan.job }
+        requires covers { DepsCover self.old plan.job plan.deps }
+        requires room { HaveRoom plan.job held.old.items }
+        ensures armed { IfOk result (λ fence. (arm_refusal self.old plan.job ≡ None) × (fence ≡ length self.old.journal) × (self.new ≡ armed_device self.old plan.job)) }
+        ensures held { OnOk result (kept_of held.new.items ≡ armed_held self.old.journal plan.job (kept_of held.old.items)) }
+        ensures fit { OnOk result (AllFit self.old.journal (kept_of held.old.items) → AllFit self.new.journal (kept_of held.new.items)) }
+        ensures refused { IfErr result (λ back. (arm_refusal self.old plan.job ≡ Some back.1) × (back.0 ≡ plan) × (self.new ≡ self.old) × (held.new ≡ held.old)) }
+    {
+        if let Some(refusal) = self.table.arm_refusal(&plan.job) {
+            return Err((plan, refusal));
+        }
+        let fence = self.armed();
+        planning::add_held_uses(held, &plan.job, fence, &self.table.fences);
+        Ok(self.table.arm(plan))
+    }
+
+    /// Copies the buffer's bytes, for one who holds its reservation, once every armed job that writes it has ended
+    /// (`dma_resv_test_signaled`). It takes no memory.
+    ///
+    /// # Errors
+    ///
+    /// `Busy`, with the least fence of the reservation's writers that has no outcome. Then nothing is copied.
+    pub fn read_into(&self, buffer: BufferId, resv: &Resv, out: &mut [u8]) -> Result<(), Refusal>
+        requires buffer { buffer < length self.now.memory }
+        requires fits { Fits buffer self.now.journal resv.now.kept }
+        requires size { length out.old ≡ length (bytes_of self.now.memory buffer) }
+        ensures read { OnOk result ((busy_fence self.now.journal resv.now.kept ≡ None) × (out.new ≡ bytes_of self.now.memory buffer)) }
+        ensures writers { OnOk result (HaveEnded buffer self.now.journal) }
+        ensures busy { IfErr result (λ r. (option_map refusal.Busy (busy_fence self.now.journal resv.now.kept) ≡ Some r) × (out.new ≡ out.old)) }
+        ensures writing { IfErr result (λ r. HaveEnded buffer self.now.journal → ⊥) }
+    {
+        match self.table.busy_fence(resv) {
+            Some(fence) => Err(Refusal::Busy { fence }),
+            None => {
+                out.copy_from_slice(self.bytes(buffer));
+                Ok(())
+            }
+        }
+    }
+
+    /// The description that the device was built from. No event changes it.
+    pub fn spec(&self) -> &DeviceSpec
+        ensures { result.now ≡ self.now.spec }
+    {
+        &self.table.spec
     }
 
     /// The bytes of the buffer, at this moment.

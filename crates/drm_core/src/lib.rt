@@ -31,6 +31,7 @@ mod submission;
 mod table;
 
 pub use answer::{Expired, Finished, Picked, Stepped};
+pub use cores::{Held, Plan};
 pub use device::EntityState;
 pub use device_calls::Device;
 pub use drm_fence::Phase;

@@ -5,7 +5,8 @@ ghost use Rattle.drm_fence.specs.Fences.{has_ended_at};
 ghost use Rattle.drm_types.specs.declared.access.Usage.{Usage};
 ghost use Rattle.drm_resv.specs.Entries.{added_to};
 ghost use Rattle.drm_core.specs.Reservation.{usage_at};
-ghost use Rattle.drm_core.specs.Planning.{is_held_in, holds_in, all_collected, MoreRoom, HasRoomFor, AreRoomy, HaveUses};
+ghost use Rattle.drm_core.specs.Held.{HaveRoom};
+ghost use Rattle.drm_core.specs.Planning.{is_held_in, holds_in, all_collected, MoreRoom, HasRoomFor, AreRoomy, HaveUses, HeldHaveUses};
 
 use drm_fence::Timeline;
 use drm_job::Job;
@@ -122,5 +123,21 @@ pub(crate) fn add_uses(reservations: &mut [Resv], job: &Job, fence: FenceId, tim
 {
     for (place, resv) in reservations.iter_mut().enumerate() {
         add_use(resv, BufferId::new(place as u32), job, fence, timeline);
+    }
+}
+
+// The uses of a new job are added to the reservations among these of its buffers.
+pub(crate) fn add_held_uses(
+    held: &mut [(BufferId, Resv)],
+    job: &Job,
+    fence: FenceId,
+    timeline: &Timeline,
+)
+    requires room { HaveRoom job.now held.old }
+    requires entity { job.now.entity < 64 }
+    ensures { HeldHaveUses (has_ended_at timeline.now.list) fence job.now held.old held.new }
+{
+    for (buffer, resv) in held.iter_mut() {
+        add_use(resv, *buffer, job, fence, timeline);
     }
 }

@@ -1,0 +1,31 @@
+use Rattle.std.proofs.Common.{◌≡◌, ◌∙◌, ap, sym, subst, length}
+use Rattle.std.specs.Vec.{with_items}
+use Rattle.drm_fence.specs.Fences.{has_ended_at}
+use Rattle.drm_core.specs.Arming.{armed_device}
+use Rattle.drm_core.specs.Held.{kept_of, armed_held, AllFit}
+use Rattle.drm_core.specs.State.{DeviceState}
+use Rattle.drm_core.specs.Tables.{state_of}
+use Rattle.drm_core.proofs.HeldFacts.{held_in_vector, held_after}
+use Rattle.drm_core.proofs.device_calls.Device.arm.Goals as goal
+
+pub returns-clause-held : goal.returns-clause-held
+returns-clause-held c =
+    let t = c.self.inside.table in
+    let job = c.args.plan.job in
+    let v = c.args.held.now in
+    let uses = held_in_vector v (has_ended_at t.fences.list) c.armed-fence.result (length t.journal.items) job c.deref_mut.result.now c.add_held_uses.new.held
+    (c.armed-fence.ensures ∙ ap (λ (d : DeviceState). length d.journal) (sym c.self.view_is)) c.deref_mut.ensures.value c.add_held_uses.ensures in
+    let new = (with_items v c.add_held_uses.new.held).items in
+    subst (λ (d : DeviceState). kept_of new ≡ armed_held d.journal job (kept_of v.items)) c.self.view_is
+    (held_after (state_of t) (state_of c.arm.new.self) t.fences.list job v.items new c.self.invariant.fences c.self.invariant.steady.lawful.entities c.arm.ensures.armed uses).0
+
+pub returns-clause-fit : goal.returns-clause-fit
+returns-clause-fit c =
+    let t = c.self.inside.table in
+    let job = c.args.plan.job in
+    let v = c.args.held.now in
+    let uses = held_in_vector v (has_ended_at t.fences.list) c.armed-fence.result (length t.journal.items) job c.deref_mut.result.now c.add_held_uses.new.held
+    (c.armed-fence.ensures ∙ ap (λ (d : DeviceState). length d.journal) (sym c.self.view_is)) c.deref_mut.ensures.value c.add_held_uses.ensures in
+    let new = (with_items v c.add_held_uses.new.held).items in
+    subst (λ (d : DeviceState). AllFit d.journal (kept_of v.items) → AllFit (state_of c.arm.new.self).journal (kept_of new)) c.self.view_is
+    (held_after (state_of t) (state_of c.arm.new.self) t.fences.list job v.items new c.self.invariant.fences c.self.invariant.steady.lawful.entities c.arm.ensures.armed uses).1
