@@ -29,6 +29,8 @@ mod running;
 mod stopping;
 mod submission;
 mod table;
+#[cfg(test)]
+mod tests;
 
 pub use answer::{Expired, Finished, Picked, Stepped};
 pub use cores::{Held, Plan};
