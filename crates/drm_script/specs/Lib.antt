@@ -1,5 +1,6 @@
 pub mod Answers
 pub mod Commands
+pub mod Grammar
 pub mod Header
 pub mod Job
 pub mod Journal

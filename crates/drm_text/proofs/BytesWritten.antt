@@ -3,7 +3,7 @@ use Rattle.std.proofs.Common.{◌≡◌, ℕ, ◌+◌, ◌*◌, ◌/◌, ◌%◌
 use Rattle.std.specs.List.{AllByRecursion}
 use Rattle.std.proofs.lemmas.Bool.Decides.{nat_tests}
 use Rattle.std.proofs.lemmas.List.{append-nil}
-use Rattle.drm_text.specs.Hexadecimal.{hex_digit, byte_from, with_bytes, digit_of, text_of_byte, text_of_bytes, bytes_of}
+use Rattle.drm_text.specs.Hexadecimal.{hex_digit, byte_from, with_bytes, digit_of, text_of_byte, text_of_bytes, bytes_of, byte_of}
 use Rattle.drm_text.specs.Reading.{◌>>+◌}
 
 abbrev IsDigit : ℕ → ℕ → Type 0
@@ -52,7 +52,7 @@ spelled before (a ∷ b ∷ word) all e = spells_more before word all a b (byte_
 pub bytes_takes : (bytes word : List ℕ) → bytes_of word ≡ Some bytes → word ≡ text_of_bytes bytes
 bytes_takes bytes word e = let s = spelled [] word bytes e in rw s.1 s.2
 
-byte_written : (byte : ℕ) → byte < 256 → byte_from (hex_digit (digit_of (byte / 16))) (hex_digit (digit_of (byte % 16))) ≡ Some byte
+pub byte_written : (byte : ℕ) → byte < 256 → byte_from (hex_digit (digit_of (byte / 16))) (hex_digit (digit_of (byte % 16))) ≡ Some byte
 byte_written byte small =
     let whole : byte / 16 * 16 + byte % 16 ≡ byte = omega arith in
     rw (digit_again (byte / 16) (omega arith), digit_again (byte % 16) (omega arith)) (ap (λ (n : ℕ). Some n) whole)
@@ -96,3 +96,11 @@ small_read before (a ∷ b ∷ word) all small e =
 -- bytes that were read are bytes
 pub bytes_small : (bytes word : List ℕ) → bytes_of word ≡ Some bytes → AllByRecursion (λ b. b < 256) bytes
 bytes_small bytes word e = small_read [] word bytes tt e
+
+-- a word that is read as a byte is the byte's digits
+pub byte_takes : (byte : ℕ) (word : List ℕ) → byte_of word ≡ Some byte → (word ≡ text_of_byte byte) × (byte < 256)
+byte_takes byte [] e = absurd (cc)
+byte_takes byte (a ∷ []) e = absurd (cc)
+byte_takes byte (a ∷ b ∷ []) e =
+    (byte_of_digits a b (hex_digit a) (hex_digit b) byte refl refl e, byte_small a b (hex_digit a) (hex_digit b) byte refl refl e)
+byte_takes byte (a ∷ b ∷ c ∷ rest) e = absurd (cc)
