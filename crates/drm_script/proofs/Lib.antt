@@ -1,3 +1,4 @@
 pub mod Known
+pub mod JobReaders
 pub mod PacketReaders
 pub mod Records

@@ -157,7 +157,7 @@ same_name : (name text : List ℕ) → bytes_eq name text ≡ true → name ≡ 
 same_name name text is = (bytes_eq-Decides name text).0 is
 
 -- a name that is this one, or another
-choose : {A : Type 0} (b : Bool) (x y z : A) → cond b x y ≡ z → ((b ≡ true) × (x ≡ z)) ⊎ (y ≡ z)
+pub choose : {A : Type 0} (b : Bool) (x y z : A) → cond b x y ≡ z → ((b ≡ true) × (x ≡ z)) ⊎ (y ≡ z)
 choose true x y z e = inl (refl, e)
 choose false x y z e = inr e
 
