@@ -1,14 +1,24 @@
 -- The grammar of scripts and journals. A text is lines and a line is words: what is written here are the words of each
 -- line, and in which order lines stand.
-use Rattle.std.specs.Prelude.{ℕ, ◌^◌, ◌-◌, ◌<◌, ◌≤◌, List, [], ◌∷◌, ◌++◌, map, codes}
+use Rattle.std.specs.Prelude.{◌≡◌, ℕ, ◌^◌, ◌-◌, ◌<◌, ◌≤◌, List, [], ◌∷◌, ◌++◌, length, map, replicate, codes, None, ◌⊎◌}
 use Rattle.std.specs.List.{AllByRecursion, join_with_byte}
 use Rattle.std.specs.Fmt.{decimal}
+use Rattle.drm_core.specs.declared.event.Event.{Event}
+use Rattle.drm_core.specs.declared.event.Event.TheVariants as event
 use Rattle.drm_job.specs.declared.Draft.{Draft}
 use Rattle.drm_packet.specs.declared.Packet.{Packet}
 use Rattle.drm_packet.specs.declared.Packet.TheVariants.{Fill, Copy, Add, Stall}
 use Rattle.drm_types.specs.declared.access.Access.{Access}
 use Rattle.drm_types.specs.declared.access.Access.TheVariants as access
-use Rattle.drm_text.specs.Hexadecimal.{text_of_byte}
+use Rattle.drm_types.specs.Limits.{spec_fault}
+use Rattle.drm_types.specs.declared.spec.DeviceSpec.{DeviceSpec}
+use Rattle.drm_types.specs.declared.spec.EntitySpec.{EntitySpec}
+use Rattle.drm_types.specs.declared.spec.Priority.{Priority}
+use Rattle.drm_types.specs.declared.spec.Priority.TheVariants as priority
+use Rattle.drm_types.specs.declared.spec.RingSpec.{RingSpec}
+use Rattle.drm_text.specs.Grammar.{IsName, AreBytes, text_of_lines}
+use Rattle.drm_text.specs.Hexadecimal.{text_of_byte, text_of_bytes}
+use Rattle.drm_script.specs.declared.script.Script.{Script}
 
 -- a number of 32 bits
 abbrev pub IsNumber : ℕ → Type 0
@@ -57,3 +67,104 @@ ItemsFit declared after packets =
 
 abbrev pub JobFits : Draft → Type 0
 JobFits job = IsNumber job.entity × (job.credits ≤ 65535) × ItemsFit job.declared job.after job.packets
+
+-- ---- commands
+
+abbrev pub IsMoment : ℕ → Type 0
+IsMoment now = now ≤ 2 ^ 64 - 1
+
+-- the words of a command line
+abbrev pub command_words : Event → List (List ℕ)
+command_words (event.Submit job) = codes "submit" ∷ job_words job
+command_words (event.Begin ctx) = codes "begin" ∷ decimal ctx ∷ []
+command_words (event.Try ctx buffer) = codes "try" ∷ decimal ctx ∷ decimal buffer ∷ []
+command_words (event.Done ctx) = codes "done" ∷ decimal ctx ∷ []
+command_words (event.Drop ctx buffer) = codes "drop" ∷ decimal ctx ∷ decimal buffer ∷ []
+command_words (event.End ctx) = codes "end" ∷ decimal ctx ∷ []
+command_words (event.Plan ctx job) = codes "plan" ∷ decimal ctx ∷ job_words job
+command_words (event.Arm ctx) = codes "arm" ∷ decimal ctx ∷ []
+command_words (event.Pick ring now) = codes "pick" ∷ decimal ring ∷ decimal now ∷ []
+command_words (event.Step ring) = codes "step" ∷ decimal ring ∷ []
+command_words (event.Finish ring now) = codes "finish" ∷ decimal ring ∷ decimal now ∷ []
+command_words (event.Timeout ring now) = codes "timeout" ∷ decimal ring ∷ decimal now ∷ []
+command_words (event.Cancel entity) = codes "cancel" ∷ decimal entity ∷ []
+command_words (event.Reap entity) = codes "reap" ∷ decimal entity ∷ []
+command_words (event.Read ctx buffer) = codes "read" ∷ decimal ctx ∷ decimal buffer ∷ []
+command_words (event.Status fence) = codes "fence" ∷ decimal fence ∷ []
+command_words (event.Dump buffer) = codes "dump" ∷ decimal buffer ∷ []
+
+-- what a command names is there, and its numbers are in their ranges
+abbrev pub CommandFits : DeviceSpec → Event → Type 0
+CommandFits spec (event.Submit job) = JobFits job
+CommandFits spec (event.Begin ctx) = IsName 64 ctx
+CommandFits spec (event.Try ctx buffer) = IsName 64 ctx × IsName (length spec.buffers) buffer
+CommandFits spec (event.Done ctx) = IsName 64 ctx
+CommandFits spec (event.Drop ctx buffer) = IsName 64 ctx × IsName (length spec.buffers) buffer
+CommandFits spec (event.End ctx) = IsName 64 ctx
+CommandFits spec (event.Plan ctx job) = IsName 64 ctx × JobFits job
+CommandFits spec (event.Arm ctx) = IsName 64 ctx
+CommandFits spec (event.Pick ring now) = IsName (length spec.rings) ring × IsMoment now
+CommandFits spec (event.Step ring) = IsName (length spec.rings) ring
+CommandFits spec (event.Finish ring now) = IsName (length spec.rings) ring × IsMoment now
+CommandFits spec (event.Timeout ring now) = IsName (length spec.rings) ring × IsMoment now
+CommandFits spec (event.Cancel entity) = IsName (length spec.entities) entity
+CommandFits spec (event.Reap entity) = IsName (length spec.entities) entity
+CommandFits spec (event.Read ctx buffer) = IsName 64 ctx × IsName (length spec.buffers) buffer
+CommandFits spec (event.Status fence) = IsNumber fence
+CommandFits spec (event.Dump buffer) = IsName (length spec.buffers) buffer
+
+-- ---- headers
+
+-- the words of a line
+abbrev pub Line : Type 0
+Line = List (List ℕ)
+
+-- a buffer is told by its bytes, or by its size where each byte is 0
+abbrev pub SpellsBuffer : Line → List ℕ → Type 0
+SpellsBuffer line bytes =
+    ((line ≡ codes "buffer" ∷ text_of_bytes bytes ∷ []) × AreBytes bytes)
+    ⊎ ((size : ℕ) × (line ≡ codes "zero" ∷ decimal size ∷ []) × (size ≤ 65535) × (bytes ≡ replicate size 0))
+
+abbrev pub ring_words : RingSpec → Line
+ring_words ring = codes "ring" ∷ decimal ring.credit_limit ∷ decimal ring.timeout ∷ decimal ring.hang_limit ∷ []
+
+abbrev pub priority_word : Priority → List ℕ
+priority_word priority.Kernel = codes "kernel"
+priority_word priority.High = codes "high"
+priority_word priority.Normal = codes "normal"
+priority_word priority.Low = codes "low"
+
+abbrev pub entity_words : EntitySpec → Line
+entity_words entity = codes "entity" ∷ decimal entity.ring ∷ priority_word entity.priority ∷ []
+
+-- the last lines of a header
+abbrev pub opening : ℕ → List Line
+opening max_jobs = (codes "jobs" ∷ decimal max_jobs ∷ []) ∷ (codes "go" ∷ []) ∷ []
+
+abbrev pub RingFits : RingSpec → Type 0
+RingFits ring = (ring.credit_limit ≤ 65535) × IsNumber ring.timeout × IsNumber ring.hang_limit
+
+-- each line spells the element at its place
+abbrev pub Each : {A : Type 0} → (Line → A → Type 0) → List Line → List A → Type 0
+Each Spells [] [] = Unit {0}
+Each Spells [] (x ∷ xs) = ⊥
+Each Spells (line ∷ lines) [] = ⊥
+Each Spells (line ∷ lines) (x ∷ xs) = Spells line x × Each Spells lines xs
+
+-- the lines are the header of a device within its limits: its buffers, rings and entities, how many jobs it takes, and `go`
+abbrev pub SpellsHeader : List Line → DeviceSpec → Type 0
+SpellsHeader lines spec =
+    (buffers : List Line) × Each SpellsBuffer buffers spec.buffers
+    × (lines ≡ buffers ++ map ring_words spec.rings ++ map entity_words spec.entities ++ opening spec.max_jobs)
+    × AllByRecursion RingFits spec.rings × AllByRecursion (λ entity. IsNumber entity.ring) spec.entities × IsNumber spec.max_jobs
+    × (spec_fault spec ≡ None)
+
+-- ---- scripts
+
+-- the text is a header and command lines, and spells the script
+unfoldable pub SpellsScript : List ℕ → Script → Type 0
+SpellsScript text script =
+    (header : List Line) × SpellsHeader header script.spec
+    × AllByRecursion (CommandFits script.spec) script.lines
+    × (text ≡ text_of_lines (header ++ map command_words script.lines))
+    × (length text ≤ 1048576)
