@@ -1,5 +1,6 @@
 pub mod Known
 pub mod CommandReaders
+pub mod HeaderReaders
 pub mod JobReaders
 pub mod PacketReaders
 pub mod Records

@@ -153,7 +153,7 @@ stall_takes at pieces packet e =
     let word : decimal b.0 ≡ a.0 = number_takes 65535 b.0 a.0 (omega arith) some in
     subst (λ (x : Packet). Pieces (codes "stall") pieces x) (ok_is (Stall b.0) packet b.2) (ap (λ (words : List (List ℕ)). codes "stall" ∷ words) (f ∙ ap (λ (w : List ℕ). w ∷ []) (sym word)), small)
 
-same_name : (name text : List ℕ) → bytes_eq name text ≡ true → name ≡ text
+pub same_name : (name text : List ℕ) → bytes_eq name text ≡ true → name ≡ text
 same_name name text is = (bytes_eq-Decides name text).0 is
 
 -- a name that is this one, or another
