@@ -23,7 +23,7 @@ use Rattle.drm_text.specs.Keywords.{keyword_text, command_text}
 use Rattle.drm_text.specs.Lines.{start_at, last_line, out_of_order}
 use Rattle.drm_text.specs.Reading.{◌>>=◌, or_fault}
 use Rattle.drm_text.specs.Words.{last_number_at, name_at, last_name_at}
-use Rattle.drm_text.proofs.LineReaders.{AreWords, start_takes, start_again, last_takes, cut_lines}
+use Rattle.drm_text.proofs.LineReaders.{AreWords, start_takes, start_again, last_takes, cut_lines, keyword_is_word}
 use Rattle.drm_text.proofs.Spelled.{passes, is_graphic, passes-append, passes-joined, decimal_graphic, byte_graphic}
 use Rattle.drm_text.proofs.WordReaders.{bind_ok, ok_is, or_fault_ok, ReadsWord, ReadsLine, names_read, last_names_read, last_numbers_read}
 use Rattle.drm_script.specs.Commands.{context_and_buffer_at, ring_and_moment_at, submit_at, plan_at, event_at, command_of, event_line, events_of}
@@ -234,6 +234,11 @@ written spec (event.Status fence) fits =
 written spec (event.Dump buffer) fits =
     record { name = command.Dump; fields = decimal buffer ∷ []; spelled = refl; are = (name_graphic _ buffer fits, tt); again = λ words is. one_again spec (length spec.buffers) buffer event.Dump words fits is }
 
+-- the words of a command line are words
+pub command_graphic : (spec : DeviceSpec) (e : Event) → CommandFits spec e → AreWords (command_words e)
+command_graphic spec e fits =
+    let w = written spec e fits in subst AreWords (sym w.spelled) (keyword_is_word (line.Command w.name), w.are)
+
 -- ---- lines
 
 command_takes : (keyword : Keyword) (c : Command) → command_of keyword ≡ Some c → keyword_text keyword ≡ command_text c
@@ -294,7 +299,7 @@ unfolding events_of
 one_event spec events n bytes [] some = absurd (omega arith)
 one_event spec events n bytes (next ∷ rest) some = refl
 
-some_lines : (lines : List (List (List ℕ))) → 0 < length (cut_lines lines)
+pub some_lines : (lines : List (List (List ℕ))) → 0 < length (cut_lines lines)
 some_lines [] = omega arith
 some_lines (words ∷ lines) = omega arith
 

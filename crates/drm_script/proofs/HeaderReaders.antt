@@ -84,7 +84,7 @@ priority_again priority.High = refl
 priority_again priority.Normal = refl
 priority_again priority.Low = refl
 
-priority_is_word : (p : Priority) → (0 < length (priority_word p)) × (passes is_graphic (priority_word p) ≡ true)
+pub priority_is_word : (p : Priority) → (0 < length (priority_word p)) × (passes is_graphic (priority_word p) ≡ true)
 priority_is_word priority.Kernel = (omega arith, refl)
 priority_is_word priority.High = (omega arith, refl)
 priority_is_word priority.Normal = (omega arith, refl)
@@ -219,7 +219,7 @@ ending section.Open max_jobs = opening max_jobs
 abbrev header_lines : Section → List Line → List RingSpec → List EntitySpec → ℕ → List Line
 header_lines last buffers rings entities max_jobs = buffers ++ map ring_words rings ++ map entity_words entities ++ ending last max_jobs
 
-abbrev as_bytes : List Line → List (List ℕ)
+abbrev pub as_bytes : List Line → List (List ℕ)
 as_bytes lines = map (join_with_byte 32) lines
 
 record Header (spec : DeviceSpec) (last : Section) (parts : List (List ℕ)) (x : DeviceSpec × Left) : Type 0 where

@@ -127,7 +127,7 @@ item_takes draft at word next (kind.Declared access.Write) is late e = declares_
 item_takes draft at word next kind.After is late e = waits_takes draft at word next is late e
 item_takes draft at word next kind.Packet is late e = works_takes draft at word next e
 
-in_time : {A : Type 0} (late : Bool) (fault : Fault) (r : Result A Fault) (y : A) → cond late (Err fault) r ≡ Ok y → (late ≡ false) × (r ≡ Ok y)
+pub in_time : {A : Type 0} (late : Bool) (fault : Fault) (r : Result A Fault) (y : A) → cond late (Err fault) r ≡ Ok y → (late ≡ false) × (r ≡ Ok y)
 in_time true fault r y e = absurd (cc)
 in_time false fault r y e = (refl, e)
 

@@ -4,3 +4,4 @@ pub mod HeaderReaders
 pub mod JobReaders
 pub mod PacketReaders
 pub mod Records
+pub mod ScriptReaders
