@@ -28,7 +28,7 @@ use Rattle.drm_script.proofs.PacketReaders.{some_is, number_word, number_again, 
 
 -- ---- one word
 
-not_true : (b : Bool) → not b ≡ true → b ≡ false
+pub not_true : (b : Bool) → not b ≡ true → b ≡ false
 not_true true e = absurd (cc)
 not_true false e = refl
 

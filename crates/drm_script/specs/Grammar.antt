@@ -1,6 +1,6 @@
 -- The grammar of scripts and journals. A text is lines and a line is words: what is written here are the words of each
 -- line, and in which order lines stand.
-use Rattle.std.specs.Prelude.{◌≡◌, ℕ, ◌^◌, ◌-◌, ◌<◌, ◌≤◌, List, [], ◌∷◌, ◌++◌, length, map, replicate, codes, None, ◌⊎◌, Result, Ok}
+use Rattle.std.specs.Prelude.{◌≡◌, ℕ, ◌^◌, ◌-◌, ◌<◌, ◌≤◌, List, [], ◌∷◌, ◌++◌, length, map, replicate, codes, None, ◌⊎◌, ◌↔◌, Result, Ok}
 use Rattle.std.specs.List.{AllByRecursion, join_with_byte}
 use Rattle.std.specs.Fmt.{decimal}
 use Rattle.drm_core.specs.declared.event.Event.{Event}
@@ -17,6 +17,7 @@ use Rattle.drm_types.specs.declared.spec.Priority.{Priority}
 use Rattle.drm_types.specs.declared.spec.Priority.TheVariants as priority
 use Rattle.drm_types.specs.declared.spec.RingSpec.{RingSpec}
 use Rattle.drm_text.specs.Grammar.{IsName, AreBytes, text_of_lines}
+use Rattle.drm_text.specs.declared.fault.Fault.{Fault}
 use Rattle.drm_text.specs.declared.fault.ReadError.{ReadError}
 use Rattle.drm_text.specs.Reading.{Gives}
 use Rattle.drm_text.specs.Hexadecimal.{text_of_byte, text_of_bytes}
@@ -175,6 +176,10 @@ SpellsScript text script =
 abbrev pub IsReadAsSpelled : {X : Type 0} → (List ℕ → X → Type 0) → List ℕ → Result X ReadError → Type 0
 IsReadAsSpelled {X} Spells text result = (x : X) → Spells text x → Gives (λ y. y) result (Ok x)
 
--- a text spells this or nothing
+-- a text is judged to be what it spells, and as nothing else
+abbrev pub IsJudgedAsSpelled : {X : Type 0} → (List ℕ → Result X Fault) → (List ℕ → X → Type 0) → Type 0
+IsJudgedAsSpelled {X} judge Spells = (text : List ℕ) (x : X) → (judge text ≡ Ok x) ↔ Spells text x
+
+-- a text spells one thing at most
 abbrev pub SpellsOne : {X : Type 0} → (List ℕ → X → Type 0) → Type 0
 SpellsOne {X} Spells = (text : List ℕ) (x y : X) → Spells text x → Spells text y → x ≡ y

@@ -4,6 +4,7 @@ pub mod Grammar
 pub mod Header
 pub mod Job
 pub mod Journal
+pub mod JournalGrammar
 pub mod JournalText
 pub mod Script
 pub mod Transfer

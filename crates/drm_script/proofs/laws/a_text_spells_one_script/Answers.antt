@@ -1,7 +1,0 @@
-use Rattle.std.proofs.Common.{sym, ◌∙◌}
-use Rattle.drm_text.proofs.WordReaders.{ok_is}
-use Rattle.drm_script.proofs.ScriptReaders.{script_again}
-use Rattle.drm_script.proofs.laws.a_text_spells_one_script.Goals as goal
-
-pub returns : goal.returns
-returns c = λ text x y spells_x spells_y. ok_is x y (sym (script_again text x spells_x) ∙ script_again text y spells_y)
