@@ -1,19 +1,17 @@
 -- Lines that are read, and lines that are written.
-use Rattle.std.proofs.Common.{◌≡◌, ◌≢◌, ℕ, ◌+◌, ◌≤◌, ◌<◌, ◌==◌, Bool, true, false, cond, List, [], ◌∷◌, ◌++◌, length, map, append_assoc, Some, Option, Result, Ok, Err, refl, sym, ap, subst, ◌∙◌, arith, eq-eqb, le-leb}
-use Rattle.std.specs.Prelude.{◌&&◌, nat_le}
+use Rattle.std.proofs.Common.{◌≡◌, ◌≢◌, ℕ, ◌+◌, ◌≤◌, ◌<◌, ◌==◌, true, false, List, [], ◌∷◌, ◌++◌, length, map, append_assoc, Ok, Err, refl, sym, ap, subst, ◌∙◌, arith, eq-eqb, le-leb}
 use Rattle.std.specs.List.{All, AllByRecursion, join_with_byte}
 use Rattle.std.proofs.lemmas.Bool.{and_parts, leb-true, ne_eqb}
 use Rattle.std.proofs.lemmas.List.Elements.{All-weaker, All-from_recursion}
 use Rattle.std.proofs.lemmas.List.Splits.{slice_split_at, join_with_byte-slice_split}
-use Rattle.drm_text.specs.declared.fault.Fault.{Fault}
 use Rattle.drm_text.specs.declared.fault.Fault.TheVariants.{Text}
 use Rattle.drm_text.specs.declared.fault.TextFault.TheVariants as what
 use Rattle.drm_text.specs.declared.keywords.Command.TheVariants as command
 use Rattle.drm_text.specs.declared.keywords.Keyword.{Keyword}
 use Rattle.drm_text.specs.declared.keywords.Keyword.TheVariants as line
 use Rattle.drm_text.specs.Cut.{Words, cut_from, parts_of}
-use Rattle.drm_text.specs.Grammar.{line_of_words, text_of_lines}
-use Rattle.drm_text.specs.Keywords.{keyword_of, keyword_text, command_text}
+use Rattle.drm_text.specs.Grammar.{text_of_lines}
+use Rattle.drm_text.specs.Keywords.{keyword_of, keyword_text}
 use Rattle.drm_text.specs.Laws.{IsFree}
 use Rattle.drm_text.specs.Lines.{is_printable, text_fault, start_at, last_line}
 use Rattle.drm_text.specs.Reading.{◌>>=◌, or_fault}
@@ -70,7 +68,7 @@ start_takes n bytes x e =
     let word : b.0.0 ≡ keyword_text c.0 = keyword_takes c.0 b.0.0 (or_fault_ok (keyword_of b.0.0) (Text n 1 what.Word) c.0 c.1) in
     let parts : parts_of 32 bytes ≡ keyword_text c.0 ∷ b.0.1.rest.parts = sym (all_parts n bytes) ∙ (any_word.takes words b.0 b.1).0 ∙ ap (λ (w : List ℕ). w ∷ b.0.1.rest.parts) word in
     subst (λ (y : Keyword × Words). bytes ≡ join_with_byte 32 (keyword_text y.0 ∷ y.1.rest.parts)) (ok_is (c.0, b.0.1) x c.2)
-        (sym (join_with_byte-slice_split 32 bytes) ∙ ap (join_with_byte 32) parts)
+    (sym (join_with_byte-slice_split 32 bytes) ∙ ap (join_with_byte 32) parts)
 
 keyword_graphic : (keyword : Keyword) → (0 < length (keyword_text keyword)) × (passes is_graphic (keyword_text keyword) ≡ true)
 keyword_graphic line.Buffer = (omega arith, refl)
@@ -135,7 +133,7 @@ lines_cut (words ∷ lines) are =
     let bytes = join_with_byte 32 words in
     let free : IsFree 10 bytes = free_from is_printable 10 refl bytes (joined_printable words are.0) in
     let fails : All (λ b. (b == 10) ≡ false) bytes =
-        All-weaker (λ b. b ≢ 10) (λ b. (b == 10) ≡ false) (λ b other. ne_eqb b 10 other) bytes (All-from_recursion (λ b. b ≢ 10) bytes free) in
+    All-weaker (λ b. b ≢ 10) (λ b. (b == 10) ≡ false) (λ b other. ne_eqb b 10 other) bytes (All-from_recursion (λ b. b ≢ 10) bytes free) in
     ap (parts_of 10) (append_assoc bytes (10 ∷ []) (text_of_lines lines))
     ∙ slice_split_at (λ b. b == 10) bytes 10 (text_of_lines lines) fails (eq-eqb 10 10 refl)
     ∙ ap (λ (parts : List (List ℕ)). bytes ∷ parts) (lines_cut lines are.1)

@@ -1,5 +1,5 @@
 -- Which bytes spelled words have.
-use Rattle.std.proofs.Common.{◌≡◌, ◌≢◌, ℕ, ◌+◌, ◌/◌, ◌%◌, ◌^◌, ◌<◌, ◌≤◌, ◌==◌, Bool, true, false, not, List, [], ◌∷◌, ◌++◌, length, refl, sym, ap, ◌∙◌, arith, eq-eqb, le-leb}
+use Rattle.std.proofs.Common.{◌≡◌, ℕ, ◌+◌, ◌/◌, ◌%◌, ◌^◌, ◌<◌, ◌==◌, Bool, true, false, not, List, [], ◌∷◌, ◌++◌, refl, sym, ap, ◌∙◌, arith, le-leb}
 use Rattle.std.specs.Prelude.{◌&&◌, nat_le}
 use Rattle.std.specs.Fmt.{decimal}
 use Rattle.std.specs.List.{AllByRecursion, join_with_byte}
@@ -32,9 +32,9 @@ passes-append p (byte ∷ front) back is also =
 pub passes-decimal : (p : ℕ → Bool) → ((digit : ℕ) → digit < 10 → p (48 + digit) ≡ true) → (n : ℕ) → n < 2 ^ 64 → passes p (decimal n) ≡ true
 passes-decimal p digits n small =
     decimal_by_steps (λ n word. passes p word ≡ true)
-        (λ n lt. both (p (48 + n)) true (digits n lt) refl)
-        (λ n word ten front. passes-append p word ((48 + n % 10) ∷ []) front (both (p (48 + n % 10)) true (digits (n % 10) (omega arith)) refl))
-        n small
+    (λ n lt. both (p (48 + n)) true (digits n lt) refl)
+    (λ n word ten front. passes-append p word ((48 + n % 10) ∷ []) front (both (p (48 + n % 10)) true (digits (n % 10) (omega arith)) refl))
+    n small
 
 pub passes-byte : (p : ℕ → Bool) → ((digit : ℕ) → digit < 16 → p (digit_of digit) ≡ true) → (byte : ℕ) → byte < 256 → passes p (text_of_byte byte) ≡ true
 passes-byte p digits byte small =

@@ -1,5 +1,5 @@
 -- What readers of words take from a line, and that they take again what is written.
-use Rattle.std.proofs.Common.{◌≡◌, ℕ, ◌^◌, ◌-◌, ◌<◌, ◌≤◌, Bool, true, false, cond, ltb, List, [], ◌∷◌, length, Option, Some, None, Result, Ok, Err, refl, sym, ap, subst, ◌∙◌, arith, lt-ltb}
+use Rattle.std.proofs.Common.{◌≡◌, ℕ, ◌^◌, ◌-◌, ◌<◌, ◌≤◌, Bool, true, false, cond, List, [], ◌∷◌, length, Option, Some, None, Result, Ok, Err, refl, ap, subst, ◌∙◌, arith, lt-ltb}
 use Rattle.std.specs.Prelude.{nat_lt}
 use Rattle.std.specs.Fmt.{decimal}
 use Rattle.std.proofs.lemmas.Bool.{ltb-true}
@@ -82,16 +82,16 @@ pub numbers_read : (most : ℕ) → most < 2 ^ 64 → ReadsWord (number_at most)
 unfolding number_at
 numbers_read most small = record {
   takes = λ words x e.
-    let a = bind_ok (word_at words) (λ word. or_fault (number_up_to most word.0) (fault_here words what.Number) >>= λ n. Ok (n, word.1)) x e in
-    let b = bind_ok (or_fault (number_up_to most a.0.0) (fault_here words what.Number)) (λ n. Ok (n, a.0.1)) x a.2 in
-    let some = or_fault_ok (number_up_to most a.0.0) (fault_here words what.Number) b.0 b.1 in
-    let fits : b.0 ≤ most = number_small most b.0 a.0.0 some in
-    let word : decimal b.0 ≡ a.0.0 = number_takes most b.0 a.0.0 (omega arith) some in
-    let is = any_word.takes words a.0 a.1 in
-    subst (λ (y : ℕ × Words). (words.rest.parts ≡ decimal y.0 ∷ y.1.rest.parts) × (y.0 ≤ most)) (ok_is (b.0, a.0.1) x b.2) (rw word is.0, fits);
+      let a = bind_ok (word_at words) (λ word. or_fault (number_up_to most word.0) (fault_here words what.Number) >>= λ n. Ok (n, word.1)) x e in
+      let b = bind_ok (or_fault (number_up_to most a.0.0) (fault_here words what.Number)) (λ n. Ok (n, a.0.1)) x a.2 in
+      let some = or_fault_ok (number_up_to most a.0.0) (fault_here words what.Number) b.0 b.1 in
+      let fits : b.0 ≤ most = number_small most b.0 a.0.0 some in
+      let word : decimal b.0 ≡ a.0.0 = number_takes most b.0 a.0.0 (omega arith) some in
+      let is = any_word.takes words a.0 a.1 in
+      subst (λ (y : ℕ × Words). (words.rest.parts ≡ decimal y.0 ∷ y.1.rest.parts) × (y.0 ≤ most)) (ok_is (b.0, a.0.1) x b.2) (rw word is.0, fits);
   again = λ words n more is fits.
-    let a = any_word.again words (decimal n) more is (decimal_nonempty n (omega arith)) in
-    (a.0, rw (a.1, number_written most n (omega arith) fits) refl, a.2);
+      let a = any_word.again words (decimal n) more is (decimal_nonempty n (omega arith)) in
+      (a.0, rw (a.1, number_written most n (omega arith) fits) refl, a.2);
 }
 
 -- a reader of one word, at the end of the line
@@ -99,14 +99,14 @@ pub ends_line : {X : Type 0} (read : Words → Result (X × Words) Fault) (spell
     → ReadsLine (λ words. read words >>= λ x. end_at x.1 >>= λ _. Ok x.0) (λ x. spell x ∷ []) Fits
 ends_line {X} read spell Fits reads = record {
   takes = λ words x e.
-    let a = bind_ok (read words) (λ y. end_at y.1 >>= λ _. Ok y.0) x e in
-    let b = bind_ok (end_at a.0.1) (λ _. Ok a.0.0) x a.2 in
-    let is = reads.takes words a.0 a.1 in
-    let ended = (no_word.takes a.0.1 b.0 b.1).0 in
-    subst (λ (y : X). (words.rest.parts ≡ spell y ∷ []) × Fits y) (ok_is a.0.0 x b.2) (rw ended at is.0, is.1);
+      let a = bind_ok (read words) (λ y. end_at y.1 >>= λ _. Ok y.0) x e in
+      let b = bind_ok (end_at a.0.1) (λ _. Ok a.0.0) x a.2 in
+      let is = reads.takes words a.0 a.1 in
+      let ended = (no_word.takes a.0.1 b.0 b.1).0 in
+      subst (λ (y : X). (words.rest.parts ≡ spell y ∷ []) × Fits y) (ok_is a.0.0 x b.2) (rw ended at is.0, is.1);
   again = λ words x is fits.
-    let a = reads.again words x [] is fits in
-    rw (a.1, no_word.again a.0 tt a.2 tt) refl;
+      let a = reads.again words x [] is fits in
+      rw (a.1, no_word.again a.0 tt a.2 tt) refl;
 }
 
 pub last_numbers_read : (most : ℕ) → most < 2 ^ 64 → ReadsLine (last_number_at most) (λ n. decimal n ∷ []) (λ n. n ≤ most)
@@ -119,13 +119,13 @@ pub names_read : (count : ℕ) → ReadsWord (name_at count) decimal (IsName cou
 unfolding name_at
 names_read count = record {
   takes = λ words x e.
-    let a = bind_ok (number_at (2 ^ 32 - 1) words) (λ n. cond (nat_lt n.0 count) (Ok n) (Err (fault_here words what.NoSuch))) x e in
-    let t = test_ok (nat_lt a.0.0 count) a.0 x (fault_here words what.NoSuch) a.2 in
-    let is = (numbers_read (2 ^ 32 - 1) (omega arith)).takes words a.0 a.1 in
-    subst (λ (y : ℕ × Words). (words.rest.parts ≡ decimal y.0 ∷ y.1.rest.parts) × IsName count y.0) t.1 (is.0, (is.1, ltb-true _ _ t.0));
+      let a = bind_ok (number_at (2 ^ 32 - 1) words) (λ n. cond (nat_lt n.0 count) (Ok n) (Err (fault_here words what.NoSuch))) x e in
+      let t = test_ok (nat_lt a.0.0 count) a.0 x (fault_here words what.NoSuch) a.2 in
+      let is = (numbers_read (2 ^ 32 - 1) (omega arith)).takes words a.0 a.1 in
+      subst (λ (y : ℕ × Words). (words.rest.parts ≡ decimal y.0 ∷ y.1.rest.parts) × IsName count y.0) t.1 (is.0, (is.1, ltb-true _ _ t.0));
   again = λ words n more is fits.
-    let a = (numbers_read (2 ^ 32 - 1) (omega arith)).again words n more is fits.0 in
-    (a.0, rw (a.1, lt-ltb n count fits.1) refl, a.2);
+      let a = (numbers_read (2 ^ 32 - 1) (omega arith)).again words n more is fits.0 in
+      (a.0, rw (a.1, lt-ltb n count fits.1) refl, a.2);
 }
 
 pub last_names_read : (count : ℕ) → ReadsLine (last_name_at count) (λ n. decimal n ∷ []) (IsName count)
@@ -147,16 +147,16 @@ pub bytes_read : ReadsWord bytes_at text_of_bytes AreBytes
 unfolding bytes_at
 bytes_read = record {
   takes = λ words x e.
-    let a = bind_ok (word_at words) (λ word. or_fault (bytes_of word.0) (fault_here words what.Number) >>= λ bytes. Ok (bytes, word.1)) x e in
-    let b = bind_ok (or_fault (bytes_of a.0.0) (fault_here words what.Number)) (λ bytes. Ok (bytes, a.0.1)) x a.2 in
-    let some = or_fault_ok (bytes_of a.0.0) (fault_here words what.Number) b.0 b.1 in
-    let word : a.0.0 ≡ text_of_bytes b.0 = bytes_takes b.0 a.0.0 some in
-    let is = any_word.takes words a.0 a.1 in
-    subst (λ (y : List ℕ × Words). (words.rest.parts ≡ text_of_bytes y.0 ∷ y.1.rest.parts) × AreBytes y.0) (ok_is (b.0, a.0.1) x b.2)
-        (rw (← word) is.0, (some_bytes b.0 a.0.0 word is.1, bytes_small b.0 a.0.0 some));
+      let a = bind_ok (word_at words) (λ word. or_fault (bytes_of word.0) (fault_here words what.Number) >>= λ bytes. Ok (bytes, word.1)) x e in
+      let b = bind_ok (or_fault (bytes_of a.0.0) (fault_here words what.Number)) (λ bytes. Ok (bytes, a.0.1)) x a.2 in
+      let some = or_fault_ok (bytes_of a.0.0) (fault_here words what.Number) b.0 b.1 in
+      let word : a.0.0 ≡ text_of_bytes b.0 = bytes_takes b.0 a.0.0 some in
+      let is = any_word.takes words a.0 a.1 in
+      subst (λ (y : List ℕ × Words). (words.rest.parts ≡ text_of_bytes y.0 ∷ y.1.rest.parts) × AreBytes y.0) (ok_is (b.0, a.0.1) x b.2)
+      (rw (← word) is.0, (some_bytes b.0 a.0.0 word is.1, bytes_small b.0 a.0.0 some));
   again = λ words bytes more is fits.
-    let a = any_word.again words (text_of_bytes bytes) more is (some_digits bytes fits.0) in
-    (a.0, rw (a.1, bytes_written bytes fits.1) refl, a.2);
+      let a = any_word.again words (text_of_bytes bytes) more is (some_digits bytes fits.0) in
+      (a.0, rw (a.1, bytes_written bytes fits.1) refl, a.2);
 }
 
 pub last_bytes_read : ReadsLine last_bytes_at (λ bytes. text_of_bytes bytes ∷ []) AreBytes
