@@ -1,4 +1,5 @@
 pub mod JournalReaders
+pub mod JournalSpelled
 pub mod Known
 pub mod CommandReaders
 pub mod HeaderReaders
