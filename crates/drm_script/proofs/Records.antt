@@ -32,7 +32,7 @@ one_more_job spec reading job read is =
     let same : 0 + length reading.jobs ≡ length reading.jobs = omega arith in
     (one_more_record spec 0 reading.jobs job read.0 (rw same is), read.1, read.2)
 
-below_length : (xs : List (List ℕ)) (k size : ℕ) → option_map length (slice_get xs k) ≡ Some size → k < length xs
+pub below_length : (xs : List (List ℕ)) (k size : ℕ) → option_map length (slice_get xs k) ≡ Some size → k < length xs
 below_length [] k size e = absurd (cc)
 below_length (y ∷ xs) zero size e = omega arith
 below_length (y ∷ xs) (suc k) size e = let lt : k < length xs = below_length xs k size e in omega arith

@@ -1,8 +1,10 @@
 pub mod Answers
 pub mod Commands
+pub mod Grammar
 pub mod Header
 pub mod Job
 pub mod Journal
+pub mod JournalGrammar
 pub mod JournalText
 pub mod Script
 pub mod Transfer

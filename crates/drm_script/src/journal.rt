@@ -5,6 +5,8 @@ ghost use Rattle.std.specs.List.{list_all};
 ghost use Rattle.drm_types.specs.Limits.{spec_fault};
 ghost use Rattle.drm_text.specs.Reading.{Reads, Gives};
 ghost use Rattle.drm_script.specs.Journal.{IsJournal, IsRead, status_of, may_have_run, size_of, has_place as has_place_in, is_job, is_record, record_or, record_at, final_at, with_job, with_final, with_end, with_body, journal_line, body_of, nothing_read, judge_journal};
+ghost use Rattle.drm_script.specs.Grammar.{IsReadAsSpelled};
+ghost use Rattle.drm_script.specs.JournalGrammar.{SpellsJournal};
 
 use crate::header::read_header;
 use crate::job::read_job;
@@ -332,9 +334,8 @@ fn read_body(alloc: Global, spec: &DeviceSpec, lines: &mut Lines) -> Result<Read
     Ok(reading)
 }
 
-/// The journal that the text spells.
 #[tactic(auto, unfolding(crate::specs::Journal::judge_journal))]
-pub fn read_journal(alloc: Global, text: &[u8]) -> Result<Journal, ReadError>
+fn read_text(alloc: Global, text: &[u8]) -> Result<Journal, ReadError>
     ensures { Gives (λ journal. journal) result (judge_journal text.now) }
 {
     if text.len() > MAX_TEXT {
@@ -349,4 +350,14 @@ pub fn read_journal(alloc: Global, text: &[u8]) -> Result<Journal, ReadError>
     let reading = read_body(alloc, &spec, &mut lines)?;
     let Reading { jobs, finals, .. } = reading;
     Ok(Journal::new(spec, jobs, finals))
+}
+
+/// The journal that the text spells. It succeeds, refused memory apart, exactly on the texts that spell one, and
+/// else tells the text's first fault.
+pub fn read_journal(alloc: Global, text: &[u8]) -> Result<Journal, ReadError>
+    ensures value { Gives (λ journal. journal) result (judge_journal text.now) }
+    ensures found { IfOk result (λ journal. SpellsJournal text.now journal) }
+    ensures only { IsReadAsSpelled SpellsJournal text.now result }
+{
+    read_text(alloc, text)
 }

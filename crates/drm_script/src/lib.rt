@@ -13,6 +13,7 @@ mod input;
 mod job;
 mod journal;
 mod journal_text;
+mod laws;
 mod output;
 mod script;
 #[cfg(test)]
@@ -23,5 +24,6 @@ pub use drm_text::{Fault, ReadError, TextFault};
 pub use input::{InputError, read_input, read_journal_from, read_script_from};
 pub use journal::{Journal, JournalJob, read_journal};
 pub use journal_text::write_journal;
+pub use laws::{a_text_spells_one, texts_are_judged_as_spelled};
 pub use output::put_all;
 pub use script::{Script, read_script};

@@ -4,6 +4,7 @@ ghost use Rattle.std.specs.Prelude.{◌≡◌, ◌≤◌, [], None, length, IfOk
 ghost use Rattle.drm_types.specs.Limits.{spec_fault};
 ghost use Rattle.drm_text.specs.Reading.{Gives};
 ghost use Rattle.drm_script.specs.Commands.{AllNamesExist, events_of};
+ghost use Rattle.drm_script.specs.Grammar.{IsReadAsSpelled, SpellsScript};
 ghost use Rattle.drm_script.specs.Script.{script_of, judge_script};
 
 use crate::command::read_event_line;
@@ -42,9 +43,8 @@ fn read_events(
     Ok(events)
 }
 
-/// The script that the text spells.
 #[tactic(auto, unfolding(crate::specs::Script::judge_script))]
-pub fn read_script(alloc: Global, text: &[u8]) -> Result<Script, ReadError>
+fn read_text(alloc: Global, text: &[u8]) -> Result<Script, ReadError>
     ensures value { Gives (λ script. script) result (judge_script text.now) }
     ensures fits { IfOk result (λ script. spec_fault script.spec ≡ None) }
     ensures exist { IfOk result (λ script. AllNamesExist script.spec script.lines) }
@@ -63,4 +63,16 @@ pub fn read_script(alloc: Global, text: &[u8]) -> Result<Script, ReadError>
         spec,
         lines: events,
     })
+}
+
+/// The script that the text spells. It succeeds, refused memory apart, exactly on the texts that spell one, and
+/// else tells the text's first fault.
+pub fn read_script(alloc: Global, text: &[u8]) -> Result<Script, ReadError>
+    ensures value { Gives (λ script. script) result (judge_script text.now) }
+    ensures found { IfOk result (λ script. SpellsScript text.now script) }
+    ensures only { IsReadAsSpelled SpellsScript text.now result }
+    ensures fits { IfOk result (λ script. spec_fault script.spec ≡ None) }
+    ensures exist { IfOk result (λ script. AllNamesExist script.spec script.lines) }
+{
+    read_text(alloc, text)
 }

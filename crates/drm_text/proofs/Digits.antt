@@ -3,7 +3,7 @@ use Rattle.std.proofs.Common.{◌≡◌, ℕ, ◌≤◌, Bool, true, false, cond
 use Rattle.std.specs.Prelude.{IfSome, ◌&&◌}
 use Rattle.std.specs.Char.{is_ascii_digit}
 use Rattle.std.proofs.lemmas.Bool.{leb-true}
-use Rattle.drm_text.specs.Number.{with_digit, with_digits, digits_up_to}
+use Rattle.drm_text.specs.Number.{with_digit, with_digits, digits_up_to, number_up_to, has_one_form}
 
 abbrev IsSmall : ℕ → Option ℕ → Type 0
 IsSmall most o = IfSome o (λ n. n ≤ most)
@@ -21,3 +21,15 @@ small_digits most (Some value) (byte ∷ word) h =
 
 pub digits_are_small : (most : ℕ) (word : List ℕ) → IfSome (digits_up_to most word) (λ n. n ≤ most)
 digits_are_small most word = small_digits most (Some 0) word (omega arith)
+
+some_small : (most n : ℕ) (o : Option ℕ) → IsSmall most o → o ≡ Some n → n ≤ most
+some_small most n None h e = absurd (cc)
+some_small most n (Some m) h e = let same : m ≡ n = cc in omega arith
+
+form_small : (most : ℕ) (b : Bool) (o : Option ℕ) → IsSmall most o → IsSmall most (cond b o None)
+form_small most true o h = h
+form_small most false o h = tt
+
+pub number_small : (most n : ℕ) (word : List ℕ) → number_up_to most word ≡ Some n → n ≤ most
+number_small most n word e =
+    some_small most n (number_up_to most word) (form_small most (has_one_form word) (digits_up_to most word) (digits_are_small most word)) e

@@ -3,6 +3,9 @@ pub mod Digits
 pub mod Finding
 pub mod NumberLaws
 pub mod Pairs
+pub mod LineReaders
+pub mod WordReaders
+pub mod Spelled
 pub mod NumbersWritten
 pub mod BytesWritten
 pub mod KeywordsWritten

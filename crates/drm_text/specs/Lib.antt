@@ -1,5 +1,6 @@
 pub mod Cut
 pub mod Faults
+pub mod Grammar
 pub mod Hexadecimal
 pub mod Keywords
 pub mod Laws

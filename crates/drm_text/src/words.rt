@@ -83,6 +83,7 @@ impl<'a> Words<'a> {
     #[tactic(auto, unfolding(crate::specs::Words::word_at))]
     pub fn word(&mut self) -> Result<&'a [u8], Fault>
         ensures value { Reads (λ w. (w.now, self.new)) result (word_at self.old) }
+        ensures line { self.new.line ≡ self.old.line }
         ensures bound { IfOk result (λ w. length w.now ≤ 1048576) }
     {
         let empty = self.fault(TextFault::Word);
@@ -102,6 +103,7 @@ impl<'a> Words<'a> {
     #[tactic(auto, unfolding(crate::specs::Words::number_at))]
     pub fn number(&mut self, most: u64) -> Result<u64, Fault>
         ensures value { Reads (λ n. (n, self.new)) result (number_at most self.old) }
+        ensures line { self.new.line ≡ self.old.line }
         ensures small { IfOk result (λ n. n ≤ most) }
     {
         let fault = self.fault(TextFault::Number);
@@ -113,6 +115,7 @@ impl<'a> Words<'a> {
     #[tactic(auto, unfolding(crate::specs::Words::last_number_at))]
     pub fn last_number(&mut self, most: u64) -> Result<u64, Fault>
         ensures value { Reads (λ n. n) result (last_number_at most self.old) }
+        ensures line { self.new.line ≡ self.old.line }
         ensures small { IfOk result (λ n. n ≤ most) }
     {
         let number = self.number(most)?;
@@ -124,6 +127,7 @@ impl<'a> Words<'a> {
     #[tactic(auto, unfolding(crate::specs::Words::name_at))]
     pub fn name(&mut self, count: usize) -> Result<u32, Fault>
         ensures value { Reads (λ n. (n, self.new)) result (name_at count self.old) }
+        ensures line { self.new.line ≡ self.old.line }
         ensures exists { IfOk result (λ n. n < count) }
     {
         let fault = self.fault(TextFault::NoSuch);
@@ -138,6 +142,7 @@ impl<'a> Words<'a> {
     #[tactic(auto, unfolding(crate::specs::Words::last_name_at))]
     pub fn last_name(&mut self, count: usize) -> Result<u32, Fault>
         ensures value { Reads (λ n. n) result (last_name_at count self.old) }
+        ensures line { self.new.line ≡ self.old.line }
         ensures exists { IfOk result (λ n. n < count) }
     {
         let name = self.name(count)?;
@@ -148,7 +153,8 @@ impl<'a> Words<'a> {
     /// That no word is left.
     #[tactic(auto, unfolding(crate::specs::Words::end_at))]
     pub fn end(&mut self) -> Result<(), Fault>
-        ensures { Reads (λ _. tt) result (end_at self.old) }
+        ensures value { Reads (λ _. tt) result (end_at self.old) }
+        ensures line { self.new.line ≡ self.old.line }
     {
         let fault = self.fault(TextFault::Word);
         match self.rest.next() {

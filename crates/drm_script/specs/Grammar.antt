@@ -1,0 +1,185 @@
+-- The grammar of scripts and journals. A text is lines and a line is words: what is written here are the words of each
+-- line, and in which order lines stand.
+use Rattle.std.specs.Prelude.{◌≡◌, ℕ, ◌^◌, ◌-◌, ◌<◌, ◌≤◌, List, [], ◌∷◌, ◌++◌, length, map, replicate, codes, None, ◌⊎◌, ◌↔◌, Result, Ok}
+use Rattle.std.specs.List.{AllByRecursion, join_with_byte}
+use Rattle.std.specs.Fmt.{decimal}
+use Rattle.drm_core.specs.declared.event.Event.{Event}
+use Rattle.drm_core.specs.declared.event.Event.TheVariants as event
+use Rattle.drm_job.specs.declared.Draft.{Draft}
+use Rattle.drm_packet.specs.declared.Packet.{Packet}
+use Rattle.drm_packet.specs.declared.Packet.TheVariants.{Fill, Copy, Add, Stall}
+use Rattle.drm_types.specs.declared.access.Access.{Access}
+use Rattle.drm_types.specs.declared.access.Access.TheVariants as access
+use Rattle.drm_types.specs.Limits.{spec_fault}
+use Rattle.drm_types.specs.declared.spec.DeviceSpec.{DeviceSpec}
+use Rattle.drm_types.specs.declared.spec.EntitySpec.{EntitySpec}
+use Rattle.drm_types.specs.declared.spec.Priority.{Priority}
+use Rattle.drm_types.specs.declared.spec.Priority.TheVariants as priority
+use Rattle.drm_types.specs.declared.spec.RingSpec.{RingSpec}
+use Rattle.drm_text.specs.Grammar.{IsName, AreBytes, text_of_lines}
+use Rattle.drm_text.specs.declared.fault.Fault.{Fault}
+use Rattle.drm_text.specs.declared.fault.ReadError.{ReadError}
+use Rattle.drm_text.specs.Reading.{Gives}
+use Rattle.drm_text.specs.Hexadecimal.{text_of_byte, text_of_bytes}
+use Rattle.drm_script.specs.declared.script.Script.{Script}
+
+-- a number of 32 bits
+abbrev pub IsNumber : ℕ → Type 0
+IsNumber n = n ≤ 2 ^ 32 - 1
+
+-- ---- jobs
+
+abbrev pub declaration_word : ℕ × Access → List ℕ
+declaration_word (buffer, access.Read) = codes "r" ++ decimal buffer
+declaration_word (buffer, access.Write) = codes "w" ++ decimal buffer
+
+abbrev pub fence_word : ℕ → List ℕ
+fence_word fence = codes "a" ++ decimal fence
+
+-- the pieces of a packet's word, between which there are colons
+abbrev pub packet_pieces : Packet → List (List ℕ)
+packet_pieces (Fill buffer offset len byte) = codes "fill" ∷ decimal buffer ∷ decimal offset ∷ decimal len ∷ text_of_byte byte ∷ []
+packet_pieces (Copy source source_offset target target_offset len) =
+    codes "copy" ∷ decimal source ∷ decimal source_offset ∷ decimal target ∷ decimal target_offset ∷ decimal len ∷ []
+packet_pieces (Add source source_offset target target_offset len) =
+    codes "add" ∷ decimal source ∷ decimal source_offset ∷ decimal target ∷ decimal target_offset ∷ decimal len ∷ []
+packet_pieces (Stall resets) = codes "stall" ∷ decimal resets ∷ []
+
+abbrev pub packet_word : Packet → List ℕ
+packet_word packet = join_with_byte 58 (packet_pieces packet)
+
+-- its numbers are in their ranges
+abbrev pub PacketFits : Packet → Type 0
+PacketFits (Fill buffer offset len byte) = IsNumber buffer × IsNumber offset × IsNumber len × (byte < 256)
+PacketFits (Copy source source_offset target target_offset len) =
+    IsNumber source × IsNumber source_offset × IsNumber target × IsNumber target_offset × IsNumber len
+PacketFits (Add source source_offset target target_offset len) =
+    IsNumber source × IsNumber source_offset × IsNumber target × IsNumber target_offset × IsNumber len
+PacketFits (Stall resets) = resets ≤ 65535
+
+-- what stands behind the credits of a job: its declarations, its fences, its packets
+abbrev pub item_words : List (ℕ × Access) → List ℕ → List Packet → List (List ℕ)
+item_words declared after packets = map declaration_word declared ++ map fence_word after ++ map packet_word packets
+
+abbrev pub job_words : Draft → List (List ℕ)
+job_words job = decimal job.entity ∷ decimal job.credits ∷ item_words job.declared job.after job.packets
+
+abbrev pub ItemsFit : List (ℕ × Access) → List ℕ → List Packet → Type 0
+ItemsFit declared after packets =
+    AllByRecursion (λ declaration. IsNumber declaration.0) declared × AllByRecursion IsNumber after × AllByRecursion PacketFits packets
+
+abbrev pub JobFits : Draft → Type 0
+JobFits job = IsNumber job.entity × (job.credits ≤ 65535) × ItemsFit job.declared job.after job.packets
+
+-- ---- commands
+
+abbrev pub IsMoment : ℕ → Type 0
+IsMoment now = now ≤ 2 ^ 64 - 1
+
+-- the words of a command line
+abbrev pub command_words : Event → List (List ℕ)
+command_words (event.Submit job) = codes "submit" ∷ job_words job
+command_words (event.Begin ctx) = codes "begin" ∷ decimal ctx ∷ []
+command_words (event.Try ctx buffer) = codes "try" ∷ decimal ctx ∷ decimal buffer ∷ []
+command_words (event.Done ctx) = codes "done" ∷ decimal ctx ∷ []
+command_words (event.Drop ctx buffer) = codes "drop" ∷ decimal ctx ∷ decimal buffer ∷ []
+command_words (event.End ctx) = codes "end" ∷ decimal ctx ∷ []
+command_words (event.Plan ctx job) = codes "plan" ∷ decimal ctx ∷ job_words job
+command_words (event.Arm ctx) = codes "arm" ∷ decimal ctx ∷ []
+command_words (event.Pick ring now) = codes "pick" ∷ decimal ring ∷ decimal now ∷ []
+command_words (event.Step ring) = codes "step" ∷ decimal ring ∷ []
+command_words (event.Finish ring now) = codes "finish" ∷ decimal ring ∷ decimal now ∷ []
+command_words (event.Timeout ring now) = codes "timeout" ∷ decimal ring ∷ decimal now ∷ []
+command_words (event.Cancel entity) = codes "cancel" ∷ decimal entity ∷ []
+command_words (event.Reap entity) = codes "reap" ∷ decimal entity ∷ []
+command_words (event.Read ctx buffer) = codes "read" ∷ decimal ctx ∷ decimal buffer ∷ []
+command_words (event.Status fence) = codes "fence" ∷ decimal fence ∷ []
+command_words (event.Dump buffer) = codes "dump" ∷ decimal buffer ∷ []
+
+-- what a command names is there, and its numbers are in their ranges
+abbrev pub CommandFits : DeviceSpec → Event → Type 0
+CommandFits spec (event.Submit job) = JobFits job
+CommandFits spec (event.Begin ctx) = IsName 64 ctx
+CommandFits spec (event.Try ctx buffer) = IsName 64 ctx × IsName (length spec.buffers) buffer
+CommandFits spec (event.Done ctx) = IsName 64 ctx
+CommandFits spec (event.Drop ctx buffer) = IsName 64 ctx × IsName (length spec.buffers) buffer
+CommandFits spec (event.End ctx) = IsName 64 ctx
+CommandFits spec (event.Plan ctx job) = IsName 64 ctx × JobFits job
+CommandFits spec (event.Arm ctx) = IsName 64 ctx
+CommandFits spec (event.Pick ring now) = IsName (length spec.rings) ring × IsMoment now
+CommandFits spec (event.Step ring) = IsName (length spec.rings) ring
+CommandFits spec (event.Finish ring now) = IsName (length spec.rings) ring × IsMoment now
+CommandFits spec (event.Timeout ring now) = IsName (length spec.rings) ring × IsMoment now
+CommandFits spec (event.Cancel entity) = IsName (length spec.entities) entity
+CommandFits spec (event.Reap entity) = IsName (length spec.entities) entity
+CommandFits spec (event.Read ctx buffer) = IsName 64 ctx × IsName (length spec.buffers) buffer
+CommandFits spec (event.Status fence) = IsNumber fence
+CommandFits spec (event.Dump buffer) = IsName (length spec.buffers) buffer
+
+-- ---- headers
+
+-- the words of a line
+abbrev pub Line : Type 0
+Line = List (List ℕ)
+
+-- a buffer is told by its bytes, or by its size where each byte is 0
+abbrev pub SpellsBuffer : Line → List ℕ → Type 0
+SpellsBuffer line bytes =
+    ((line ≡ codes "buffer" ∷ text_of_bytes bytes ∷ []) × AreBytes bytes)
+    ⊎ ((size : ℕ) × (line ≡ codes "zero" ∷ decimal size ∷ []) × (size ≤ 65535) × (bytes ≡ replicate size 0))
+
+abbrev pub ring_words : RingSpec → Line
+ring_words ring = codes "ring" ∷ decimal ring.credit_limit ∷ decimal ring.timeout ∷ decimal ring.hang_limit ∷ []
+
+abbrev pub priority_word : Priority → List ℕ
+priority_word priority.Kernel = codes "kernel"
+priority_word priority.High = codes "high"
+priority_word priority.Normal = codes "normal"
+priority_word priority.Low = codes "low"
+
+abbrev pub entity_words : EntitySpec → Line
+entity_words entity = codes "entity" ∷ decimal entity.ring ∷ priority_word entity.priority ∷ []
+
+-- the last lines of a header
+abbrev pub opening : ℕ → List Line
+opening max_jobs = (codes "jobs" ∷ decimal max_jobs ∷ []) ∷ (codes "go" ∷ []) ∷ []
+
+abbrev pub RingFits : RingSpec → Type 0
+RingFits ring = (ring.credit_limit ≤ 65535) × IsNumber ring.timeout × IsNumber ring.hang_limit
+
+-- each line spells the element at its place
+abbrev pub Each : {A : Type 0} → (Line → A → Type 0) → List Line → List A → Type 0
+Each Spells [] [] = Unit {0}
+Each Spells [] (x ∷ xs) = ⊥
+Each Spells (line ∷ lines) [] = ⊥
+Each Spells (line ∷ lines) (x ∷ xs) = Spells line x × Each Spells lines xs
+
+-- the lines are the header of a device within its limits: its buffers, rings and entities, how many jobs it takes, and `go`
+abbrev pub SpellsHeader : List Line → DeviceSpec → Type 0
+SpellsHeader lines spec =
+    (buffers : List Line) × Each SpellsBuffer buffers spec.buffers
+    × (lines ≡ buffers ++ map ring_words spec.rings ++ map entity_words spec.entities ++ opening spec.max_jobs)
+    × AllByRecursion RingFits spec.rings × AllByRecursion (λ entity. IsNumber entity.ring) spec.entities × IsNumber spec.max_jobs
+    × (spec_fault spec ≡ None)
+
+-- ---- scripts
+
+-- the text is a header and command lines, and spells the script
+unfoldable pub SpellsScript : List ℕ → Script → Type 0
+SpellsScript text script =
+    (header : List Line) × SpellsHeader header script.spec
+    × AllByRecursion (CommandFits script.spec) script.lines
+    × (text ≡ text_of_lines (header ++ map command_words script.lines))
+    × (length text ≤ 1048576)
+
+-- where the text spells something, this was read, or memory was refused
+abbrev pub IsReadAsSpelled : {X : Type 0} → (List ℕ → X → Type 0) → List ℕ → Result X ReadError → Type 0
+IsReadAsSpelled {X} Spells text result = (x : X) → Spells text x → Gives (λ y. y) result (Ok x)
+
+-- a text is judged to be what it spells, and as nothing else
+abbrev pub IsJudgedAsSpelled : {X : Type 0} → (List ℕ → Result X Fault) → (List ℕ → X → Type 0) → Type 0
+IsJudgedAsSpelled {X} judge Spells = (text : List ℕ) (x : X) → (judge text ≡ Ok x) ↔ Spells text x
+
+-- a text spells one thing at most
+abbrev pub SpellsOne : {X : Type 0} → (List ℕ → X → Type 0) → Type 0
+SpellsOne {X} Spells = (text : List ℕ) (x y : X) → Spells text x → Spells text y → x ≡ y
