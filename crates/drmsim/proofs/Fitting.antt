@@ -12,9 +12,10 @@ use Rattle.drm_script.specs.declared.journal.JournalJob.{JournalJob}
 use Rattle.drm_script.specs.Journal.{JournalParts, AreRecords, IsJournal, is_job, is_record, has_place}
 use Rattle.drmsim.specs.Leaving.{turn_of, turns_of, left_by}
 
-both : (x y : Bool) → (x && y) ≡ true → x ≡ true
-both true y is = refl
-both false y is = is
+-- the first part of a test that passes
+pub first_part : (x y : Bool) → (x && y) ≡ true → x ≡ true
+first_part true y is = refl
+first_part false y is = is
 
 none_from : {X : Type 0} (o : Option X) → is_none o ≡ true → o ≡ None
 none_from None is = refl
@@ -23,7 +24,7 @@ none_from (Some x) is = absurd (cc)
 -- a record of the device is a job of it
 job_of_record : (spec : DeviceSpec) (number : ℕ) (armed : JournalJob) → is_record spec number armed ≡ true → job_fault spec armed.job ≡ None
 unfolding is_job
-job_of_record spec number armed is = none_from (job_fault spec armed.job) (both (is_job spec armed.job) (has_place spec.max_jobs number armed) is)
+job_of_record spec number armed is = none_from (job_fault spec armed.job) (first_part (is_job spec armed.job) (has_place spec.max_jobs number armed) is)
 
 turns_run : (spec : DeviceSpec) (number : ℕ) (jobs : List JournalJob) → AreRecords spec number jobs
     → AllByRecursion (λ turn. RunsIn spec.buffers turn.job) (map turn_of jobs)

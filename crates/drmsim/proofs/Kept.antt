@@ -23,6 +23,7 @@ use Rattle.drm_script.specs.declared.header.Section.{Section}
 use Rattle.drm_script.specs.declared.journal.JournalJob.{JournalJob}
 use Rattle.drm_script.specs.declared.journal.Reading.{Reading}
 use Rattle.drm_script.proofs.Records.{one_more_job, one_more_final}
+use Rattle.drmsim.proofs.Fitting.{first_part}
 
 -- the steps of a chain that went well
 bind_ok : {A B : Type 0} (r : Result A Fault) (f : A → Result B Fault) (y : B) → (r >>= f) ≡ Ok y → (x : A) × (r ≡ Ok x) × (f x ≡ Ok y)
@@ -44,10 +45,6 @@ untested : {A : Type 0} (b : Bool) (r : Result A Fault) (fault : Fault) (x : A) 
 untested true r fault x is = absurd (cc)
 untested false r fault x is = is
 
-both : (x y : Bool) → (x && y) ≡ true → x ≡ true
-both true y is = refl
-both false y is = is
-
 -- the device of a header is within its limits
 none_of : (o : Option BadSpec) (u : Unit {0}) → or_bad_device o ≡ Ok u → o ≡ None
 none_of None u is = refl
@@ -66,12 +63,12 @@ header_fits spec last n bytes (next ∷ rest) header is =
     let read = bind_ok (header_line spec last n bytes) _ header is in
     let left : Left = record { line = n + 1; bytes = next; more = rest } in
     let next_lines : (b : Bool) → (if b then (checked_device read.0.0 >>= λ _. Ok (read.0.0, left)) else header_of read.0.0 read.0.1 (n + 1) next rest) ≡ Ok header → spec_fault header.0 ≡ None = λ b.
-        elim b as (λ v. (if v then (checked_device read.0.0 >>= λ _. Ok (read.0.0, left)) else header_of read.0.0 read.0.1 (n + 1) next rest) ≡ Ok header → spec_fault header.0 ≡ None) [
-          | true ↦ λ e.
-              let go = bind_ok (checked_device read.0.0) (λ _. Ok (read.0.0, left)) header e in
-              ap (λ (h : DeviceSpec × Left). spec_fault h.0) (sym (same_ok (read.0.0, left) header go.2)) ∙ checked read.0.0 go.0 go.1
-          | false ↦ λ e. header_fits read.0.0 read.0.1 (n + 1) next rest header e
-        ] in
+    elim b as (λ v. (if v then (checked_device read.0.0 >>= λ _. Ok (read.0.0, left)) else header_of read.0.0 read.0.1 (n + 1) next rest) ≡ Ok header → spec_fault header.0 ≡ None) [
+      | true ↦ λ e.
+          let go = bind_ok (checked_device read.0.0) (λ _. Ok (read.0.0, left)) header e in
+          ap (λ (h : DeviceSpec × Left). spec_fault h.0) (sym (same_ok (read.0.0, left) header go.2)) ∙ checked read.0.0 go.0 go.1
+      | false ↦ λ e. header_fits read.0.0 read.0.1 (n + 1) next rest header e
+    ] in
     next_lines (is_open read.0.1) read.2
 
 -- each line keeps what holds of what was read
@@ -114,7 +111,7 @@ keeps_end : (spec : DeviceSpec) (reading more : Reading) (n : ℕ) (words : Word
 keeps_end spec reading more n words read is =
     let here = tested ((length reading.finals == length spec.buffers) && not reading.is_over) _ _ more is in
     let last = bind_ok (end_at words) (λ _. Ok (record reading { is_over = true })) more here.1 in
-    let all = eqb-true (length reading.finals) (length spec.buffers) (both _ _ here.0) in
+    let all = eqb-true (length reading.finals) (length spec.buffers) (first_part _ _ here.0) in
     let P : Reading → Type 0 = IsRead spec in
     subst P (same_ok (record reading { is_over = true }) more last.2) (read.0, read.1, λ _. all)
 

@@ -67,7 +67,9 @@ fn program<'a>(alloc: Global) -> Result<Command<'a>, AllocError> {
         .about("Compares these buffers with the last bytes that the journal tells")
         .long_about(CHECK_HELP);
     Command::new(alloc, "drmsim")
-        .about("Runs the scheduler of a simulated GPU: from a text on standard input to lines on standard output")
+        .about(
+            "Runs the scheduler of a simulated GPU: from a text on standard input to lines on standard output",
+        )
         .after_help(STATUS_HELP)
         .subcommand_required(true)
         .subcommand(replay)?

@@ -22,10 +22,7 @@ fn turns<'a>(alloc: Global, jobs: &'a [JournalJob]) -> Result<Vec<Turn<'a>>, All
 }
 
 /// The buffers that the serial machine leaves, which begins with those of the header and takes the jobs as its turns.
-pub fn run_journal(
-    alloc: Global,
-    journal: &Journal,
-) -> Result<Sequence<Sequence<u8>>, AllocError>
+pub fn run_journal(alloc: Global, journal: &Journal) -> Result<Sequence<Sequence<u8>>, AllocError>
     requires { IsJournal journal.now }
     ensures value { IfOk result (λ buffers. buffers ≡ left_by journal.now) }
     ensures sizes { IfOk result (λ buffers. map length buffers ≡ map length journal.now.finals) }

@@ -13,32 +13,34 @@ use clap::error::ErrorKind as WordsError;
 use drm_script::{Fault, TextFault};
 use drm_types::BadSpec;
 use failing::{SlowReader, SlowWriter};
+use std::alloc::Global;
+use std::process::Abort;
 use std::test::Fail;
 
 /// Runs the engine on the text.
-fn run(rt: &HostRuntime, engine: Engine, text: &[u8], writer: &mut SlowWriter) -> Ending {
-    run_from(rt, engine, &mut SlowReader::new(text, None), writer)
+fn run(alloc: Global, engine: Engine, text: &[u8], writer: &mut SlowWriter) -> Ending {
+    run_from(alloc, engine, &mut SlowReader::new(text, None), writer)
 }
 
 fn run_from(
-    rt: &HostRuntime,
+    alloc: Global,
     engine: Engine,
     reader: &mut SlowReader,
     writer: &mut SlowWriter,
 ) -> Ending {
     match engine {
-        Engine::Replay => replay(rt.alloc(), reader, writer),
-        Engine::Serial => serial(rt.alloc(), reader, writer),
-        Engine::Check => check(rt.alloc(), reader, writer),
+        Engine::Replay => replay(alloc, reader, writer),
+        Engine::Serial => serial(alloc, reader, writer),
+        Engine::Check => check(alloc, reader, writer),
     }
 }
 
 /// Nothing is written where a read fails, wherever it does.
-fn try_failed_reads(rt: &HostRuntime, engine: Engine, text: &[u8]) {
+fn try_failed_reads(rt: &impl Abort, alloc: Global, engine: Engine, text: &[u8]) {
     for cut in 0..=text.len() {
-        let mut writer = SlowWriter::new(rt.alloc(), 100, None);
+        let mut writer = SlowWriter::new(alloc, 100, None);
         let ending = run_from(
-            rt,
+            alloc,
             engine,
             &mut SlowReader::new(text, Some(cut)),
             &mut writer,
@@ -49,11 +51,18 @@ fn try_failed_reads(rt: &HostRuntime, engine: Engine, text: &[u8]) {
 }
 
 /// A front of the output is written where a write fails, wherever it does, and all of it where none does.
-fn try_failed_writes(rt: &HostRuntime, engine: Engine, text: &[u8], output: &[u8], status: u8) {
+fn try_failed_writes(
+    rt: &impl Abort,
+    alloc: Global,
+    engine: Engine,
+    text: &[u8],
+    output: &[u8],
+    status: u8,
+) {
     for most in [1, 100] {
         for cut in 0..=output.len() {
-            let mut writer = SlowWriter::new(rt.alloc(), most, Some(cut));
-            let ending = run(rt, engine, text, &mut writer);
+            let mut writer = SlowWriter::new(alloc, most, Some(cut));
+            let ending = run(alloc, engine, text, &mut writer);
             let front = writer.taken.as_slice();
             if ending.status() == status {
                 assert_eq!(rt; front, output, "at {cut}");
@@ -68,16 +77,17 @@ fn try_failed_writes(rt: &HostRuntime, engine: Engine, text: &[u8], output: &[u8
 
 /// The engine ends so on the text, and has written this.
 fn try_run(
-    rt: &HostRuntime,
+    rt: &impl Abort,
+    alloc: Global,
     engine: Engine,
     text: &[u8],
     output: &[u8],
     status: u8,
     told: &str,
 ) -> Result<(), Fail> {
-    let mut writer = SlowWriter::new(rt.alloc(), 100, None);
-    let ending = run(rt, engine, text, &mut writer);
-    assert_eq!(rt; ending.to_string(rt.alloc())?.as_str(), told);
+    let mut writer = SlowWriter::new(alloc, 100, None);
+    let ending = run(alloc, engine, text, &mut writer);
+    assert_eq!(rt; ending.to_string(alloc)?.as_str(), told);
     assert_eq!(rt; ending.status(), status);
     assert_eq!(rt; writer.taken.as_slice(), output);
     Ok(())
@@ -141,7 +151,11 @@ fn refused_command_lines(rt: HostRuntime) -> Result<(), Fail> {
         (&["drmsim", "Check"], WordsError::InvalidSubcommand, 2),
         (&["drmsim", "replay", "now"], WordsError::UnknownArgument, 2),
         (&["drmsim", "check", "-v"], WordsError::UnknownArgument, 2),
-        (&["drmsim", "serial", "check"], WordsError::UnknownArgument, 2),
+        (
+            &["drmsim", "serial", "check"],
+            WordsError::UnknownArgument,
+            2,
+        ),
         (&["drmsim", "--fast"], WordsError::UnknownArgument, 2),
         (&["drmsim", "--help"], WordsError::DisplayHelp, 0),
         (&["drmsim", "replay", "--help"], WordsError::DisplayHelp, 0),

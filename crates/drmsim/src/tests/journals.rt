@@ -21,27 +21,44 @@ job 4 -125 0 1 w0 r1 add:1:0:0:0:1 add:1:0:0:0:1 add:1:0:0:0:1\njob 1 1 0 1 w1 r
 final 02\nfinal 03\nend\n";
 
 const BUFFERS: &[u8] = b"bytes 02\nbytes 03\n";
+
 const DIFFERS: &[u8] = b"differs at buffer 1 byte 0\n";
 
 #[test]
 fn buffers_and_comparisons(rt: HostRuntime) -> Result<(), Fail> {
-    try_run(&rt, Engine::Serial, GUILTY, BUFFERS, 0, "done")?;
-    try_run(&rt, Engine::Serial, OTHER_BYTE, BUFFERS, 0, "done")?;
-    try_run(&rt, Engine::Check, GUILTY, b"same\n", 0, "done")?;
-    try_run(&rt, Engine::Check, OTHER_BYTE, DIFFERS, 1, "differs")
+    try_run(&rt, rt.alloc(), Engine::Serial, GUILTY, BUFFERS, 0, "done")?;
+    try_run(
+        &rt,
+        rt.alloc(),
+        Engine::Serial,
+        OTHER_BYTE,
+        BUFFERS,
+        0,
+        "done",
+    )?;
+    try_run(&rt, rt.alloc(), Engine::Check, GUILTY, b"same\n", 0, "done")?;
+    try_run(
+        &rt,
+        rt.alloc(),
+        Engine::Check,
+        OTHER_BYTE,
+        DIFFERS,
+        1,
+        "differs",
+    )
 }
 
 #[test]
 fn failed_reads(rt: HostRuntime) {
-    try_failed_reads(&rt, Engine::Serial, GUILTY);
-    try_failed_reads(&rt, Engine::Check, GUILTY);
+    try_failed_reads(&rt, rt.alloc(), Engine::Serial, GUILTY);
+    try_failed_reads(&rt, rt.alloc(), Engine::Check, GUILTY);
 }
 
 #[test]
 fn failed_writes(rt: HostRuntime) {
-    try_failed_writes(&rt, Engine::Serial, GUILTY, BUFFERS, 0);
-    try_failed_writes(&rt, Engine::Check, GUILTY, b"same\n", 0);
-    try_failed_writes(&rt, Engine::Check, OTHER_BYTE, DIFFERS, 1);
+    try_failed_writes(&rt, rt.alloc(), Engine::Serial, GUILTY, BUFFERS, 0);
+    try_failed_writes(&rt, rt.alloc(), Engine::Check, GUILTY, b"same\n", 0);
+    try_failed_writes(&rt, rt.alloc(), Engine::Check, OTHER_BYTE, DIFFERS, 1);
 }
 
 /// A journal's fault is told, and nothing is written.
@@ -56,8 +73,8 @@ fn faults(rt: HostRuntime) -> Result<(), Fail> {
         ),
     ];
     for (text, told) in table {
-        try_run(&rt, Engine::Serial, text, b"", 2, told)?;
-        try_run(&rt, Engine::Check, text, b"", 2, told)?;
+        try_run(&rt, rt.alloc(), Engine::Serial, text, b"", 2, told)?;
+        try_run(&rt, rt.alloc(), Engine::Check, text, b"", 2, told)?;
     }
     Ok(())
 }
@@ -69,7 +86,7 @@ fn fronts_of_a_journal(rt: HostRuntime) {
         for len in 0..GUILTY.len() {
             let (front, _) = GUILTY.split_at(len);
             let mut writer = SlowWriter::new(rt.alloc(), 100, None);
-            let ending = run(&rt, engine, front, &mut writer);
+            let ending = run(rt.alloc(), engine, front, &mut writer);
             assert_eq!(rt; ending.status(), 2, "at {len}");
             assert!(rt; writer.taken.is_empty(), "at {len}");
         }

@@ -23,12 +23,19 @@ ran 0 0\nnotyet 9\nfinished 0 1\narmed 1\nok\nreaped 1\nbytes 0505\n";
 
 #[test]
 fn failed_reads(rt: HostRuntime) {
-    try_failed_reads(&rt, Engine::Replay, FIRST_FILL);
+    try_failed_reads(&rt, rt.alloc(), Engine::Replay, FIRST_FILL);
 }
 
 #[test]
 fn failed_writes(rt: HostRuntime) {
-    try_failed_writes(&rt, Engine::Replay, FIRST_FILL, FIRST_FILL_ANSWERS, 0);
+    try_failed_writes(
+        &rt,
+        rt.alloc(),
+        Engine::Replay,
+        FIRST_FILL,
+        FIRST_FILL_ANSWERS,
+        0,
+    );
 }
 
 /// A text's fault is told, and nothing is written, also where commands stand before it.
@@ -46,14 +53,22 @@ fn faults(rt: HostRuntime) -> Result<(), Fail> {
         (b"buffer 00\nring 4 10 0\njobs 8\ngo\n", "refused 1 6 0"),
     ];
     for (text, told) in table {
-        try_run(&rt, Engine::Replay, text, b"", 2, told)?;
+        try_run(&rt, rt.alloc(), Engine::Replay, text, b"", 2, told)?;
     }
     Ok(())
 }
 
 #[test]
 fn every_command(rt: HostRuntime) -> Result<(), Fail> {
-    try_run(&rt, Engine::Replay, EVERY_COMMAND, EVERY_ANSWER, 0, "done")
+    try_run(
+        &rt,
+        rt.alloc(),
+        Engine::Replay,
+        EVERY_COMMAND,
+        EVERY_ANSWER,
+        0,
+        "done",
+    )
 }
 
 /// Every proper front of a script is a script exactly where it ends with a line behind the header.
@@ -63,12 +78,15 @@ fn fronts_of_a_script(rt: HostRuntime) {
     for len in 0..EVERY_COMMAND.len() {
         let (front, _) = EVERY_COMMAND.split_at(len);
         let mut writer = SlowWriter::new(rt.alloc(), 100, None);
-        let ending = run(&rt, Engine::Replay, front, &mut writer);
+        let ending = run(rt.alloc(), Engine::Replay, front, &mut writer);
         let is_script = len >= header && front.last() == Some(&b'\n');
         assert_eq!(rt; ending.status(), if is_script { 0 } else { 2 }, "at {len}");
         let written = writer.taken.as_slice();
         assert!(rt; EVERY_ANSWER.starts_with(written), "at {len}");
         assert!(rt; is_script || written.is_empty(), "at {len}");
-        assert!(rt; written.is_empty() || written.last() == Some(&b'\n'), "at {len}");
+        assert!(rt;
+            written.is_empty() || written.last() == Some(&b'\n'),
+            "at {len}"
+        );
     }
 }
