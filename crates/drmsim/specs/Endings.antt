@@ -1,18 +1,29 @@
 -- What the program tells of an ending.
 use Rattle.std.specs.Prelude.{ℕ, Bool, true, false}
+use Rattle.drm_script.specs.declared.input.InputError.{InputError}
+use Rattle.drm_script.specs.declared.input.InputError.TheVariants as input
 use Rattle.drmsim.specs.declared.ending.Ending.{Ending}
 use Rattle.drmsim.specs.declared.ending.Ending.TheVariants as ending
 
-abbrev pub is_done : Ending → Bool
-is_done ending.Done = true
-is_done (ending.Fault fault) = false
-is_done ending.NoInput = false
-is_done ending.NoMemory = false
-is_done ending.NoOutput = false
+-- how an engine ends whose input could not be read
+abbrev pub ending_of_input : InputError → Ending
+ending_of_input input.Failed = ending.NoInput
+ending_of_input input.Memory = ending.NoMemory
+ending_of_input (input.Fault fault) = ending.Fault fault
+
+-- whether standard output has told it all
+abbrev pub is_told : Ending → Bool
+is_told ending.Done = true
+is_told ending.Differs = true
+is_told (ending.Fault fault) = false
+is_told ending.NoInput = false
+is_told ending.NoMemory = false
+is_told ending.NoOutput = false
 
 -- the exit status
 abbrev pub status_of : Ending → ℕ
 status_of ending.Done = 0
+status_of ending.Differs = 1
 status_of (ending.Fault fault) = 2
 status_of ending.NoMemory = 3
 status_of ending.NoInput = 4

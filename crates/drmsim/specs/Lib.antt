@@ -1,2 +1,5 @@
 pub mod Endings
 pub mod Replaying
+pub mod Leaving
+pub mod Comparing
+pub mod Journals

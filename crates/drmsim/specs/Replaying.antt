@@ -24,6 +24,7 @@ Answers input Hold =
 -- what each ending says of the input and of what the writer holds before and after
 abbrev pub Replays : Option (List ℕ) → Option (List ℕ) → Option (List ℕ) → Ending → Type 0
 Replays input old new ending.Done = Answers input (λ answers. Appends old new (text_of_answers answers))
+Replays input old new ending.Differs = ⊥
 Replays input old new (ending.Fault fault) = IfSome input (λ text. judge_script text ≡ Err fault) × Keeps old new
 Replays input old new ending.NoInput = Keeps old new
 Replays input old new ending.NoMemory = Keeps old new

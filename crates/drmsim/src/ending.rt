@@ -1,17 +1,19 @@
 //! How a run of an engine ended, and how the program tells it.
 
 ghost use Rattle.std.specs.Prelude.{◌≡◌};
-ghost use Rattle.drmsim.specs.Endings.{is_done, status_of};
+ghost use Rattle.drmsim.specs.Endings.{ending_of_input, is_told, status_of};
 
-use drm_script::Fault;
+use drm_script::{Fault, InputError};
 use drm_types::BadSpec;
 use std::fmt;
 
 /// How a run of an engine ended.
 #[derive(Debug, Drop)]
 pub enum Ending {
-    /// All was read and answered.
+    /// All was read, and all that was asked for was written.
     Done,
+    /// All was read and compared, and where it differs was written.
+    Differs,
     /// The first fault of the text, or the first part of the device that is out of its limits. Nothing was written.
     Fault(Fault),
     /// A read failed. Nothing was written.
@@ -23,11 +25,22 @@ pub enum Ending {
 }
 
 impl Ending {
-    /// All was read and answered.
-    pub fn is_done(&self) -> bool
-        ensures { result ≡ is_done self.now }
+    /// Where an input could not be read: what that is to the engine.
+    pub fn of_input(error: InputError) -> Ending
+        ensures { result ≡ ending_of_input error }
     {
-        matches!(self, Ending::Done)
+        match error {
+            InputError::Failed => Ending::NoInput,
+            InputError::Memory => Ending::NoMemory,
+            InputError::Fault(fault) => Ending::Fault(fault),
+        }
+    }
+
+    /// Whether standard output has told it all, and standard error stays empty.
+    pub fn is_told(&self) -> bool
+        ensures { result ≡ is_told self.now }
+    {
+        matches!(self, Ending::Done | Ending::Differs)
     }
 
     /// The exit status of a program that ends so.
@@ -36,6 +49,7 @@ impl Ending {
     {
         match self {
             Ending::Done => 0,
+            Ending::Differs => 1,
             Ending::Fault(_) => 2,
             Ending::NoMemory => 3,
             Ending::NoInput | Ending::NoOutput => 4,
@@ -47,6 +61,7 @@ impl fmt::Display for Ending {
     fn fmt<W: fmt::Write>(&self, f: &mut fmt::Formatter<W>) -> fmt::Result {
         match self {
             Ending::Done => write!(f, "done"),
+            Ending::Differs => write!(f, "differs"),
             Ending::Fault(Fault::Text { line, column, what }) => {
                 write!(f, "line {line} column {column}: fault {}", what.number())
             }

@@ -1,19 +1,28 @@
-//! drmsim: the scheduler of a simulated GPU, driven by a script.
+//! drmsim: the scheduler of a simulated GPU, driven by texts.
 //!
-//! `drmsim replay` reads a script from standard input and writes one answer line for each of its commands to
-//! standard output. `replay::replay` does this between any reader and any writer, and its clause says what
-//! was read and written for each way in which it ends. This file only reads the command line and tells the ending.
+//! Each command is an engine from standard input to standard output. `replay` answers the commands of a script;
+//! `serial` runs the jobs of a journal one after another and writes the buffers that they leave; `check` compares
+//! these with the last bytes that the journal tells. An engine works between any reader and any writer, and its clause
+//! says what was read and written for each way in which it ends. This file only reads the command line and tells the
+//! ending.
 #![tactic(auto)]
 
+mod check;
 mod command_line;
+mod comparison;
 mod ending;
+mod leaving;
+mod reading;
 mod replay;
+mod serial;
 #[cfg(test)]
 mod tests;
 
+use check::check;
 use command_line::{Engine, read_words};
 use ending::Ending;
 use replay::replay;
+use serial::serial;
 use std::env;
 use std::io::{self, ErrorKind};
 use std::process::ExitCode;
@@ -25,14 +34,17 @@ fn words(rt: &HostRuntime) -> io::Result<Vec<String>> {
 
 /// Runs the engine between standard input and standard output.
 fn run(rt: &HostRuntime, engine: Engine) -> Ending {
+    let (mut reader, mut writer) = (rt.stdin(), rt.stdout());
     match engine {
-        Engine::Replay => replay(rt.alloc(), &mut rt.stdin(), &mut rt.stdout()),
+        Engine::Replay => replay(rt.alloc(), &mut reader, &mut writer),
+        Engine::Serial => serial(rt.alloc(), &mut reader, &mut writer),
+        Engine::Check => check(rt.alloc(), &mut reader, &mut writer),
     }
 }
 
-/// Tells the ending on standard error, where it is no success; nothing is left to do where that can't be written.
+/// Tells the ending on standard error, unless standard output has; nothing is left to do where that can't be written.
 fn tell(rt: &HostRuntime, ending: &Ending) -> ExitCode {
-    if !ending.is_done() {
+    if !ending.is_told() {
         eprintln!(rt; "{ending}").ok();
     }
     ExitCode::from(ending.status())

@@ -9,7 +9,7 @@ ghost use Rattle.drm_core.specs.declared.event.Answer.{Answer as AnswerOf};
 
 use crate::ending::Ending;
 use drm_core::{BuildError, Core};
-use drm_script::{InputError, Script, put_all, read_script_from, write_answers};
+use drm_script::{Script, put_all, read_script_from, write_answers};
 use std::alloc::{AllocError, Global};
 use std::io::{Read, Write};
 
@@ -36,9 +36,7 @@ pub fn replay<R: Read, W: Write>(alloc: Global, reader: &mut R, writer: &mut W) 
 {
     let script = match read_script_from(alloc, reader) {
         Ok(script) => script,
-        Err(InputError::Failed) => return Ending::NoInput,
-        Err(InputError::Memory) => return Ending::NoMemory,
-        Err(InputError::Fault(fault)) => return Ending::Fault(fault),
+        Err(error) => return Ending::of_input(error),
     };
     let Ok(text) = answer(alloc, script) else {
         return Ending::NoMemory;

@@ -1,0 +1,17 @@
+use Rattle.std.proofs.Common.{◌≡◌, ℕ, List, length, map, refl, ap, ◌∙◌}
+use Rattle.std.proofs.lemmas.Result.{IfOk-weaker}
+use Rattle.drm_serial.specs.Serial.{serial}
+use Rattle.drmsim.specs.Leaving.{turn_of, turns_of, left_by}
+use Rattle.drmsim.proofs.Fitting.{turns_fit, left_sizes}
+use Rattle.drmsim.proofs.leaving.run_journal.Goals as goal
+
+pub run-requires : goal.run-requires
+run-requires c =
+    let turns : c.deref.result.now ≡ turns_of c.args.journal.now = c.deref.ensures.value ∙ c.in_ok-turns.ensures ∙ ap (map turn_of) c.jobs.ensures in
+    rw (turns, c.spec.ensures) (turns_fit c.args.journal.now c.requires)
+
+pub returns-clause-sizes : goal.returns-clause-sizes
+returns-clause-sizes c =
+    let turns : c.deref.result.now ≡ turns_of c.args.journal.now = c.deref.ensures.value ∙ c.in_ok-turns.ensures ∙ ap (map turn_of) c.jobs.ensures in
+    let left : serial c.spec.result.now.buffers c.deref.result.now ≡ left_by c.args.journal.now = rw (turns, c.spec.ensures) refl in
+    IfOk-weaker c.run.result _ _ (λ buffers same. ap (λ (bs : List (List ℕ)). map length bs) (same ∙ left) ∙ left_sizes c.args.journal.now c.requires) c.run.ensures
