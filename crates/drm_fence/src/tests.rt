@@ -112,7 +112,9 @@ fn watch(waiters: &mut Waiters, entity: u32, fence: u32, early: bool)
 
 #[test]
 fn all_wait_for_one_fence(rt: HostRuntime) -> Result<(), Fail> {
-    let mut waiters = Waiters::new(rt.alloc(), &device(rt.alloc(), 64, 9)?)?;
+    let spec = device(rt.alloc(), 64, 9)?;
+    assert!(rt; spec.entities.len() == 64);
+    let mut waiters = Waiters::new(rt.alloc(), &spec)?;
     for entity in 0..64u32 {
         assert!(rt; waiters.entities() == 64);
         assert!(rt; waiters.fences() == 9);

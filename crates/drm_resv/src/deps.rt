@@ -1,5 +1,5 @@
 ghost use Rattle.std.specs.Prelude.{◌≡◌, ℕ, ◌<◌, ◌≤◌, ◌==◌, [], length, slice_get, Some, IsTrue, IsFalse};
-ghost use Rattle.drm_resv.specs.Latest.{noted};
+ghost use Rattle.drm_resv.specs.Latest.{noted, IsPerEntity};
 
 use arrayvec::ArrayVec;
 use drm_types::{EntityId, FenceId};
@@ -37,7 +37,8 @@ impl Deps {
 
     /// How many entities there is a fence of.
     pub fn len(&self) -> usize
-        ensures { result ≡ length self.now }
+        ensures count { result ≡ length self.now }
+        ensures within { length self.now ≤ 64 }
     {
         self.list.len()
     }
@@ -51,7 +52,8 @@ impl Deps {
 
     /// Each entity with its fence, in the order in which the entities were first noted.
     pub fn as_slice(&self) -> &[(EntityId, FenceId)]
-        ensures { result.now ≡ self.now }
+        ensures list { result.now ≡ self.now }
+        ensures once { IsPerEntity self.now }
     {
         self.list.as_slice()
     }
@@ -79,8 +81,8 @@ impl Deps {
     }
 }
 
-// The place of the entity's fence, or the end.
-fn place_of(list: &[(EntityId, FenceId)], entity: EntityId) -> usize
+/// The place of the entity's fence, or the end.
+pub(crate) fn place_of(list: &[(EntityId, FenceId)], entity: EntityId) -> usize
     ensures before { (k : ℕ) (d : ℕ × ℕ) → k < result → slice_get list.now k ≡ Some d → IsFalse (d.0 == entity) }
     ensures here { (d : ℕ × ℕ) → slice_get list.now result ≡ Some d → IsTrue (d.0 == entity) }
     ensures within { result ≤ length list.now }

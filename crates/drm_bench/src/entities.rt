@@ -1,0 +1,32 @@
+ghost use Rattle.std.specs.Prelude.{◌≡◌, ◌<◌, ℕ, length, Contains};
+ghost use Rattle.drm_entity.specs.Rows.{queue_at};
+
+use crate::fences::device;
+use drm_entity::Entities;
+use std::alloc::{AllocError, Global};
+
+/// Each job goes into the queue of its entity; then all queues are emptied in turn.
+pub fn entities(alloc: Global) -> Result<u64, AllocError> {
+    let mut entities = Entities::new(alloc, &device(alloc, 1)?)?;
+    let mut sum = 0u64;
+    for job in 0..65_535u32 {
+        let entity = (job % 64 * 37) % 64;
+        if (entity as usize) < entities.len() {
+            entities.push(entity, job);
+        }
+    }
+    for job in 0..65_535u32 {
+        let entity = job % 64;
+        if (entity as usize) < entities.len() {
+            if let Some(number) = entities.pop(entity) {
+                sum = sum.wrapping_add(number as u64);
+            }
+        }
+        if (entity as usize) < entities.len() {
+            if let Some(number) = entities.head(entity) {
+                sum = sum.wrapping_add(number as u64);
+            }
+        }
+    }
+    Ok(sum)
+}
