@@ -103,7 +103,7 @@ fn timeline() -> u64 {
             timeline.finish(fence, Outcome::Stopped);
         }
         if let Some(status) = timeline.status(fence) {
-            sum = sum.wrapping_add((status + 7) as u64);
+            sum = sum.wrapping_add(status.unsigned_abs() as u64);
         }
     }
     sum
@@ -231,6 +231,7 @@ fn waiters() -> u64 {
 
 #[derive(Clone, Copy, PartialEq, Eq, PartialOrd, Ord)]
 enum Usage {
+    #[allow(dead_code)]
     Kernel,
     Write,
     Read,

@@ -1,9 +1,13 @@
+ghost use Rattle.std.specs.Prelude.{◌≡◌, IfOk};
+
 use drm_fence::{Phase, Timeline, Waiters};
 use drm_types::{DeviceSpec, EntitySpec, Outcome, Priority, RingSpec, Sequence};
 use std::alloc::{AllocError, Global};
 
 /// A device of 64 entities, with two rings of this credit limit.
-pub fn device(alloc: Global, credit_limit: u16) -> Result<DeviceSpec, AllocError> {
+pub fn device(alloc: Global, credit_limit: u16) -> Result<DeviceSpec, AllocError>
+    ensures { IfOk result (λ d. d.max_jobs ≡ 65535) }
+{
     let mut entities = Sequence::new(alloc);
     for _ in 0..64 {
         entities.push(EntitySpec {
@@ -50,7 +54,7 @@ pub fn timeline(alloc: Global) -> Result<u64, AllocError> {
             timeline.finish(fence, Outcome::Stopped);
         }
         if let Ok(status) = timeline.status(fence) {
-            sum = sum.wrapping_add((status + 7) as u64);
+            sum = sum.wrapping_add(status.unsigned_abs() as u64);
         }
     }
     Ok(sum)

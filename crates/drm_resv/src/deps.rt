@@ -37,8 +37,7 @@ impl Deps {
 
     /// How many entities there is a fence of.
     pub fn len(&self) -> usize
-        ensures count { result ≡ length self.now }
-        ensures within { length self.now ≤ 64 }
+        ensures { result ≡ length self.now }
     {
         self.list.len()
     }
@@ -52,10 +51,18 @@ impl Deps {
 
     /// Each entity with its fence, in the order in which the entities were first noted.
     pub fn as_slice(&self) -> &[(EntityId, FenceId)]
-        ensures list { result.now ≡ self.now }
-        ensures once { IsPerEntity self.now }
+        ensures { result.now ≡ self.now }
     {
         self.list.as_slice()
+    }
+
+    // The same, with what the type keeps of it.
+    pub(crate) fn entries(&self) -> &[(EntityId, FenceId)]
+        ensures list { result.now ≡ self.now }
+        ensures once { IsPerEntity self.now }
+        ensures within { length self.now ≤ 64 }
+    {
+        &self.list
     }
 
     /// The entity and the fence at a place, counted from 0.

@@ -31,8 +31,9 @@ impl StoredDeps {
         ensures list { IfOk result (λ s. s.list ≡ deps.now) }
         ensures places { IfOk result (λ s. length deps.now + more ≤ s.places) }
     {
-        let mut list = Vec::with_capacity(alloc, deps.len() + more as usize)?;
-        for dep in deps.as_slice() {
+        let entries = deps.entries();
+        let mut list = Vec::with_capacity(alloc, entries.len() + more as usize)?;
+        for dep in entries {
             list.push_reserved(*dep);
         }
         Ok(StoredDeps { list })
