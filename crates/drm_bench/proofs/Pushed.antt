@@ -3,7 +3,7 @@ use Rattle.std.proofs.Common.{◌≡◌, ◌≢◌, ℕ, zero, suc, ◌+◌, ◌
 use Rattle.std.specs.Prelude.{◌⊎◌, Contains}
 use Rattle.std.specs.Option.{option_map_or}
 use Rattle.std.proofs.lemmas.Bool.{cases_eq}
-use Rattle.std.proofs.lemmas.List.Elements.{Contains-append_cases}
+use Rattle.std.proofs.lemmas.List.Elements.{Contains-push_cases}
 use Rattle.drm_entity.specs.Rows.{EntityRow, EntityRows, queue_at, pushed}
 use Rattle.drm_bench.specs.Queued.{AllBelow}
 
@@ -39,11 +39,11 @@ below_pushed e entity limit below other number in_queue =
               let row : EntityRow = record r { queue = r.queue ++ limit ∷ [] } in
               let here : slice_get (set e.rows entity row) other ≡ Some row = ap (slice_get (set e.rows entity row)) same ∙ set_here e.rows entity r row at in
               let new : Contains (r.queue ++ limit ∷ []) number = subst (λ (o : Option EntityRow). Contains (option_map_or (λ q. q.queue) o []) number) here there in
-              elim (Contains-append_cases r.queue (limit ∷ []) number new) [
+              elim (Contains-push_cases r.queue limit number new) [
                 | inl old ↦
                     let in_old : Contains (queue_at e entity) number = subst (λ (o : Option EntityRow). Contains (option_map_or (λ q. q.queue) o []) number) (sym at) old in
                     omega (arith, below entity number in_old)
-                | inr last ↦ ?
+                | inr last ↦ omega (arith, last)
               ]
           | inr apart ↦
               let old : Contains (queue_at e other) number =
@@ -66,4 +66,4 @@ below_none n places limit entity number in_queue =
     none (subst (λ (l : List ℕ). Contains l number) (idle_queue n entity (record { queue = []; is_stopped = false; is_guilty = false }) refl) in_queue)
   where
     none : Contains {X = ℕ} [] number → number < limit
-    none there = ?
+    none there = absurd (omega (arith, there.1))
