@@ -22,6 +22,11 @@ of_cell [] e x y z at is = absurd (cc (at))
 of_cell (w ∷ xs) zero x y z at is = cc (is)
 of_cell (w ∷ xs) (suc e) x y z at is = of_cell xs e x y z at is
 
+pub set_here : {X : Type 0} (xs : List X) (e : ℕ) (x y : X) → slice_get xs e ≡ Some x → slice_get (set xs e y) e ≡ Some y
+set_here [] e x y at = absurd (cc (at))
+set_here (w ∷ xs) zero x y at = refl
+set_here (w ∷ xs) (suc e) x y at = set_here xs e x y at
+
 pub of_others : {X : Type 0} (xs : List X) (e f : ℕ) (y : X) → f ≢ e → slice_get (set xs e y) f ≡ slice_get xs f
 of_others [] e f y away = refl
 of_others (w ∷ xs) zero zero y away = absurd (away refl)
@@ -140,7 +145,7 @@ nothing_past cells unmet e is past =
     unmet_none cells e (λ k p at. let placed = is.placed k p at in differs p.entity e (λ same. absurd (omega (arith, past, placed.2, same))))
 
 -- nobody waits
-none_there : (n k : ℕ) (p : Pair) → slice_get (replicate n None) k ≡ Some (Some p) → ⊥
+pub none_there : (n k : ℕ) (p : Pair) → slice_get (replicate n None) k ≡ Some (Some p) → ⊥
 none_there zero k p at = absurd (cc (at))
 none_there (suc n) zero p at = absurd (cc (at))
 none_there (suc n) (suc k) p at = none_there n k p at
@@ -202,3 +207,11 @@ none_waits cells unmet e x k p is lt x_is zero_is at same =
     let first : unmet_in (pairs_in cells) e ≡ 1 + unmet_in (pairs_in (set cells k None)) e =
     unmet_taken cells k p e at ∙ ap (λ t. cond t 1 0 + unmet_in (pairs_in (set cells k None)) e) one in
     omega (arith, read_is unmet e x lt x_is, is.counted e lt, first, zero_is)
+
+-- what is left when a place was cleared stood elsewhere before
+pub left_of : (cells : List (Option Pair)) (place k : ℕ) (p : Pair) → slice_get (set cells place None) k ≡ Some (Some p) → (k ≢ place) × (slice_get cells k ≡ Some (Some p))
+left_of [] place k p at = absurd (cc (at))
+left_of (c ∷ cells) zero zero p at = absurd (cc (at))
+left_of (c ∷ cells) zero (suc k) p at = (λ same. absurd (omega (arith, same)), at)
+left_of (c ∷ cells) (suc place) zero p at = (λ same. absurd (omega (arith, same)), at)
+left_of (c ∷ cells) (suc place) (suc k) p at = let before = left_of cells place k p at in (λ same. before.0 (omega (arith, same)), before.1)

@@ -1,2 +1,4 @@
 pub mod Pairs
 pub mod Counted
+pub mod Ring
+pub mod Linking

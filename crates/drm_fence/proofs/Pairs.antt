@@ -1,5 +1,5 @@
 -- The pairs of a table, by places.
-use Rattle.std.proofs.Common.{◌≡◌, ℕ, zero, suc, ◌+◌, ◌≤◌, Bool, true, false, ◌==◌, cond, List, [], ◌∷◌, set, length, replicate, Option, Some, None, refl, sym, ap, subst, ◌∙◌, arith, slice_get}
+use Rattle.std.proofs.Common.{◌≡◌, ◌≢◌, ℕ, zero, suc, ◌+◌, ◌≤◌, Bool, true, false, ◌==◌, cond, List, [], ◌∷◌, set, length, replicate, Option, Some, None, refl, sym, ap, subst, ◌∙◌, arith, slice_get}
 use Rattle.std.specs.Prelude.{filter}
 use Rattle.std.specs.List.{AllByRecursion}
 use Rattle.std.specs.List.Sorted.{IsPermutation}
@@ -95,3 +95,25 @@ unmet_none (None ∷ cells) e none = unmet_none cells e (λ k p at. none (suc k)
 unmet_none (Some q ∷ cells) e none =
     unmet_cons q (pairs_in cells) e ∙ (ap (λ t. cond t 1 0 + unmet_in (pairs_in cells) e) (none zero q refl)
     ∙ ap (λ n. 0 + n) (unmet_none cells e (λ k p at. none (suc k) p at)))
+
+-- a place that is cleared, whether it had a pair or not
+pub filter_cleared : (keep : Pair → Bool) (cells : List (Option Pair)) (k : ℕ) → ((p : Pair) → slice_get cells k ≡ Some (Some p) → keep p ≡ false)
+    → filter keep (pairs_in (set cells k None)) ≡ filter keep (pairs_in cells)
+filter_cleared keep [] k out = refl
+filter_cleared keep (None ∷ cells) zero out = refl
+filter_cleared keep (Some q ∷ cells) zero out = filter_taken keep (Some q ∷ cells) zero q refl (out q refl)
+filter_cleared keep (None ∷ cells) (suc k) out = filter_cleared keep cells k out
+filter_cleared keep (Some q ∷ cells) (suc k) out = ap (λ l. cond (keep q) (q ∷ l) l) (filter_cleared keep cells k out)
+
+pub one_less : (cells : List (Option Pair)) (k : ℕ) (p : Pair) → slice_get cells k ≡ Some (Some p) → length (pairs_in cells) ≡ suc (length (pairs_in (set cells k None)))
+one_less [] k p at = absurd (cc (at))
+one_less (None ∷ cells) zero p at = absurd (cc (at))
+one_less (None ∷ cells) (suc k) p at = one_less cells k p at
+one_less (Some q ∷ cells) zero p at = refl
+one_less (Some q ∷ cells) (suc k) p at = ap suc (one_less cells k p at)
+
+pub still_none : (cells : List (Option Pair)) (k : ℕ) → ((p : Pair) → slice_get cells k ≢ Some (Some p)) → set cells k None ≡ cells
+still_none [] k none = refl
+still_none (None ∷ cells) zero none = refl
+still_none (Some q ∷ cells) zero none = absurd (none q refl)
+still_none (c ∷ cells) (suc k) none = ap (λ l. c ∷ l) (still_none cells k none)

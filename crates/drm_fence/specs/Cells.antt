@@ -2,7 +2,7 @@
 use Rattle.std.specs.Prelude.{◌≡◌, ℕ, ◌+◌, ◌*◌, ◌<◌, ◌≤◌, Bool, ◌&&◌, ◌==◌, List, [], ◌∷◌, length, Option, Some, None, slice_get, slice_index}
 use Rattle.drm_fence.specs.declared.pair.Pair.{Pair}
 use Rattle.drm_fence.specs.declared.pair.Release.{Release}
-use Rattle.drm_fence.specs.declared.pair.Release.TheVariants.{Scheduled, Ended, Forgotten}
+use Rattle.drm_fence.specs.declared.pair.Release.TheVariants.{Scheduled, Ended}
 use Rattle.drm_fence.specs.Waiting.{unmet_in}
 
 -- the pairs that are there
@@ -11,11 +11,15 @@ pairs_in [] = []
 pairs_in (None ∷ rest) = pairs_in rest
 pairs_in (Some p ∷ rest) = p ∷ pairs_in rest
 
+-- the fence that was scheduled or ended
+abbrev pub fence_of : Release → ℕ
+fence_of (Scheduled fence) = fence
+fence_of (Ended fence) = fence
+
 -- whether a pair waits no more
 abbrev pub is_released : Release → Pair → Bool
 is_released (Scheduled fence) p = (p.fence == fence) && p.is_early
 is_released (Ended fence) p = p.fence == fence
-is_released (Forgotten entity) p = p.entity == entity
 
 -- each pair stands at its place, and the pairs of each entity are counted
 pub record IsCounted (cells : List (Option Pair)) (unmet : List ℕ) : Type 0 where

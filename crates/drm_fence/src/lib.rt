@@ -6,8 +6,10 @@
 //! takes memory, and each call of a `Timeline` takes the same time however many fences there are.
 #![tactic(auto)]
 
+mod links;
 mod pair;
 mod phase;
+mod table;
 #[cfg(test)]
 mod tests;
 mod timeline;

@@ -1,5 +1,5 @@
 ghost use Rattle.std.specs.Prelude.{◌≡◌};
-ghost use Rattle.drm_fence.specs.Cells.{is_released};
+ghost use Rattle.drm_fence.specs.Cells.{is_released, fence_of};
 
 use drm_types::{EntityId, FenceId};
 
@@ -23,11 +23,19 @@ pub enum Release {
     Scheduled(FenceId),
     /// The fence ended: all its pairs are met.
     Ended(FenceId),
-    /// The entity waits for nothing any more.
-    Forgotten(EntityId),
 }
 
 impl Release {
+    /// The fence that it comes from.
+    pub fn fence(self) -> FenceId
+        ensures { result ≡ fence_of self }
+    {
+        match self {
+            Release::Scheduled(fence) => fence,
+            Release::Ended(fence) => fence,
+        }
+    }
+
     /// Whether this pair waits no more.
     pub fn releases(self, pair: Pair) -> bool
         ensures { result ≡ is_released self pair }
@@ -35,7 +43,6 @@ impl Release {
         match self {
             Release::Scheduled(fence) => pair.fence == fence && pair.is_early,
             Release::Ended(fence) => pair.fence == fence,
-            Release::Forgotten(entity) => pair.entity == entity,
         }
     }
 }

@@ -1,4 +1,4 @@
-ghost use Rattle.std.specs.Prelude.{◌≡◌, IfOk};
+ghost use Rattle.std.specs.Prelude.{◌≡◌, ◌<◌, IfOk};
 
 use crate::phase::Phase;
 use crate::timeline::{NoFence, Timeline};
@@ -95,5 +95,50 @@ fn heads_wait(rt: HostRuntime) -> Result<(), Fail> {
     assert_eq!(rt; (waiters.unmet(2), waiters.unmet(0)), (1, 0));
     waiters.forget(2);
     assert_eq!(rt; (waiters.unmet(2), waiters.unmet(64)), (0, 0));
+    Ok(())
+}
+
+fn watch(waiters: &mut Waiters, entity: u32, fence: u32, early: bool)
+    requires entity { entity < waiters.old.entities }
+    requires of { 5 < waiters.old.entities }
+    requires fence { fence < waiters.old.fences }
+    ensures entities { waiters.new.entities ≡ waiters.old.entities }
+    ensures fences { waiters.new.fences ≡ waiters.old.fences }
+{
+    if !waiters.is_watching(entity, 5) {
+        waiters.watch(entity, fence, 5, early);
+    }
+}
+
+#[test]
+fn all_wait_for_one_fence(rt: HostRuntime) -> Result<(), Fail> {
+    let spec = device(rt.alloc(), 64, 9)?;
+    assert!(rt; spec.entities.len() == 64);
+    let mut waiters = Waiters::new(rt.alloc(), &spec)?;
+    for entity in 0..64u32 {
+        assert!(rt; waiters.entities() == 64);
+        assert!(rt; waiters.fences() == 9);
+        watch(&mut waiters, entity, 8, entity % 3 == 0);
+    }
+    waiters.scheduled(7);
+    waiters.ended(9);
+    waiters.forget(64);
+    waiters.forget(10);
+    for entity in 0..64u32 {
+        assert_eq!(rt; waiters.unmet(entity), if entity == 10 { 0 } else { 1 });
+    }
+    waiters.scheduled(8);
+    waiters.scheduled(8);
+    for entity in 0..64u32 {
+        let is_met = entity == 10 || entity % 3 == 0;
+        assert_eq!(rt; waiters.unmet(entity), if is_met { 0 } else { 1 });
+    }
+    assert!(rt; waiters.entities() == 64);
+    assert!(rt; waiters.fences() == 9);
+    watch(&mut waiters, 10, 8, true);
+    waiters.ended(8);
+    for entity in 0..64u32 {
+        assert_eq!(rt; waiters.unmet(entity), 0);
+    }
     Ok(())
 }

@@ -140,3 +140,16 @@ pub before_all : (items seen : List (ℕ × ℕ)) (place entity : ℕ) → seen 
     → (k : ℕ) (d : ℕ × ℕ) → k < length items → slice_get items k ≡ Some d → eqb d.0 entity ≡ false
 before_all items seen place entity seen_is past before k d lt at =
     before k d (omega (arith, lt, past)) (subst (λ (l : List (ℕ × ℕ)). slice_get l k ≡ Some d) (sym seen_is) at)
+
+-- the same in a list that is written in place
+pub noted_in_place : (items seen now : List (ℕ × ℕ)) (place entity fence m : ℕ) (d : ℕ × ℕ) → seen ≡ items → items ≡ now
+    → d ≡ get_or items place d → m ≡ max d.1 fence → place < length items
+    → ((k : ℕ) (y : ℕ × ℕ) → k < place → slice_get seen k ≡ Some y → eqb y.0 entity ≡ false)
+    → ((y : ℕ × ℕ) → slice_get seen place ≡ Some y → eqb y.0 entity ≡ true)
+    → set items place (d.0, m) ≡ noted now entity fence
+noted_in_place items seen now place entity fence m d seen_is view d_is m_is lt before here =
+    let at : slice_get items place ≡ Some d = slice_get-get_or items place d lt ∙ ap Some (sym d_is) in
+    let Before : List (ℕ × ℕ) → Type 0 = λ l. (k : ℕ) (y : ℕ × ℕ) → k < place → slice_get l k ≡ Some y → eqb y.0 entity ≡ false in
+    let Here : List (ℕ × ℕ) → Type 0 = λ l. (y : ℕ × ℕ) → slice_get l place ≡ Some y → eqb y.0 entity ≡ true in
+    let is = noted_at items place d entity fence at (subst Here seen_is here d at) (subst Before seen_is before) in
+    ap (λ n. set items place (d.0, n)) m_is ∙ (sym is ∙ ap (λ (l : List (ℕ × ℕ)). noted l entity fence) view)

@@ -1,5 +1,5 @@
 ghost use Rattle.std.specs.Prelude.{◌≡◌, ℕ, ◌<◌, ◌≤◌, ◌==◌, [], length, slice_get, Some, IsTrue, IsFalse};
-ghost use Rattle.drm_resv.specs.Latest.{noted};
+ghost use Rattle.drm_resv.specs.Latest.{noted, IsPerEntity};
 
 use arrayvec::ArrayVec;
 use drm_types::{EntityId, FenceId};
@@ -56,6 +56,15 @@ impl Deps {
         self.list.as_slice()
     }
 
+    // The same, with what the type keeps of it.
+    pub(crate) fn entries(&self) -> &[(EntityId, FenceId)]
+        ensures list { result.now ≡ self.now }
+        ensures once { IsPerEntity self.now }
+        ensures within { length self.now ≤ 64 }
+    {
+        &self.list
+    }
+
     /// The entity and the fence at a place, counted from 0.
     pub fn at(&self, place: usize) -> (EntityId, FenceId)
         requires { place < length self.now }
@@ -79,8 +88,8 @@ impl Deps {
     }
 }
 
-// The place of the entity's fence, or the end.
-fn place_of(list: &[(EntityId, FenceId)], entity: EntityId) -> usize
+/// The place of the entity's fence, or the end.
+pub(crate) fn place_of(list: &[(EntityId, FenceId)], entity: EntityId) -> usize
     ensures before { (k : ℕ) (d : ℕ × ℕ) → k < result → slice_get list.now k ≡ Some d → IsFalse (d.0 == entity) }
     ensures here { (d : ℕ × ℕ) → slice_get list.now result ≡ Some d → IsTrue (d.0 == entity) }
     ensures within { result ≤ length list.now }

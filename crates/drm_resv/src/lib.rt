@@ -3,15 +3,18 @@
 //! A `Resv` keeps the entries of one buffer and its history. It promises that `collect` notes exactly the entries of
 //! the usage that is asked for and of all stronger ones, that `add` replaces the first entry that it may replace and
 //! else appends, and that the history is exact. So an entry stands for each user that has not ended, by itself or by
-//! a later one of its entity. `Deps` keeps the latest fence of each entity. Nothing but `Resv::reserve` takes memory.
+//! a later one of its entity. `Deps` collects the latest fence of each entity, and
+//! `StoredDeps` keeps them with a job. Nothing but `Resv::reserve` and `StoredDeps::of` takes memory.
 #![tactic(auto)]
 
 mod deps;
 mod entry;
 mod resv;
+mod stored;
 #[cfg(test)]
 mod tests;
 
 pub use deps::Deps;
 pub use entry::Entry;
 pub use resv::Resv;
+pub use stored::StoredDeps;

@@ -1,6 +1,7 @@
 use crate::deps::Deps;
 use crate::entry::Entry;
 use crate::resv::Resv;
+use crate::stored::StoredDeps;
 use drm_fence::Timeline;
 use drm_types::{EntityId, FenceId, Outcome, Usage};
 use std::test::Fail;
@@ -133,4 +134,26 @@ fn the_latest_of_64_entities(rt: HostRuntime) {
     assert_eq!(rt; deps.at(0), (0, 1000));
     assert_eq!(rt; deps.at(30), (30, 970));
     assert_eq!(rt; deps.at(63), (63, 970));
+}
+
+#[test]
+fn dependencies_of_a_stored_job(rt: HostRuntime) -> Result<(), Fail> {
+    let mut deps = Deps::new();
+    assert!(rt; StoredDeps::of(rt.alloc(), &deps, 0)?.is_empty());
+    for (entity, fence) in [(5, 9), (63, 2), (0, 7)] {
+        deps.note(entity, fence);
+    }
+    let mut stored = StoredDeps::of(rt.alloc(), &deps, 2)?;
+    assert!(rt; stored.places() >= 5);
+    for (entity, fence) in [(63, 8), (5, 1), (6, 3)] {
+        assert!(rt; stored.len() < stored.places());
+        stored.note(entity, fence);
+    }
+    assert_eq!(rt;
+        stored.as_slice(),
+        [(5, 9), (63, 8), (0, 7), (6, 3)].as_slice()
+    );
+    assert!(rt; stored.len() > 1);
+    assert_eq!(rt; stored.at(1), (63, 8));
+    Ok(())
 }
