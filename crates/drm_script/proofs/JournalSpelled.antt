@@ -1,5 +1,5 @@
 -- The text of a journal is the lines of the grammar.
-use Rattle.std.proofs.Common.{◌≡◌, ℕ, ◌+◌, ◌<◌, ◌≤◌, List, [], ◌∷◌, ◌++◌, append_assoc, length, map, Some, None, Option, Ok, refl, sym, ap, subst, ◌∙◌, inl}
+use Rattle.std.proofs.Common.{◌≡◌, ℕ, ◌≤◌, List, [], ◌∷◌, ◌++◌, append_assoc, length, map, Some, None, Option, Ok, refl, sym, ap, ◌∙◌, inl}
 use Rattle.std.specs.Prelude.{codes, flat_map}
 use Rattle.std.specs.List.{AllByRecursion, join_with_byte}
 use Rattle.std.specs.Fmt.{decimal}
@@ -21,7 +21,7 @@ use Rattle.drm_text.specs.Grammar.{AreBytes, line_of_words, text_of_lines}
 use Rattle.drm_text.specs.Hexadecimal.{text_of_byte, text_of_bytes}
 use Rattle.drm_script.specs.declared.journal.JournalJob.{JournalJob}
 use Rattle.drm_script.specs.Answers.{numbers, separated}
-use Rattle.drm_script.specs.Grammar.{Line, Each, SpellsBuffer, declaration_word, fence_word, packet_pieces, packet_word, item_words, job_words, ring_words, priority_word, entity_words, opening}
+use Rattle.drm_script.specs.Grammar.{Line, Each, SpellsBuffer, declaration_word, fence_word, packet_word, job_words, ring_words, priority_word, entity_words, opening}
 use Rattle.drm_script.specs.Journal.{JournalParts, judge_journal}
 use Rattle.drm_script.specs.JournalGrammar.{status_word, record_words, final_words, end_words, JournalFits, SpellsJournal}
 use Rattle.drm_script.specs.JournalText.{line_of_bytes, text_of_priority, line_of_ring, line_of_entity, text_of_header, word_of_declaration, word_of_fence, pieces, word_of_packet, words_of_job, text_of_status, line_of_job, text_of_journal}
@@ -95,7 +95,7 @@ record_is armed =
     ∙ ap (λ (t : List ℕ). codes "job" ++ behind 32 (decimal armed.ran ∷ []) ++ t ++ words_of_job armed.job ++ 10 ∷ []) (status_is armed.outcome)
     ∙ ap (λ (t : List ℕ). codes "job" ++ behind 32 (decimal armed.ran ∷ []) ++ (32 ∷ status_word armed.outcome) ++ t ++ 10 ∷ []) (job_is armed.job)
     ∙ ap (λ (t : List ℕ). codes "job" ++ t ++ 10 ∷ [])
-        (append_assoc (behind 32 (decimal armed.ran ∷ [])) (32 ∷ status_word armed.outcome) (behind 32 (job_words armed.job)) ∙ sym (flat_map-append (λ (word : List ℕ). 32 ∷ word) (decimal armed.ran ∷ []) rest))
+    (append_assoc (behind 32 (decimal armed.ran ∷ [])) (32 ∷ status_word armed.outcome) (behind 32 (job_words armed.job)) ∙ sym (flat_map-append (λ (word : List ℕ). 32 ∷ word) (decimal armed.ran ∷ []) rest))
     ∙ ap (λ (t : List ℕ). t ++ 10 ∷ []) (sym (joined 32 (codes "job") (decimal armed.ran ∷ rest)))
 
 abbrev buffer_words : List ℕ → Line
@@ -178,10 +178,15 @@ each_buffer (b ∷ buffers) are = (inl (refl, are.0), each_buffer buffers are.1)
 -- what is written for a journal spells it, where its numbers are in their ranges
 pub written_spells : (text : List ℕ) (journal : JournalParts) → text ≡ text_of_journal journal → JournalFits journal → length text ≤ 1048576 → SpellsJournal text journal
 unfolding SpellsJournal
-written_spells text journal is fits short =
-    (journal_header journal.spec,
-      (map buffer_words journal.spec.buffers, each_buffer journal.spec.buffers fits.1.0, refl, fits.1.1, fits.1.2, fits.1.3, fits.0.0),
-      fits.0, fits.2, fits.3, is ∙ journal_is journal, short)
+written_spells text journal is fits short = (
+  journal_header journal.spec,
+  (map buffer_words journal.spec.buffers, each_buffer journal.spec.buffers fits.1.0, refl, fits.1.1, fits.1.2, fits.1.3, fits.0.0),
+  fits.0,
+  fits.2,
+  fits.3,
+  is ∙ journal_is journal,
+  short,
+)
 
 pub written_is_read : (text : List ℕ) (journal : JournalParts) → text ≡ text_of_journal journal → JournalFits journal → length text ≤ 1048576 → judge_journal text ≡ Ok journal
 written_is_read text journal is fits short = journal_again text journal (written_spells text journal is fits short)
