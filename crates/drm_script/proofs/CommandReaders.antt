@@ -1,5 +1,5 @@
 -- Command lines are read as they are written, and as nothing else.
-use Rattle.std.proofs.Common.{◌≡◌, ℕ, ◌+◌, ◌-◌, ◌^◌, ◌<◌, ◌≤◌, Bool, true, false, List, [], ◌∷◌, ◌++◌, append_assoc, length, map, Some, None, Option, Result, Ok, Err, refl, sym, ap, subst, ◌∙◌, arith}
+use Rattle.std.proofs.Common.{◌≡◌, ℕ, ◌+◌, ◌-◌, ◌^◌, ◌<◌, ◌≤◌, true, List, [], ◌∷◌, ◌++◌, append_assoc, length, map, Some, Result, Ok, refl, sym, ap, subst, ◌∙◌, arith}
 use Rattle.std.specs.Prelude.{codes}
 use Rattle.std.specs.List.{AllByRecursion, join_with_byte}
 use Rattle.std.specs.Fmt.{decimal}
@@ -12,7 +12,7 @@ use Rattle.drm_packet.specs.declared.Packet.TheVariants.{Fill, Copy, Add, Stall}
 use Rattle.drm_types.specs.declared.access.Access.{Access}
 use Rattle.drm_types.specs.declared.access.Access.TheVariants as access
 use Rattle.drm_types.specs.declared.spec.DeviceSpec.{DeviceSpec}
-use Rattle.drm_text.specs.Cut.{Words, parts_of}
+use Rattle.drm_text.specs.Cut.{Words}
 use Rattle.drm_text.specs.Grammar.{IsName}
 use Rattle.drm_text.specs.declared.fault.Fault.{Fault}
 use Rattle.drm_text.specs.declared.keywords.Command.{Command}
@@ -24,10 +24,10 @@ use Rattle.drm_text.specs.Lines.{start_at, last_line, out_of_order}
 use Rattle.drm_text.specs.Reading.{◌>>=◌, or_fault}
 use Rattle.drm_text.specs.Words.{last_number_at, name_at, last_name_at}
 use Rattle.drm_text.proofs.LineReaders.{AreWords, start_takes, start_again, last_takes, cut_lines, keyword_is_word}
-use Rattle.drm_text.proofs.Spelled.{passes, is_graphic, passes-append, passes-joined, decimal_graphic, byte_graphic}
+use Rattle.drm_text.proofs.Spelled.{passes, is_graphic, passes-joined, decimal_graphic, byte_graphic}
 use Rattle.drm_text.proofs.WordReaders.{bind_ok, ok_is, or_fault_ok, ReadsWord, ReadsLine, names_read, last_names_read, last_numbers_read}
-use Rattle.drm_script.specs.Commands.{context_and_buffer_at, ring_and_moment_at, submit_at, plan_at, event_at, command_of, event_line, events_of}
-use Rattle.drm_script.specs.Grammar.{IsNumber, IsMoment, declaration_word, fence_word, packet_pieces, packet_word, PacketFits, item_words, job_words, ItemsFit, JobFits, command_words, CommandFits}
+use Rattle.drm_script.specs.Commands.{context_and_buffer_at, ring_and_moment_at, plan_at, event_at, command_of, event_line, events_of}
+use Rattle.drm_script.specs.Grammar.{IsNumber, IsMoment, declaration_word, packet_pieces, packet_word, PacketFits, item_words, job_words, ItemsFit, JobFits, command_words, CommandFits}
 use Rattle.drm_script.specs.Job.{job_at}
 use Rattle.drm_script.proofs.JobReaders.{jobs_read}
 
@@ -96,10 +96,10 @@ contexts_and_buffers : (spec : DeviceSpec) → ReadsLine (context_and_buffer_at 
 unfolding context_and_buffer_at
 contexts_and_buffers spec = record {
   takes = λ words x e.
-    let t = two_take (name_at 64) decimal (IsName 64) (names_read 64) (last_name_at (length spec.buffers)) (λ n. decimal n ∷ []) (IsName (length spec.buffers)) (last_names_read (length spec.buffers)) pair_of words x e in
-    subst (λ (y : ℕ × ℕ). (words.rest.parts ≡ pair_words y) × (IsName 64 y.0 × IsName (length spec.buffers) y.1)) t.5 (t.2, (t.3, t.4));
+      let t = two_take (name_at 64) decimal (IsName 64) (names_read 64) (last_name_at (length spec.buffers)) (λ n. decimal n ∷ []) (IsName (length spec.buffers)) (last_names_read (length spec.buffers)) pair_of words x e in
+      subst (λ (y : ℕ × ℕ). (words.rest.parts ≡ pair_words y) × (IsName 64 y.0 × IsName (length spec.buffers) y.1)) t.5 (t.2, (t.3, t.4));
   again = λ words x is fits.
-    two_again (name_at 64) decimal (IsName 64) (names_read 64) (last_name_at (length spec.buffers)) (λ n. decimal n ∷ []) (IsName (length spec.buffers)) (last_names_read (length spec.buffers)) pair_of words x.0 x.1 is fits.0 fits.1;
+      two_again (name_at 64) decimal (IsName 64) (names_read 64) (last_name_at (length spec.buffers)) (λ n. decimal n ∷ []) (IsName (length spec.buffers)) (last_names_read (length spec.buffers)) pair_of words x.0 x.1 is fits.0 fits.1;
 }
 
 moments_read : ReadsLine (last_number_at (2 ^ 64 - 1)) (λ n. decimal n ∷ []) IsMoment
@@ -109,10 +109,10 @@ rings_and_moments : (spec : DeviceSpec) → ReadsLine (ring_and_moment_at spec) 
 unfolding ring_and_moment_at
 rings_and_moments spec = record {
   takes = λ words x e.
-    let t = two_take (name_at (length spec.rings)) decimal (IsName (length spec.rings)) (names_read (length spec.rings)) (last_number_at (2 ^ 64 - 1)) (λ n. decimal n ∷ []) IsMoment moments_read pair_of words x e in
-    subst (λ (y : ℕ × ℕ). (words.rest.parts ≡ pair_words y) × (IsName (length spec.rings) y.0 × IsMoment y.1)) t.5 (t.2, (t.3, t.4));
+      let t = two_take (name_at (length spec.rings)) decimal (IsName (length spec.rings)) (names_read (length spec.rings)) (last_number_at (2 ^ 64 - 1)) (λ n. decimal n ∷ []) IsMoment moments_read pair_of words x e in
+      subst (λ (y : ℕ × ℕ). (words.rest.parts ≡ pair_words y) × (IsName (length spec.rings) y.0 × IsMoment y.1)) t.5 (t.2, (t.3, t.4));
   again = λ words x is fits.
-    two_again (name_at (length spec.rings)) decimal (IsName (length spec.rings)) (names_read (length spec.rings)) (last_number_at (2 ^ 64 - 1)) (λ n. decimal n ∷ []) IsMoment moments_read pair_of words x.0 x.1 is fits.0 fits.1;
+      two_again (name_at (length spec.rings)) decimal (IsName (length spec.rings)) (names_read (length spec.rings)) (last_number_at (2 ^ 64 - 1)) (λ n. decimal n ∷ []) IsMoment moments_read pair_of words x.0 x.1 is fits.0 fits.1;
 }
 
 -- ---- one command
@@ -210,7 +210,10 @@ written spec (event.End ctx) fits =
     record { name = command.End; fields = decimal ctx ∷ []; spelled = refl; are = (name_graphic 64 ctx fits, tt); again = λ words is. one_again spec 64 ctx event.End words fits is }
 written spec (event.Plan ctx job) fits =
     record {
-      name = command.Plan; fields = decimal ctx ∷ job_words job; spelled = refl; are = (name_graphic 64 ctx fits.0, job_graphic job fits.1);
+      name = command.Plan;
+      fields = decimal ctx ∷ job_words job;
+      spelled = refl;
+      are = (name_graphic 64 ctx fits.0, job_graphic job fits.1);
       again = λ words is. two_again (name_at 64) decimal (IsName 64) (names_read 64) job_at job_words JobFits jobs_read event.Plan words ctx job is fits.0 fits.1;
     }
 written spec (event.Arm ctx) fits =

@@ -1,5 +1,5 @@
 -- Headers are read as they are written, and as nothing else.
-use Rattle.std.proofs.Common.{◌≡◌, ℕ, ◌+◌, ◌-◌, ◌^◌, ◌<◌, ◌≤◌, Bool, true, false, cond, List, [], ◌∷◌, ◌++◌, append_assoc, length, map, Some, None, Option, Result, Ok, Err, refl, sym, ap, subst, ◌∙◌, arith, inl, inr, ◌⊎◌}
+use Rattle.std.proofs.Common.{◌≡◌, ℕ, ◌+◌, ◌-◌, ◌^◌, ◌<◌, ◌≤◌, Bool, true, false, cond, List, [], ◌∷◌, ◌++◌, append_assoc, length, map, Some, None, Option, Result, Ok, Err, refl, sym, ap, subst, ◌∙◌, arith, inl, inr}
 use Rattle.std.specs.Prelude.{codes, replicate}
 use Rattle.std.specs.Str.{bytes_eq}
 use Rattle.std.specs.List.{AllByRecursion, join_with_byte}
@@ -13,7 +13,6 @@ use Rattle.drm_types.specs.declared.spec.Priority.{Priority}
 use Rattle.drm_types.specs.declared.spec.Priority.TheVariants as priority
 use Rattle.drm_types.specs.declared.spec.RingSpec.{RingSpec}
 use Rattle.drm_text.specs.Cut.{Words, Left}
-use Rattle.drm_text.specs.Grammar.{AreBytes}
 use Rattle.drm_text.specs.Hexadecimal.{last_bytes_at, text_of_bytes}
 use Rattle.drm_text.specs.declared.fault.Fault.{Fault}
 use Rattle.drm_text.specs.declared.fault.TextFault.TheVariants as what
@@ -21,7 +20,7 @@ use Rattle.drm_text.specs.declared.keywords.Keyword.{Keyword}
 use Rattle.drm_text.specs.declared.keywords.Keyword.TheVariants as line
 use Rattle.drm_text.specs.Keywords.{keyword_text}
 use Rattle.drm_text.specs.Lines.{start_at, last_line, out_of_order}
-use Rattle.drm_text.specs.Reading.{◌>>=◌, ◌>>+◌, or_fault, or_bad_device}
+use Rattle.drm_text.specs.Reading.{◌>>=◌, or_fault, or_bad_device}
 use Rattle.drm_text.specs.Words.{word_at, number_at, last_number_at, end_at, fault_here}
 use Rattle.drm_text.proofs.LineReaders.{AreWords, start_takes, start_again}
 use Rattle.drm_text.proofs.Spelled.{passes, is_graphic, decimal_graphic, bytes_graphic}
@@ -48,18 +47,18 @@ rings_read : ReadsLine ring_at ring_fields RingFits
 unfolding ring_at
 rings_read = record {
   takes = λ words x e.
-    let a = bind_ok (number_at 65535 words) (λ a. number_at (2 ^ 32 - 1) a.1 >>= λ b. last_number_at (2 ^ 32 - 1) b.1 >>= λ c. Ok (the_ring a.0 b.0 c)) x e in
-    let b = bind_ok (number_at (2 ^ 32 - 1) a.0.1) (λ b. last_number_at (2 ^ 32 - 1) b.1 >>= λ c. Ok (the_ring a.0.0 b.0 c)) x a.2 in
-    let c = bind_ok (last_number_at (2 ^ 32 - 1) b.0.1) (λ c. Ok (the_ring a.0.0 b.0.0 c)) x b.2 in
-    let p = (numbers_read 65535 (omega arith)).takes words a.0 a.1 in
-    let q = (numbers_read (2 ^ 32 - 1) (omega arith)).takes a.0.1 b.0 b.1 in
-    let r = (last_numbers_read (2 ^ 32 - 1) (omega arith)).takes b.0.1 c.0 c.1 in
-    subst (λ (y : RingSpec). (words.rest.parts ≡ ring_fields y) × RingFits y) (ok_is (the_ring a.0.0 b.0.0 c.0) x c.2)
-        (same_three _ _ _ [] [] [] _ _ _ p.0 q.0 r.0, (p.1, q.1, r.1));
+      let a = bind_ok (number_at 65535 words) (λ a. number_at (2 ^ 32 - 1) a.1 >>= λ b. last_number_at (2 ^ 32 - 1) b.1 >>= λ c. Ok (the_ring a.0 b.0 c)) x e in
+      let b = bind_ok (number_at (2 ^ 32 - 1) a.0.1) (λ b. last_number_at (2 ^ 32 - 1) b.1 >>= λ c. Ok (the_ring a.0.0 b.0 c)) x a.2 in
+      let c = bind_ok (last_number_at (2 ^ 32 - 1) b.0.1) (λ c. Ok (the_ring a.0.0 b.0.0 c)) x b.2 in
+      let p = (numbers_read 65535 (omega arith)).takes words a.0 a.1 in
+      let q = (numbers_read (2 ^ 32 - 1) (omega arith)).takes a.0.1 b.0 b.1 in
+      let r = (last_numbers_read (2 ^ 32 - 1) (omega arith)).takes b.0.1 c.0 c.1 in
+      subst (λ (y : RingSpec). (words.rest.parts ≡ ring_fields y) × RingFits y) (ok_is (the_ring a.0.0 b.0.0 c.0) x c.2)
+      (same_three _ _ _ [] [] [] _ _ _ p.0 q.0 r.0, (p.1, q.1, r.1));
   again = λ words x is fits.
-    let a = (numbers_read 65535 (omega arith)).again words x.credit_limit (decimal x.timeout ∷ decimal x.hang_limit ∷ []) is fits.0 in
-    let b = (numbers_read (2 ^ 32 - 1) (omega arith)).again a.0 x.timeout (decimal x.hang_limit ∷ []) a.2 fits.1 in
-    rw (a.1, b.1, (last_numbers_read (2 ^ 32 - 1) (omega arith)).again b.0 x.hang_limit b.2 fits.2) refl;
+      let a = (numbers_read 65535 (omega arith)).again words x.credit_limit (decimal x.timeout ∷ decimal x.hang_limit ∷ []) is fits.0 in
+      let b = (numbers_read (2 ^ 32 - 1) (omega arith)).again a.0 x.timeout (decimal x.hang_limit ∷ []) a.2 fits.1 in
+      rw (a.1, b.1, (last_numbers_read (2 ^ 32 - 1) (omega arith)).again b.0 x.hang_limit b.2 fits.2) refl;
 }
 
 priority_takes : (word : List ℕ) (p : Priority) → priority_of word ≡ Some p → word ≡ priority_word p
@@ -67,15 +66,15 @@ priority_takes word p e =
     elim (choose (bytes_eq word (codes "kernel")) (Some priority.Kernel) _ (Some p) e) [
       | inl is ↦ same_name word (codes "kernel") is.0 ∙ ap priority_word (some_is priority.Kernel p is.1)
       | inr e1 ↦ elim (choose (bytes_eq word (codes "high")) (Some priority.High) _ (Some p) e1) [
-          | inl is ↦ same_name word (codes "high") is.0 ∙ ap priority_word (some_is priority.High p is.1)
-          | inr e2 ↦ elim (choose (bytes_eq word (codes "normal")) (Some priority.Normal) _ (Some p) e2) [
-              | inl is ↦ same_name word (codes "normal") is.0 ∙ ap priority_word (some_is priority.Normal p is.1)
-              | inr e3 ↦ elim (choose (bytes_eq word (codes "low")) (Some priority.Low) None (Some p) e3) [
-                  | inl is ↦ same_name word (codes "low") is.0 ∙ ap priority_word (some_is priority.Low p is.1)
-                  | inr e4 ↦ absurd (cc)
-                ]
-            ]
+        | inl is ↦ same_name word (codes "high") is.0 ∙ ap priority_word (some_is priority.High p is.1)
+        | inr e2 ↦ elim (choose (bytes_eq word (codes "normal")) (Some priority.Normal) _ (Some p) e2) [
+          | inl is ↦ same_name word (codes "normal") is.0 ∙ ap priority_word (some_is priority.Normal p is.1)
+          | inr e3 ↦ elim (choose (bytes_eq word (codes "low")) (Some priority.Low) None (Some p) e3) [
+            | inl is ↦ same_name word (codes "low") is.0 ∙ ap priority_word (some_is priority.Low p is.1)
+            | inr e4 ↦ absurd (cc)
+          ]
         ]
+      ]
     ]
 
 priority_again : (p : Priority) → priority_of (priority_word p) ≡ Some p
@@ -103,20 +102,20 @@ entities_read : ReadsLine entity_at entity_fields (λ entity. IsNumber entity.ri
 unfolding entity_at
 entities_read = record {
   takes = λ words x e.
-    let a = bind_ok (number_at (2 ^ 32 - 1) words) (λ ring. word_at ring.1 >>= λ word. or_fault (priority_of word.0) (fault_here ring.1 what.Word) >>= λ p. end_at word.1 >>= λ _. Ok (the_entity ring.0 p)) x e in
-    let b = bind_ok (word_at a.0.1) (λ word. or_fault (priority_of word.0) (fault_here a.0.1 what.Word) >>= λ p. end_at word.1 >>= λ _. Ok (the_entity a.0.0 p)) x a.2 in
-    let c = bind_ok (or_fault (priority_of b.0.0) (fault_here a.0.1 what.Word)) (λ p. end_at b.0.1 >>= λ _. Ok (the_entity a.0.0 p)) x b.2 in
-    let d = bind_ok (end_at b.0.1) (λ _. Ok (the_entity a.0.0 c.0)) x c.2 in
-    let p = (numbers_read (2 ^ 32 - 1) (omega arith)).takes words a.0 a.1 in
-    let q = any_word.takes a.0.1 b.0 b.1 in
-    let r = priority_takes b.0.0 c.0 (or_fault_ok (priority_of b.0.0) (fault_here a.0.1 what.Word) c.0 c.1) in
-    let s = no_word.takes b.0.1 d.0 d.1 in
-    subst (λ (y : EntitySpec). (words.rest.parts ≡ entity_fields y) × IsNumber y.ring) (ok_is (the_entity a.0.0 c.0) x d.2)
-        (same_two _ _ _ _ _ _ p.0 q.0 r s.0, p.1);
+      let a = bind_ok (number_at (2 ^ 32 - 1) words) (λ ring. word_at ring.1 >>= λ word. or_fault (priority_of word.0) (fault_here ring.1 what.Word) >>= λ p. end_at word.1 >>= λ _. Ok (the_entity ring.0 p)) x e in
+      let b = bind_ok (word_at a.0.1) (λ word. or_fault (priority_of word.0) (fault_here a.0.1 what.Word) >>= λ p. end_at word.1 >>= λ _. Ok (the_entity a.0.0 p)) x a.2 in
+      let c = bind_ok (or_fault (priority_of b.0.0) (fault_here a.0.1 what.Word)) (λ p. end_at b.0.1 >>= λ _. Ok (the_entity a.0.0 p)) x b.2 in
+      let d = bind_ok (end_at b.0.1) (λ _. Ok (the_entity a.0.0 c.0)) x c.2 in
+      let p = (numbers_read (2 ^ 32 - 1) (omega arith)).takes words a.0 a.1 in
+      let q = any_word.takes a.0.1 b.0 b.1 in
+      let r = priority_takes b.0.0 c.0 (or_fault_ok (priority_of b.0.0) (fault_here a.0.1 what.Word) c.0 c.1) in
+      let s = no_word.takes b.0.1 d.0 d.1 in
+      subst (λ (y : EntitySpec). (words.rest.parts ≡ entity_fields y) × IsNumber y.ring) (ok_is (the_entity a.0.0 c.0) x d.2)
+      (same_two _ _ _ _ _ _ p.0 q.0 r s.0, p.1);
   again = λ words x is fits.
-    let a = (numbers_read (2 ^ 32 - 1) (omega arith)).again words x.ring (priority_word x.priority ∷ []) is fits in
-    let b = any_word.again a.0 (priority_word x.priority) [] a.2 (priority_is_word x.priority).0 in
-    rw (a.1, b.1, priority_again x.priority, no_word.again b.0 tt b.2 tt) refl;
+      let a = (numbers_read (2 ^ 32 - 1) (omega arith)).again words x.ring (priority_word x.priority ∷ []) is fits in
+      let b = any_word.again a.0 (priority_word x.priority) [] a.2 (priority_is_word x.priority).0 in
+      rw (a.1, b.1, priority_again x.priority, no_word.again b.0 tt b.2 tt) refl;
 }
 
 -- ---- one line
@@ -198,9 +197,11 @@ line_takes spec last n bytes x e =
     let b = bind_ok (or_fault (section_after last a.0.0) (out_of_order n)) (λ s. with_header_words spec a.0.0 a.0.1 >>= λ more. Ok (more, s)) x a.2 in
     let c = bind_ok (with_header_words spec a.0.0 a.0.1) (λ more. Ok (more, b.0)) x b.2 in
     let s = section_takes last a.0.0 b.0 (or_fault_ok (section_after last a.0.0) (out_of_order n) b.0 b.1) in
-    let words = keyword_text a.0.0 ∷ a.0.1.rest.parts in
-    (words, start_takes n bytes a.0 a.1,
-      subst (λ (y : DeviceSpec × Section). Describes spec last words y.0 y.1) (ok_is (c.0, b.0) x c.2) (words_take spec last a.0.0 a.0.1 c.0 b.0 s.0 s.1 c.1))
+    let words = keyword_text a.0.0 ∷ a.0.1.rest.parts in (
+      words,
+      start_takes n bytes a.0 a.1,
+      subst (λ (y : DeviceSpec × Section). Describes spec last words y.0 y.1) (ok_is (c.0, b.0) x c.2) (words_take spec last a.0.0 a.0.1 c.0 b.0 s.0 s.1 c.1),
+    )
 
 -- ---- all lines up to `go`
 
@@ -291,32 +292,50 @@ buffer_more : (spec : DeviceSpec) (last : Section) (bytes : List ℕ) (line : Li
     → SpellsBuffer line buffer → Allowed last section.Buffers → Header (record spec { buffers = spec.buffers ++ buffer ∷ [] }) section.Buffers rest x → Header spec last (bytes ∷ rest) x
 buffer_more spec last bytes line rest x buffer is spells allowed h =
     let b = behind_buffers last allowed in record {
-  lines = line ∷ h.lines; buffers = buffer ∷ h.buffers; rings = h.rings; entities = h.entities; max_jobs = h.max_jobs;
-  words = more_words bytes line rest (header_lines last h.lines h.rings h.entities h.max_jobs) (x.1.bytes ∷ x.1.more) is
-      (h.words ∙ ap (λ (e : List Line). as_bytes (h.lines ++ map ring_words h.rings ++ map entity_words h.entities ++ e) ++ x.1.bytes ∷ x.1.more) (b.3 h.max_jobs));
-  each = (spells, h.each); rings_fit = h.rings_fit; entities_fit = h.entities_fit;
-  adds = h.adds ∙ ap (λ (bs : List (List ℕ)). let d : DeviceSpec = record { buffers = bs; rings = spec.rings ++ h.rings; entities = spec.entities ++ h.entities; max_jobs = h.max_jobs } in d) (append_assoc spec.buffers (buffer ∷ []) h.buffers);
-  whole = h.whole;
-  no_buffers = λ none. never _ allowed none; no_rings = λ none. never _ b.0 none; no_entities = λ none. never _ b.1 none;
-  limit = λ some. h.limit refl; kept = λ none. never _ b.2 none;
-}
+      lines = line ∷ h.lines;
+      buffers = buffer ∷ h.buffers;
+      rings = h.rings;
+      entities = h.entities;
+      max_jobs = h.max_jobs;
+      words = more_words bytes line rest (header_lines last h.lines h.rings h.entities h.max_jobs) (x.1.bytes ∷ x.1.more) is
+          (h.words ∙ ap (λ (e : List Line). as_bytes (h.lines ++ map ring_words h.rings ++ map entity_words h.entities ++ e) ++ x.1.bytes ∷ x.1.more) (b.3 h.max_jobs));
+      each = (spells, h.each);
+      rings_fit = h.rings_fit;
+      entities_fit = h.entities_fit;
+      adds = h.adds ∙ ap (λ (bs : List (List ℕ)). let d : DeviceSpec = record { buffers = bs; rings = spec.rings ++ h.rings; entities = spec.entities ++ h.entities; max_jobs = h.max_jobs } in d) (append_assoc spec.buffers (buffer ∷ []) h.buffers);
+      whole = h.whole;
+      no_buffers = λ none. never _ allowed none;
+      no_rings = λ none. never _ b.0 none;
+      no_entities = λ none. never _ b.1 none;
+      limit = λ some. h.limit refl;
+      kept = λ none. never _ b.2 none;
+    }
 
 ring_more : (spec : DeviceSpec) (last : Section) (bytes : List ℕ) (rest : List (List ℕ)) (x : DeviceSpec × Left) (ring : RingSpec) → bytes ≡ join_with_byte 32 (ring_words ring)
     → RingFits ring → Allowed last section.Rings → Header (record spec { rings = spec.rings ++ ring ∷ [] }) section.Rings rest x → Header spec last (bytes ∷ rest) x
 ring_more spec last bytes rest x ring is fits allowed h =
     let b = behind_rings last allowed in
     let none = h.no_buffers refl in record {
-  lines = []; buffers = []; rings = ring ∷ h.rings; entities = h.entities; max_jobs = h.max_jobs;
-  words = more_words bytes (ring_words ring) rest (header_lines last [] h.rings h.entities h.max_jobs) (x.1.bytes ∷ x.1.more) is
-      (h.words ∙ ap (λ (ls : List Line). as_bytes (header_lines section.Rings ls h.rings h.entities h.max_jobs) ++ x.1.bytes ∷ x.1.more) none.0
-       ∙ ap (λ (e : List Line). as_bytes (map ring_words h.rings ++ map entity_words h.entities ++ e) ++ x.1.bytes ∷ x.1.more) (b.2 h.max_jobs));
-  each = tt; rings_fit = (fits, h.rings_fit); entities_fit = h.entities_fit;
-  adds = h.adds ∙ ap (λ (bs : List (List ℕ)). with_parts (record spec { rings = spec.rings ++ ring ∷ [] }) bs h.rings h.entities h.max_jobs) none.1
-      ∙ ap (λ (rs : List RingSpec). let d : DeviceSpec = record { buffers = spec.buffers ++ []; rings = rs; entities = spec.entities ++ h.entities; max_jobs = h.max_jobs } in d) (append_assoc spec.rings (ring ∷ []) h.rings);
-  whole = h.whole;
-  no_buffers = λ _. (refl, refl); no_rings = λ none. never _ allowed none; no_entities = λ none. never _ b.0 none;
-  limit = λ some. h.limit refl; kept = λ none. never _ b.1 none;
-}
+      lines = [];
+      buffers = [];
+      rings = ring ∷ h.rings;
+      entities = h.entities;
+      max_jobs = h.max_jobs;
+      words = more_words bytes (ring_words ring) rest (header_lines last [] h.rings h.entities h.max_jobs) (x.1.bytes ∷ x.1.more) is
+          (h.words ∙ ap (λ (ls : List Line). as_bytes (header_lines section.Rings ls h.rings h.entities h.max_jobs) ++ x.1.bytes ∷ x.1.more) none.0
+          ∙ ap (λ (e : List Line). as_bytes (map ring_words h.rings ++ map entity_words h.entities ++ e) ++ x.1.bytes ∷ x.1.more) (b.2 h.max_jobs));
+      each = tt;
+      rings_fit = (fits, h.rings_fit);
+      entities_fit = h.entities_fit;
+      adds = h.adds ∙ ap (λ (bs : List (List ℕ)). with_parts (record spec { rings = spec.rings ++ ring ∷ [] }) bs h.rings h.entities h.max_jobs) none.1
+          ∙ ap (λ (rs : List RingSpec). let d : DeviceSpec = record { buffers = spec.buffers ++ []; rings = rs; entities = spec.entities ++ h.entities; max_jobs = h.max_jobs } in d) (append_assoc spec.rings (ring ∷ []) h.rings);
+      whole = h.whole;
+      no_buffers = λ _. (refl, refl);
+      no_rings = λ none. never _ allowed none;
+      no_entities = λ none. never _ b.0 none;
+      limit = λ some. h.limit refl;
+      kept = λ none. never _ b.1 none;
+    }
 
 entity_more : (spec : DeviceSpec) (last : Section) (bytes : List ℕ) (rest : List (List ℕ)) (x : DeviceSpec × Left) (entity : EntitySpec) → bytes ≡ join_with_byte 32 (entity_words entity)
     → IsNumber entity.ring → Allowed last section.Entities → Header (record spec { entities = spec.entities ++ entity ∷ [] }) section.Entities rest x → Header spec last (bytes ∷ rest) x
@@ -324,19 +343,28 @@ entity_more spec last bytes rest x entity is fits allowed h =
     let b = behind_entities last allowed in
     let none = h.no_buffers refl in
     let no_ring = h.no_rings refl in record {
-  lines = []; buffers = []; rings = []; entities = entity ∷ h.entities; max_jobs = h.max_jobs;
-  words = more_words bytes (entity_words entity) rest (header_lines last [] [] h.entities h.max_jobs) (x.1.bytes ∷ x.1.more) is
-      (h.words ∙ ap (λ (ls : List Line). as_bytes (header_lines section.Entities ls h.rings h.entities h.max_jobs) ++ x.1.bytes ∷ x.1.more) none.0
-       ∙ ap (λ (rs : List RingSpec). as_bytes (header_lines section.Entities [] rs h.entities h.max_jobs) ++ x.1.bytes ∷ x.1.more) no_ring
-       ∙ ap (λ (e : List Line). as_bytes (map entity_words h.entities ++ e) ++ x.1.bytes ∷ x.1.more) (b.1 h.max_jobs));
-  each = tt; rings_fit = tt; entities_fit = (fits, h.entities_fit);
-  adds = h.adds ∙ ap (λ (bs : List (List ℕ)). with_parts (record spec { entities = spec.entities ++ entity ∷ [] }) bs h.rings h.entities h.max_jobs) none.1
-      ∙ ap (λ (rs : List RingSpec). with_parts (record spec { entities = spec.entities ++ entity ∷ [] }) [] rs h.entities h.max_jobs) no_ring
-      ∙ ap (λ (es : List EntitySpec). let d : DeviceSpec = record { buffers = spec.buffers ++ []; rings = spec.rings ++ []; entities = es; max_jobs = h.max_jobs } in d) (append_assoc spec.entities (entity ∷ []) h.entities);
-  whole = h.whole;
-  no_buffers = λ _. (refl, refl); no_rings = λ _. refl; no_entities = λ none. never _ allowed none;
-  limit = λ some. h.limit refl; kept = λ none. never _ b.0 none;
-}
+      lines = [];
+      buffers = [];
+      rings = [];
+      entities = entity ∷ h.entities;
+      max_jobs = h.max_jobs;
+      words = more_words bytes (entity_words entity) rest (header_lines last [] [] h.entities h.max_jobs) (x.1.bytes ∷ x.1.more) is
+          (h.words ∙ ap (λ (ls : List Line). as_bytes (header_lines section.Entities ls h.rings h.entities h.max_jobs) ++ x.1.bytes ∷ x.1.more) none.0
+          ∙ ap (λ (rs : List RingSpec). as_bytes (header_lines section.Entities [] rs h.entities h.max_jobs) ++ x.1.bytes ∷ x.1.more) no_ring
+          ∙ ap (λ (e : List Line). as_bytes (map entity_words h.entities ++ e) ++ x.1.bytes ∷ x.1.more) (b.1 h.max_jobs));
+      each = tt;
+      rings_fit = tt;
+      entities_fit = (fits, h.entities_fit);
+      adds = h.adds ∙ ap (λ (bs : List (List ℕ)). with_parts (record spec { entities = spec.entities ++ entity ∷ [] }) bs h.rings h.entities h.max_jobs) none.1
+          ∙ ap (λ (rs : List RingSpec). with_parts (record spec { entities = spec.entities ++ entity ∷ [] }) [] rs h.entities h.max_jobs) no_ring
+          ∙ ap (λ (es : List EntitySpec). let d : DeviceSpec = record { buffers = spec.buffers ++ []; rings = spec.rings ++ []; entities = es; max_jobs = h.max_jobs } in d) (append_assoc spec.entities (entity ∷ []) h.entities);
+      whole = h.whole;
+      no_buffers = λ _. (refl, refl);
+      no_rings = λ _. refl;
+      no_entities = λ none. never _ allowed none;
+      limit = λ some. h.limit refl;
+      kept = λ none. never _ b.0 none;
+    }
 
 limit_more : (spec : DeviceSpec) (last : Section) (bytes : List ℕ) (rest : List (List ℕ)) (x : DeviceSpec × Left) (max_jobs : ℕ) → bytes ≡ join_with_byte 32 (codes "jobs" ∷ decimal max_jobs ∷ [])
     → IsNumber max_jobs → Allowed last section.Limit → Header (record spec { max_jobs = max_jobs }) section.Limit rest x → Header spec last (bytes ∷ rest) x
@@ -345,21 +373,30 @@ limit_more spec last bytes rest x max_jobs is fits allowed h =
     let no_ring = h.no_rings refl in
     let no_entity = h.no_entities refl in
     let same : h.max_jobs ≡ max_jobs = h.kept refl in record {
-  lines = []; buffers = []; rings = []; entities = []; max_jobs = max_jobs;
-  words = more_words bytes (codes "jobs" ∷ decimal max_jobs ∷ []) rest ((codes "go" ∷ []) ∷ []) (x.1.bytes ∷ x.1.more) is
-      (h.words ∙ ap (λ (ls : List Line). as_bytes (header_lines section.Limit ls h.rings h.entities h.max_jobs) ++ x.1.bytes ∷ x.1.more) none.0
-       ∙ ap (λ (rs : List RingSpec). as_bytes (header_lines section.Limit [] rs h.entities h.max_jobs) ++ x.1.bytes ∷ x.1.more) no_ring
-       ∙ ap (λ (es : List EntitySpec). as_bytes (header_lines section.Limit [] [] es h.max_jobs) ++ x.1.bytes ∷ x.1.more) no_entity)
-      ∙ ap (λ (e : List Line). as_bytes e ++ x.1.bytes ∷ x.1.more) (behind_limit last allowed max_jobs);
-  each = tt; rings_fit = tt; entities_fit = tt;
-  adds = h.adds ∙ ap (λ (bs : List (List ℕ)). with_parts spec bs h.rings h.entities h.max_jobs) none.1
-      ∙ ap (λ (rs : List RingSpec). with_parts spec [] rs h.entities h.max_jobs) no_ring
-      ∙ ap (λ (es : List EntitySpec). with_parts spec [] [] es h.max_jobs) no_entity
-      ∙ ap (λ (n : ℕ). with_parts spec [] [] [] n) same;
-  whole = h.whole;
-  no_buffers = λ _. (refl, refl); no_rings = λ _. refl; no_entities = λ _. refl;
-  limit = λ _. fits; kept = λ none. never _ allowed none;
-}
+      lines = [];
+      buffers = [];
+      rings = [];
+      entities = [];
+      max_jobs = max_jobs;
+      words = more_words bytes (codes "jobs" ∷ decimal max_jobs ∷ []) rest ((codes "go" ∷ []) ∷ []) (x.1.bytes ∷ x.1.more) is
+          (h.words ∙ ap (λ (ls : List Line). as_bytes (header_lines section.Limit ls h.rings h.entities h.max_jobs) ++ x.1.bytes ∷ x.1.more) none.0
+          ∙ ap (λ (rs : List RingSpec). as_bytes (header_lines section.Limit [] rs h.entities h.max_jobs) ++ x.1.bytes ∷ x.1.more) no_ring
+          ∙ ap (λ (es : List EntitySpec). as_bytes (header_lines section.Limit [] [] es h.max_jobs) ++ x.1.bytes ∷ x.1.more) no_entity)
+          ∙ ap (λ (e : List Line). as_bytes e ++ x.1.bytes ∷ x.1.more) (behind_limit last allowed max_jobs);
+      each = tt;
+      rings_fit = tt;
+      entities_fit = tt;
+      adds = h.adds ∙ ap (λ (bs : List (List ℕ)). with_parts spec bs h.rings h.entities h.max_jobs) none.1
+          ∙ ap (λ (rs : List RingSpec). with_parts spec [] rs h.entities h.max_jobs) no_ring
+          ∙ ap (λ (es : List EntitySpec). with_parts spec [] [] es h.max_jobs) no_entity
+          ∙ ap (λ (n : ℕ). with_parts spec [] [] [] n) same;
+      whole = h.whole;
+      no_buffers = λ _. (refl, refl);
+      no_rings = λ _. refl;
+      no_entities = λ _. refl;
+      limit = λ _. fits;
+      kept = λ none. never _ allowed none;
+    }
 
 nothing_more : (spec : DeviceSpec) → with_parts spec [] [] [] spec.max_jobs ≡ spec
 nothing_more spec = rw (append-nil spec.buffers, append-nil spec.rings, append-nil spec.entities) refl
@@ -383,14 +420,23 @@ end_here spec last bytes rest n next x is allowed e =
     let a = bind_ok (checked_device spec) (λ _. Ok (spec, left)) x e in
     let b = behind_end last allowed in
     subst (λ (y : DeviceSpec × Left). Header spec last (bytes ∷ next ∷ rest) y) (ok_is (spec, left) x a.2) (record {
-  lines = []; buffers = []; rings = []; entities = []; max_jobs = spec.max_jobs;
-  words = more_words bytes (codes "go" ∷ []) (next ∷ rest) [] (next ∷ rest) is refl ∙ ap (λ (e : List Line). as_bytes e ++ next ∷ rest) (b.0 spec.max_jobs);
-  each = tt; rings_fit = tt; entities_fit = tt;
-  adds = sym (nothing_more spec);
-  whole = device_ok spec a.0 a.1;
-  no_buffers = λ _. (refl, refl); no_rings = λ _. refl; no_entities = λ _. refl;
-  limit = λ some. never _ some b.1; kept = λ _. refl;
-})
+      lines = [];
+      buffers = [];
+      rings = [];
+      entities = [];
+      max_jobs = spec.max_jobs;
+      words = more_words bytes (codes "go" ∷ []) (next ∷ rest) [] (next ∷ rest) is refl ∙ ap (λ (e : List Line). as_bytes e ++ next ∷ rest) (b.0 spec.max_jobs);
+      each = tt;
+      rings_fit = tt;
+      entities_fit = tt;
+      adds = sym (nothing_more spec);
+      whole = device_ok spec a.0 a.1;
+      no_buffers = λ _. (refl, refl);
+      no_rings = λ _. refl;
+      no_entities = λ _. refl;
+      limit = λ some. never _ some b.1;
+      kept = λ _. refl;
+    })
 
 one_line : (spec : DeviceSpec) (last : Section) (bytes : List ℕ) (words : Line) (n : ℕ) (next : List ℕ) (rest : List (List ℕ)) (read : DeviceSpec × Section) (x : DeviceSpec × Left)
     → bytes ≡ join_with_byte 32 words → Describes spec last words read.0 read.1
@@ -428,11 +474,12 @@ pub header_takes : (left : Left) (x : DeviceSpec × Left) → header_at left ≡
     → (lines : List Line) × SpellsHeader lines x.0 × ((left.bytes ∷ left.more) ≡ as_bytes lines ++ x.1.bytes ∷ x.1.more)
 header_takes left x e =
     let h = lines_take no_device section.Buffers left.line left.bytes left.more x e in
-    let lines = header_lines section.Buffers h.lines h.rings h.entities h.max_jobs in
-    (lines,
+    let lines = header_lines section.Buffers h.lines h.rings h.entities h.max_jobs in (
+      lines,
       subst (λ (d : DeviceSpec). SpellsHeader lines d) (sym h.adds)
-        (h.lines, h.each, refl, h.rings_fit, h.entities_fit, h.limit refl, subst (λ (d : DeviceSpec). spec_fault d ≡ None) h.adds h.whole),
-      h.words)
+          (h.lines, h.each, refl, h.rings_fit, h.entities_fit, h.limit refl, subst (λ (d : DeviceSpec). spec_fault d ≡ None) h.adds h.whole),
+      h.words,
+    )
 
 -- ---- what is written
 
@@ -446,7 +493,7 @@ header_in spec last left = header_of spec last left.line left.bytes left.more
 
 one_read : (spec : DeviceSpec) (last : Section) (n : ℕ) (bytes : List ℕ) (more : List (List ℕ)) → 0 < length more
     → header_in spec last (left_in n (bytes ∷ more))
-      ≡ (header_line spec last n bytes >>= λ read. cond (is_open read.1) (checked_device read.0 >>= λ _. Ok (read.0, left_in (n + 1) more)) (header_in read.0 read.1 (left_in (n + 1) more)))
+    ≡ (header_line spec last n bytes >>= λ read. cond (is_open read.1) (checked_device read.0 >>= λ _. Ok (read.0, left_in (n + 1) more)) (header_in read.0 read.1 (left_in (n + 1) more)))
 unfolding header_of
 one_read spec last n bytes [] some = absurd (omega arith)
 one_read spec last n bytes (next ∷ rest) some = refl
@@ -477,11 +524,12 @@ some_more (words ∷ lines) more some = omega arith
 end_again : (spec : DeviceSpec) (n : ℕ) (more : List (List ℕ)) → 0 < length more → spec_fault spec ≡ None → Gives spec section.Limit n (as_bytes ((codes "go" ∷ []) ∷ []) ++ more) spec more
 end_again spec n more some fits =
     let bytes = join_with_byte 32 (codes "go" ∷ []) in
-    let read : header_line spec section.Limit n bytes ≡ Ok (spec, section.Open) = line_again spec section.Limit n line.Go [] section.Open spec tt refl (λ words is. rw (no_word.again words tt is tt) refl) in
-    (n + 1,
+    let read : header_line spec section.Limit n bytes ≡ Ok (spec, section.Open) = line_again spec section.Limit n line.Go [] section.Open spec tt refl (λ words is. rw (no_word.again words tt is tt) refl) in (
+      n + 1,
       one_read spec section.Limit n bytes more some
-      ∙ ap (λ (r : Result (DeviceSpec × Section) Fault). r >>= λ read. cond (is_open read.1) (checked_device read.0 >>= λ _. Ok (read.0, left_in (n + 1) more)) (header_in read.0 read.1 (left_in (n + 1) more))) read
-      ∙ ap (λ (r : Result (Unit {0}) Fault). r >>= λ _. Ok (spec, left_in (n + 1) more)) (device_fits spec fits))
+          ∙ ap (λ (r : Result (DeviceSpec × Section) Fault). r >>= λ read. cond (is_open read.1) (checked_device read.0 >>= λ _. Ok (read.0, left_in (n + 1) more)) (header_in read.0 read.1 (left_in (n + 1) more))) read
+          ∙ ap (λ (r : Result (Unit {0}) Fault). r >>= λ _. Ok (spec, left_in (n + 1) more)) (device_fits spec fits),
+    )
 
 after : (last : Section) (keyword : Keyword) (now : Section) → section_of keyword ≡ Some now → follows last now ≡ true → section_after last keyword ≡ Some now
 after last keyword now is allowed = rw (is, allowed) refl
@@ -492,12 +540,13 @@ opening_again spec last n max_jobs more allowed some small fits =
     let next : DeviceSpec = record spec { max_jobs = max_jobs } in
     let same : with_parts spec [] [] [] max_jobs ≡ next = nothing_more next in
     let read : header_line spec last n (join_with_byte 32 (codes "jobs" ∷ decimal max_jobs ∷ [])) ≡ Ok (next, section.Limit) =
-        line_again spec last n line.Jobs (decimal max_jobs ∷ []) section.Limit next (decimal_graphic max_jobs (omega arith), tt) (after last line.Jobs section.Limit refl allowed)
-            (λ words is. rw ((last_numbers_read (2 ^ 32 - 1) (omega arith)).again words max_jobs is small) refl) in
-    let rest = end_again next (n + 1) more some (subst (λ (d : DeviceSpec). spec_fault d ≡ None) same fits) in
-    (rest.0,
+    line_again spec last n line.Jobs (decimal max_jobs ∷ []) section.Limit next (decimal_graphic max_jobs (omega arith), tt) (after last line.Jobs section.Limit refl allowed)
+    (λ words is. rw ((last_numbers_read (2 ^ 32 - 1) (omega arith)).again words max_jobs is small) refl) in
+    let rest = end_again next (n + 1) more some (subst (λ (d : DeviceSpec). spec_fault d ≡ None) same fits) in (
+      rest.0,
       next_line spec last n (join_with_byte 32 (codes "jobs" ∷ decimal max_jobs ∷ [])) (as_bytes ((codes "go" ∷ []) ∷ []) ++ more) next section.Limit (omega arith) read refl
-      ∙ rest.1 ∙ ap (λ (d : DeviceSpec). Ok (d, left_in rest.0 more)) (sym same))
+          ∙ rest.1 ∙ ap (λ (d : DeviceSpec). Ok (d, left_in rest.0 more)) (sym same),
+    )
 
 entities_again : (es : List EntitySpec) (spec : DeviceSpec) (last : Section) (n max_jobs : ℕ) (more : List (List ℕ)) → follows last section.Entities ≡ true → follows last section.Limit ≡ true → 0 < length more
     → AllByRecursion (λ entity. IsNumber entity.ring) es → IsNumber max_jobs → spec_fault (with_parts spec [] [] es max_jobs) ≡ None
@@ -508,12 +557,13 @@ entities_again (e ∷ es) spec last n max_jobs more allowed then some fit small 
     let lines = map entity_words es ++ opening max_jobs in
     let same : with_parts next [] [] es max_jobs ≡ with_parts spec [] [] (e ∷ es) max_jobs = rw (append_assoc spec.entities (e ∷ []) es) refl in
     let read : header_line spec last n (join_with_byte 32 (entity_words e)) ≡ Ok (next, section.Entities) =
-        line_again spec last n line.Entity (entity_fields e) section.Entities next (decimal_graphic e.ring (let s : e.ring ≤ 2 ^ 32 - 1 = fit.0 in omega arith), ((priority_is_word e.priority).1, tt)) (after last line.Entity section.Entities refl allowed)
-            (λ words is. rw (entities_read.again words e is fit.0) refl) in
-    let rest = entities_again es next section.Entities (n + 1) max_jobs more refl refl some fit.1 small (subst (λ (d : DeviceSpec). spec_fault d ≡ None) (sym same) fits) in
-    (rest.0,
+    line_again spec last n line.Entity (entity_fields e) section.Entities next (decimal_graphic e.ring (let s : e.ring ≤ 2 ^ 32 - 1 = fit.0 in omega arith), ((priority_is_word e.priority).1, tt)) (after last line.Entity section.Entities refl allowed)
+    (λ words is. rw (entities_read.again words e is fit.0) refl) in
+    let rest = entities_again es next section.Entities (n + 1) max_jobs more refl refl some fit.1 small (subst (λ (d : DeviceSpec). spec_fault d ≡ None) (sym same) fits) in (
+      rest.0,
       next_line spec last n (join_with_byte 32 (entity_words e)) (as_bytes lines ++ more) next section.Entities (some_more lines more some) read refl
-      ∙ rest.1 ∙ ap (λ (d : DeviceSpec). Ok (d, left_in rest.0 more)) same)
+          ∙ rest.1 ∙ ap (λ (d : DeviceSpec). Ok (d, left_in rest.0 more)) same,
+    )
 
 rings_again : (rs : List RingSpec) (es : List EntitySpec) (spec : DeviceSpec) (last : Section) (n max_jobs : ℕ) (more : List (List ℕ)) → follows last section.Rings ≡ true → follows last section.Entities ≡ true
     → follows last section.Limit ≡ true → 0 < length more → AllByRecursion RingFits rs → AllByRecursion (λ entity. IsNumber entity.ring) es → IsNumber max_jobs → spec_fault (with_parts spec [] rs es max_jobs) ≡ None
@@ -523,26 +573,28 @@ rings_again (r ∷ rs) es spec last n max_jobs more allowed then too some rfit f
     let next : DeviceSpec = record spec { rings = spec.rings ++ r ∷ [] } in
     let lines = map ring_words rs ++ map entity_words es ++ opening max_jobs in
     let same : with_parts next [] rs es max_jobs ≡ with_parts spec [] (r ∷ rs) es max_jobs = rw (append_assoc spec.rings (r ∷ []) rs) refl in
-    let graphic : AreWords (ring_fields r) =
-        (decimal_graphic r.credit_limit (let s : r.credit_limit ≤ 65535 = rfit.0.0 in omega arith),
-          (decimal_graphic r.timeout (let s : r.timeout ≤ 2 ^ 32 - 1 = rfit.0.1 in omega arith), (decimal_graphic r.hang_limit (let s : r.hang_limit ≤ 2 ^ 32 - 1 = rfit.0.2 in omega arith), tt))) in
+    let graphic : AreWords (ring_fields r) = (
+      decimal_graphic r.credit_limit (let s : r.credit_limit ≤ 65535 = rfit.0.0 in omega arith),
+      (decimal_graphic r.timeout (let s : r.timeout ≤ 2 ^ 32 - 1 = rfit.0.1 in omega arith), (decimal_graphic r.hang_limit (let s : r.hang_limit ≤ 2 ^ 32 - 1 = rfit.0.2 in omega arith), tt)),
+    ) in
     let read : header_line spec last n (join_with_byte 32 (ring_words r)) ≡ Ok (next, section.Rings) =
-        line_again spec last n line.Ring (ring_fields r) section.Rings next graphic (after last line.Ring section.Rings refl allowed) (λ words is. rw (rings_read.again words r is rfit.0) refl) in
-    let rest = rings_again rs es next section.Rings (n + 1) max_jobs more refl refl refl some rfit.1 fit small (subst (λ (d : DeviceSpec). spec_fault d ≡ None) (sym same) fits) in
-    (rest.0,
+    line_again spec last n line.Ring (ring_fields r) section.Rings next graphic (after last line.Ring section.Rings refl allowed) (λ words is. rw (rings_read.again words r is rfit.0) refl) in
+    let rest = rings_again rs es next section.Rings (n + 1) max_jobs more refl refl refl some rfit.1 fit small (subst (λ (d : DeviceSpec). spec_fault d ≡ None) (sym same) fits) in (
+      rest.0,
       next_line spec last n (join_with_byte 32 (ring_words r)) (as_bytes lines ++ more) next section.Rings (some_more lines more some) read refl
-      ∙ rest.1 ∙ ap (λ (d : DeviceSpec). Ok (d, left_in rest.0 more)) same)
+          ∙ rest.1 ∙ ap (λ (d : DeviceSpec). Ok (d, left_in rest.0 more)) same,
+    )
 
 buffer_again : (spec : DeviceSpec) (n : ℕ) (words : Line) (buffer : List ℕ) → SpellsBuffer words buffer
     → header_line spec section.Buffers n (join_with_byte 32 words) ≡ Ok (record spec { buffers = spec.buffers ++ buffer ∷ [] }, section.Buffers)
 buffer_again spec n words buffer (inl spells) =
     ap (λ (w : Line). header_line spec section.Buffers n (join_with_byte 32 w)) spells.0
     ∙ line_again spec section.Buffers n line.Buffer (text_of_bytes buffer ∷ []) section.Buffers (record spec { buffers = spec.buffers ++ buffer ∷ [] }) (bytes_graphic buffer spells.1.1, tt) refl
-        (λ w is. rw (last_bytes_read.again w buffer is spells.1) refl)
+    (λ w is. rw (last_bytes_read.again w buffer is spells.1) refl)
 buffer_again spec n words buffer (inr spells) =
     ap (λ (w : Line). header_line spec section.Buffers n (join_with_byte 32 w)) spells.1
     ∙ line_again spec section.Buffers n line.Zero (decimal spells.0 ∷ []) section.Buffers (record spec { buffers = spec.buffers ++ buffer ∷ [] }) (decimal_graphic spells.0 (let s : spells.0 ≤ 65535 = spells.2 in omega arith), tt) refl
-        (λ w is. rw ((last_numbers_read 65535 (omega arith)).again w spells.0 is spells.2) (ap (λ (b : List ℕ). Ok (record spec { buffers = spec.buffers ++ b ∷ [] })) (sym spells.3)))
+    (λ w is. rw ((last_numbers_read 65535 (omega arith)).again w spells.0 is spells.2) (ap (λ (b : List ℕ). Ok (record spec { buffers = spec.buffers ++ b ∷ [] })) (sym spells.3)))
 
 buffers_again : (lines : List Line) (bs : List (List ℕ)) (rs : List RingSpec) (es : List EntitySpec) (spec : DeviceSpec) (n max_jobs : ℕ) (more : List (List ℕ)) → Each SpellsBuffer lines bs → 0 < length more
     → AllByRecursion RingFits rs → AllByRecursion (λ entity. IsNumber entity.ring) es → IsNumber max_jobs → spec_fault (with_parts spec bs rs es max_jobs) ≡ None
@@ -554,10 +606,11 @@ buffers_again (words ∷ lines) (b ∷ bs) rs es spec n max_jobs more each some 
     let next : DeviceSpec = record spec { buffers = spec.buffers ++ b ∷ [] } in
     let others = lines ++ map ring_words rs ++ map entity_words es ++ opening max_jobs in
     let same : with_parts next bs rs es max_jobs ≡ with_parts spec (b ∷ bs) rs es max_jobs = rw (append_assoc spec.buffers (b ∷ []) bs) refl in
-    let rest = buffers_again lines bs rs es next (n + 1) max_jobs more each.1 some rfit fit small (subst (λ (d : DeviceSpec). spec_fault d ≡ None) (sym same) fits) in
-    (rest.0,
+    let rest = buffers_again lines bs rs es next (n + 1) max_jobs more each.1 some rfit fit small (subst (λ (d : DeviceSpec). spec_fault d ≡ None) (sym same) fits) in (
+      rest.0,
       next_line spec section.Buffers n (join_with_byte 32 words) (as_bytes others ++ more) next section.Buffers (some_more others more some) (buffer_again spec n words b each.0) refl
-      ∙ rest.1 ∙ ap (λ (d : DeviceSpec). Ok (d, left_in rest.0 more)) same)
+          ∙ rest.1 ∙ ap (λ (d : DeviceSpec). Ok (d, left_in rest.0 more)) same,
+    )
 
 -- a header is read as its device, and the lines behind it are left
 pub header_again : (n : ℕ) (lines : List Line) (spec : DeviceSpec) (more : List (List ℕ)) → SpellsHeader lines spec → 0 < length more

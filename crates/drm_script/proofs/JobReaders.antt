@@ -1,6 +1,5 @@
 -- Jobs are read as they are written, and as nothing else.
-use Rattle.std.proofs.Common.{◌≡◌, ℕ, ◌+◌, ◌-◌, ◌^◌, ◌<◌, ◌≤◌, ◌==◌, Bool, true, false, not, ◌||◌, cond, List, [], ◌∷◌, ◌++◌, append_assoc, length, map, Some, None, Option, Result, Ok, Err, refl, sym, ap, subst, ◌∙◌, arith, inl, inr, ◌⊎◌}
-use Rattle.std.specs.Prelude.{codes}
+use Rattle.std.proofs.Common.{◌≡◌, ℕ, ◌+◌, ◌-◌, ◌^◌, ◌==◌, Bool, true, false, not, ◌||◌, cond, List, [], ◌∷◌, ◌++◌, append_assoc, length, map, Some, None, Option, Result, Ok, Err, refl, sym, ap, subst, ◌∙◌, arith, inl, inr}
 use Rattle.std.specs.List.{AllByRecursion, list_any}
 use Rattle.std.specs.Fmt.{decimal}
 use Rattle.std.proofs.lemmas.Bool.{and_parts, eqb-true}
@@ -11,7 +10,6 @@ use Rattle.drm_packet.specs.declared.Packet.TheVariants.{Fill, Copy, Add, Stall}
 use Rattle.drm_types.specs.Firsts.{is_nil}
 use Rattle.drm_types.specs.declared.access.Access.{Access}
 use Rattle.drm_types.specs.declared.access.Access.TheVariants as access
-use Rattle.drm_text.specs.Cut.{Words}
 use Rattle.drm_text.specs.declared.fault.Fault.{Fault}
 use Rattle.drm_text.specs.declared.fault.Position.{Position}
 use Rattle.drm_text.specs.declared.fault.TextFault.TheVariants as what
@@ -60,12 +58,12 @@ kind_by_takes (byte ∷ rest) k e =
     elim (choose (byte == 114) (Some (kind.Declared access.Read)) _ (Some k) e) [
       | inl is ↦ subst (λ (x : Kind). IsOfKind x (byte ∷ rest)) (some_is (kind.Declared access.Read) k is.1) (first_byte byte 114 rest is.0)
       | inr e1 ↦ elim (choose (byte == 119) (Some (kind.Declared access.Write)) _ (Some k) e1) [
-          | inl is ↦ subst (λ (x : Kind). IsOfKind x (byte ∷ rest)) (some_is (kind.Declared access.Write) k is.1) (first_byte byte 119 rest is.0)
-          | inr e2 ↦ elim (choose (byte == 97) (Some kind.After) None (Some k) e2) [
-              | inl is ↦ subst (λ (x : Kind). IsOfKind x (byte ∷ rest)) (some_is kind.After k is.1) (first_byte byte 97 rest is.0)
-              | inr e3 ↦ absurd (cc)
-            ]
+        | inl is ↦ subst (λ (x : Kind). IsOfKind x (byte ∷ rest)) (some_is (kind.Declared access.Write) k is.1) (first_byte byte 119 rest is.0)
+        | inr e2 ↦ elim (choose (byte == 97) (Some kind.After) None (Some k) e2) [
+          | inl is ↦ subst (λ (x : Kind). IsOfKind x (byte ∷ rest)) (some_is kind.After k is.1) (first_byte byte 97 rest is.0)
+          | inr e3 ↦ absurd (cc)
         ]
+      ]
     ]
 
 kind_takes : (word : List ℕ) (k : Kind) → kind_of word ≡ Some k → IsOfKind k word
@@ -201,35 +199,41 @@ one_more draft next word rest d (declares x is small makes no_after no_packets) 
 one_more draft next word rest d (waits fence is small makes no_packets) items =
     let begun : is_nil next.after ≡ false = ap (λ (y : Draft). is_nil y.after) makes ∙ more_is_some draft.after fence in
     let none = items.before_after begun in record {
-  declared = [];
-  after = fence ∷ items.after;
-  packets = items.packets;
-  words = rw is (ap (λ (r : List (List ℕ)). fence_word fence ∷ r) (items.words ∙ ap (λ (ds : List (ℕ × Access)). item_words ds items.after items.packets) none));
-  fit = (tt, (small, items.fit.1), items.fit.2);
-  adds = items.adds ∙ ap (λ (ds : List (ℕ × Access)). with_items next ds items.after items.packets) none
-      ∙ ap (λ (y : Draft). with_items y [] items.after items.packets) makes ∙ rw (append_assoc draft.after (fence ∷ []) items.after) refl;
-  before_after = λ some. refl;
-  before_packets = λ some. is_some (is_nil draft.packets) no_packets some;
-}
+      declared = [];
+      after = fence ∷ items.after;
+      packets = items.packets;
+      words = rw is (ap (λ (r : List (List ℕ)). fence_word fence ∷ r) (items.words ∙ ap (λ (ds : List (ℕ × Access)). item_words ds items.after items.packets) none));
+      fit = (tt, (small, items.fit.1), items.fit.2);
+      adds = items.adds ∙ ap (λ (ds : List (ℕ × Access)). with_items next ds items.after items.packets) none
+          ∙ ap (λ (y : Draft). with_items y [] items.after items.packets) makes ∙ rw (append_assoc draft.after (fence ∷ []) items.after) refl;
+      before_after = λ some. refl;
+      before_packets = λ some. is_some (is_nil draft.packets) no_packets some;
+    }
 one_more draft next word rest d (works packet is fits makes) items =
     let begun : is_nil next.packets ≡ false = ap (λ (y : Draft). is_nil y.packets) makes ∙ more_is_some draft.packets packet in
     let none = items.before_packets begun in record {
-  declared = [];
-  after = [];
-  packets = packet ∷ items.packets;
-  words = rw is (ap (λ (r : List (List ℕ)). packet_word packet ∷ r) (items.words ∙ ap (λ (ds : List (ℕ × Access)). item_words ds items.after items.packets) none.0
-      ∙ ap (λ (fs : List ℕ). item_words [] fs items.packets) none.1));
-  fit = (tt, tt, (fits, items.fit.2));
-  adds = items.adds ∙ ap (λ (ds : List (ℕ × Access)). with_items next ds items.after items.packets) none.0 ∙ ap (λ (fs : List ℕ). with_items next [] fs items.packets) none.1
-      ∙ ap (λ (y : Draft). with_items y [] [] items.packets) makes ∙ rw (append_assoc draft.packets (packet ∷ []) items.packets) refl;
-  before_after = λ some. refl;
-  before_packets = λ some. (refl, refl);
-}
+      declared = [];
+      after = [];
+      packets = packet ∷ items.packets;
+      words = rw is (ap (λ (r : List (List ℕ)). packet_word packet ∷ r) (items.words ∙ ap (λ (ds : List (ℕ × Access)). item_words ds items.after items.packets) none.0
+          ∙ ap (λ (fs : List ℕ). item_words [] fs items.packets) none.1));
+      fit = (tt, tt, (fits, items.fit.2));
+      adds = items.adds ∙ ap (λ (ds : List (ℕ × Access)). with_items next ds items.after items.packets) none.0 ∙ ap (λ (fs : List ℕ). with_items next [] fs items.packets) none.1
+          ∙ ap (λ (y : Draft). with_items y [] [] items.packets) makes ∙ rw (append_assoc draft.packets (packet ∷ []) items.packets) refl;
+      before_after = λ some. refl;
+      before_packets = λ some. (refl, refl);
+    }
 
 words_take : (draft : Draft) (line at : ℕ) (parts : List (List ℕ)) (d : Draft) → with_words draft line at parts ≡ Ok d → Items draft parts d
 words_take draft line at [] d e = record {
-  declared = []; after = []; packets = []; words = refl; fit = (tt, tt, tt);
-  adds = sym (with_items-none draft ∙ ok_is draft d e); before_after = λ some. refl; before_packets = λ some. (refl, refl);
+  declared = [];
+  after = [];
+  packets = [];
+  words = refl;
+  fit = (tt, tt, tt);
+  adds = sym (with_items-none draft ∙ ok_is draft d e);
+  before_after = λ some. refl;
+  before_packets = λ some. (refl, refl);
 }
 words_take draft line at (word ∷ rest) d e =
     let spot : Position = record { line = line; column = at + 1 } in
@@ -241,7 +245,7 @@ packets_again [] draft line at fit = ap (λ (d : Draft). Ok d) (sym (with_items-
 packets_again (p ∷ ps) draft line at fit =
     let next : Draft = record draft { packets = draft.packets ++ p ∷ [] } in
     rw (works_again draft (record { line = line; column = at + 1 }) p fit.0)
-        (packets_again ps next line (at + length (packet_word p) + 1) fit.1 ∙ rw (append_assoc draft.packets (p ∷ []) ps) refl)
+    (packets_again ps next line (at + length (packet_word p) + 1) fit.1 ∙ rw (append_assoc draft.packets (p ∷ []) ps) refl)
 
 fences_again : (fs : List ℕ) (ps : List Packet) (draft : Draft) (line at : ℕ) → is_nil draft.packets ≡ true → AllByRecursion IsNumber fs → AllByRecursion PacketFits ps
     → with_words draft line at (item_words [] fs ps) ≡ Ok (with_items draft [] fs ps)
@@ -249,7 +253,7 @@ fences_again [] ps draft line at no_packets fit fits = packets_again ps draft li
 fences_again (f ∷ fs) ps draft line at no_packets fit fits =
     let next : Draft = record draft { after = draft.after ++ f ∷ [] } in
     rw (waits_again draft (record { line = line; column = at + 1 }) f fit.0 no_packets)
-        (fences_again fs ps next line (at + length (fence_word f) + 1) no_packets fit.1 fits ∙ rw (append_assoc draft.after (f ∷ []) fs) refl)
+    (fences_again fs ps next line (at + length (fence_word f) + 1) no_packets fit.1 fits ∙ rw (append_assoc draft.after (f ∷ []) fs) refl)
 
 items_again : (ds : List (ℕ × Access)) (fs : List ℕ) (ps : List Packet) (draft : Draft) (line at : ℕ) → is_nil draft.after ≡ true → is_nil draft.packets ≡ true → ItemsFit ds fs ps
     → with_words draft line at (item_words ds fs ps) ≡ Ok (with_items draft ds fs ps)
@@ -257,7 +261,7 @@ items_again [] fs ps draft line at no_after no_packets fit = fences_again fs ps 
 items_again (d ∷ ds) fs ps draft line at no_after no_packets fit =
     let next : Draft = record draft { declared = draft.declared ++ d ∷ [] } in
     rw (declares_again draft (record { line = line; column = at + 1 }) d fit.0.0 no_after no_packets)
-        (items_again ds fs ps next line (at + length (declaration_word d) + 1) no_after no_packets (fit.0.1, fit.1, fit.2) ∙ rw (append_assoc draft.declared (d ∷ []) ds) refl)
+    (items_again ds fs ps next line (at + length (declaration_word d) + 1) no_after no_packets (fit.0.1, fit.1, fit.2) ∙ rw (append_assoc draft.declared (d ∷ []) ds) refl)
 
 abbrev no_items : ℕ → ℕ → Draft
 no_items entity credits = record { entity = entity; credits = credits; declared = []; after = []; packets = [] }
@@ -267,15 +271,15 @@ pub jobs_read : ReadsLine job_at job_words JobFits
 unfolding job_at
 jobs_read = record {
   takes = λ words x e.
-    let a = bind_ok (number_at (2 ^ 32 - 1) words) (λ entity. number_at 65535 entity.1 >>= λ credits. with_words (no_items entity.0 credits.0) credits.1.line credits.1.rest.at credits.1.rest.parts) x e in
-    let b = bind_ok (number_at 65535 a.0.1) (λ credits. with_words (no_items a.0.0 credits.0) credits.1.line credits.1.rest.at credits.1.rest.parts) x a.2 in
-    let p = (numbers_read (2 ^ 32 - 1) (omega arith)).takes words a.0 a.1 in
-    let q = (numbers_read 65535 (omega arith)).takes a.0.1 b.0 b.1 in
-    let items = words_take (no_items a.0.0 b.0.0) b.0.1.line b.0.1.rest.at b.0.1.rest.parts x b.2 in
-    subst (λ (y : Draft). (words.rest.parts ≡ job_words y) × JobFits y) (sym items.adds)
-        (p.0 ∙ ap (λ (r : List (List ℕ)). decimal a.0.0 ∷ r) (q.0 ∙ ap (λ (r : List (List ℕ)). decimal b.0.0 ∷ r) items.words), (p.1, q.1, items.fit));
+      let a = bind_ok (number_at (2 ^ 32 - 1) words) (λ entity. number_at 65535 entity.1 >>= λ credits. with_words (no_items entity.0 credits.0) credits.1.line credits.1.rest.at credits.1.rest.parts) x e in
+      let b = bind_ok (number_at 65535 a.0.1) (λ credits. with_words (no_items a.0.0 credits.0) credits.1.line credits.1.rest.at credits.1.rest.parts) x a.2 in
+      let p = (numbers_read (2 ^ 32 - 1) (omega arith)).takes words a.0 a.1 in
+      let q = (numbers_read 65535 (omega arith)).takes a.0.1 b.0 b.1 in
+      let items = words_take (no_items a.0.0 b.0.0) b.0.1.line b.0.1.rest.at b.0.1.rest.parts x b.2 in
+      subst (λ (y : Draft). (words.rest.parts ≡ job_words y) × JobFits y) (sym items.adds)
+      (p.0 ∙ ap (λ (r : List (List ℕ)). decimal a.0.0 ∷ r) (q.0 ∙ ap (λ (r : List (List ℕ)). decimal b.0.0 ∷ r) items.words), (p.1, q.1, items.fit));
   again = λ words x is fits.
-    let a = (numbers_read (2 ^ 32 - 1) (omega arith)).again words x.entity (decimal x.credits ∷ item_words x.declared x.after x.packets) is fits.0 in
-    let b = (numbers_read 65535 (omega arith)).again a.0 x.credits (item_words x.declared x.after x.packets) a.2 fits.1 in
-    rw (a.1, b.1, b.2) (items_again x.declared x.after x.packets (no_items x.entity x.credits) b.0.line b.0.rest.at refl refl fits.2);
+      let a = (numbers_read (2 ^ 32 - 1) (omega arith)).again words x.entity (decimal x.credits ∷ item_words x.declared x.after x.packets) is fits.0 in
+      let b = (numbers_read 65535 (omega arith)).again a.0 x.credits (item_words x.declared x.after x.packets) a.2 fits.1 in
+      rw (a.1, b.1, b.2) (items_again x.declared x.after x.packets (no_items x.entity x.credits) b.0.line b.0.rest.at refl refl fits.2);
 }

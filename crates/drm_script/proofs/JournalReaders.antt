@@ -1,5 +1,5 @@
 -- Journals are read as they are spelled, and as nothing else.
-use Rattle.std.proofs.Common.{◌≡◌, ℕ, zero, suc, ◌+◌, ◌-◌, ◌^◌, ◌<◌, ◌≤◌, ◌==◌, Bool, true, false, not, cond, ltb, List, [], ◌∷◌, ◌++◌, append_assoc, length, map, take, Some, None, Option, Result, Ok, Err, refl, sym, ap, subst, ◌∙◌, arith, inl, inr, ◌⊎◌, eq-eqb}
+use Rattle.std.proofs.Common.{◌≡◌, ℕ, suc, ◌+◌, ◌-◌, ◌^◌, ◌<◌, ◌≤◌, ◌==◌, Bool, true, false, not, cond, List, [], ◌∷◌, ◌++◌, append_assoc, length, map, take, Some, None, Option, Result, Ok, Err, refl, sym, ap, subst, ◌∙◌, arith, inl, inr, eq-eqb}
 use Rattle.std.specs.Prelude.{codes, nat_lt, IfOk, IsTrue, ◌&&◌, slice_get, option_map}
 use Rattle.std.specs.Str.{bytes_eq}
 use Rattle.std.specs.List.{AllByRecursion, join_with_byte}
@@ -32,7 +32,7 @@ use Rattle.drm_text.proofs.Spelled.{passes, is_graphic, decimal_graphic, bytes_g
 use Rattle.drm_text.proofs.WordReaders.{bind_ok, ok_is, or_fault_ok, test_ok, ReadsLine, any_word, no_word, numbers_read, bytes_read}
 use Rattle.drm_script.specs.declared.journal.JournalJob.{JournalJob}
 use Rattle.drm_script.specs.declared.journal.Reading.{Reading}
-use Rattle.drm_script.specs.Grammar.{IsNumber, Line, job_words, JobFits, SpellsHeader}
+use Rattle.drm_script.specs.Grammar.{Line, job_words}
 use Rattle.drm_script.specs.Header.{header_at}
 use Rattle.drm_script.specs.Job.{job_at}
 use Rattle.drm_script.specs.Journal.{JournalParts, IsJournal, AreRecords, IsRead, status_of, is_record, record_or, record_at, final_at, size_of, with_job, with_final, with_end, with_body, journal_line, body_of, nothing_read, journal_of, judge_journal}
@@ -51,15 +51,15 @@ status_takes word o e =
     elim (choose (bytes_eq word (codes "0")) (Some None) _ (Some o) e) [
       | inl is ↦ same_name word (codes "0") is.0 ∙ ap status_word (some_is None o is.1)
       | inr e1 ↦ elim (choose (bytes_eq word (codes "1")) (Some (Some outcome.Good)) _ (Some o) e1) [
-          | inl is ↦ same_name word (codes "1") is.0 ∙ ap status_word (some_is (Some outcome.Good) o is.1)
-          | inr e2 ↦ elim (choose (bytes_eq word (codes "-125")) (Some (Some outcome.Cancelled)) _ (Some o) e2) [
-              | inl is ↦ same_name word (codes "-125") is.0 ∙ ap status_word (some_is (Some outcome.Cancelled) o is.1)
-              | inr e3 ↦ elim (choose (bytes_eq word (codes "-3")) (Some (Some outcome.Stopped)) None (Some o) e3) [
-                  | inl is ↦ same_name word (codes "-3") is.0 ∙ ap status_word (some_is (Some outcome.Stopped) o is.1)
-                  | inr e4 ↦ absurd (cc)
-                ]
-            ]
+        | inl is ↦ same_name word (codes "1") is.0 ∙ ap status_word (some_is (Some outcome.Good) o is.1)
+        | inr e2 ↦ elim (choose (bytes_eq word (codes "-125")) (Some (Some outcome.Cancelled)) _ (Some o) e2) [
+          | inl is ↦ same_name word (codes "-125") is.0 ∙ ap status_word (some_is (Some outcome.Cancelled) o is.1)
+          | inr e3 ↦ elim (choose (bytes_eq word (codes "-3")) (Some (Some outcome.Stopped)) None (Some o) e3) [
+            | inl is ↦ same_name word (codes "-3") is.0 ∙ ap status_word (some_is (Some outcome.Stopped) o is.1)
+            | inr e4 ↦ absurd (cc)
+          ]
         ]
+      ]
     ]
 
 status_again : (o : Option Outcome) → status_of (status_word o) ≡ Some o
@@ -87,23 +87,23 @@ records_read : (spec : DeviceSpec) (number : ℕ) → ReadsLine (record_at spec 
 unfolding record_at record_or
 records_read spec number = record {
   takes = λ words x e.
-    let bad = Text words.line 1 what.BadJob in
-    let a = bind_ok (number_at (2 ^ 32 - 1) words) (λ ran. word_at ran.1 >>= λ word. or_fault (status_of word.0) (fault_here ran.1 what.Word) >>= λ o. job_at word.1 >>= λ draft. record_or spec number (the_record draft ran.0 o) bad) x e in
-    let b = bind_ok (word_at a.0.1) (λ word. or_fault (status_of word.0) (fault_here a.0.1 what.Word) >>= λ o. job_at word.1 >>= λ draft. record_or spec number (the_record draft a.0.0 o) bad) x a.2 in
-    let c = bind_ok (or_fault (status_of b.0.0) (fault_here a.0.1 what.Word)) (λ o. job_at b.0.1 >>= λ draft. record_or spec number (the_record draft a.0.0 o) bad) x b.2 in
-    let d = bind_ok (job_at b.0.1) (λ draft. record_or spec number (the_record draft a.0.0 c.0) bad) x c.2 in
-    let made = the_record d.0 a.0.0 c.0 in
-    let t = test_ok (is_record spec number made) made x bad d.2 in
-    let p = (numbers_read (2 ^ 32 - 1) (omega arith)).takes words a.0 a.1 in
-    let q = any_word.takes a.0.1 b.0 b.1 in
-    let r = status_takes b.0.0 c.0 (or_fault_ok (status_of b.0.0) (fault_here a.0.1 what.Word) c.0 c.1) in
-    let s = jobs_read.takes b.0.1 d.0 d.1 in
-    subst (λ (y : JournalJob). (words.rest.parts ≡ record_fields y) × (RecordFits y × IsTrue (is_record spec number y))) t.1
-        (same_fields _ _ _ _ _ _ _ p.0 q.0 r s.0, ((p.1, s.1), t.0));
+      let bad = Text words.line 1 what.BadJob in
+      let a = bind_ok (number_at (2 ^ 32 - 1) words) (λ ran. word_at ran.1 >>= λ word. or_fault (status_of word.0) (fault_here ran.1 what.Word) >>= λ o. job_at word.1 >>= λ draft. record_or spec number (the_record draft ran.0 o) bad) x e in
+      let b = bind_ok (word_at a.0.1) (λ word. or_fault (status_of word.0) (fault_here a.0.1 what.Word) >>= λ o. job_at word.1 >>= λ draft. record_or spec number (the_record draft a.0.0 o) bad) x a.2 in
+      let c = bind_ok (or_fault (status_of b.0.0) (fault_here a.0.1 what.Word)) (λ o. job_at b.0.1 >>= λ draft. record_or spec number (the_record draft a.0.0 o) bad) x b.2 in
+      let d = bind_ok (job_at b.0.1) (λ draft. record_or spec number (the_record draft a.0.0 c.0) bad) x c.2 in
+      let made = the_record d.0 a.0.0 c.0 in
+      let t = test_ok (is_record spec number made) made x bad d.2 in
+      let p = (numbers_read (2 ^ 32 - 1) (omega arith)).takes words a.0 a.1 in
+      let q = any_word.takes a.0.1 b.0 b.1 in
+      let r = status_takes b.0.0 c.0 (or_fault_ok (status_of b.0.0) (fault_here a.0.1 what.Word) c.0 c.1) in
+      let s = jobs_read.takes b.0.1 d.0 d.1 in
+      subst (λ (y : JournalJob). (words.rest.parts ≡ record_fields y) × (RecordFits y × IsTrue (is_record spec number y))) t.1
+      (same_fields _ _ _ _ _ _ _ p.0 q.0 r s.0, ((p.1, s.1), t.0));
   again = λ words x is fits.
-    let a = (numbers_read (2 ^ 32 - 1) (omega arith)).again words x.ran (status_word x.outcome ∷ job_words x.job) is fits.0.0 in
-    let b = any_word.again a.0 (status_word x.outcome) (job_words x.job) a.2 (status_is_word x.outcome).0 in
-    rw (a.1, b.1, status_again x.outcome, jobs_read.again b.0 x.job b.2 fits.0.1, fits.1) refl;
+      let a = (numbers_read (2 ^ 32 - 1) (omega arith)).again words x.ran (status_word x.outcome ∷ job_words x.job) is fits.0.0 in
+      let b = any_word.again a.0 (status_word x.outcome) (job_words x.job) a.2 (status_is_word x.outcome).0 in
+      rw (a.1, b.1, status_again x.outcome, jobs_read.again b.0 x.job b.2 fits.0.1, fits.1) refl;
 }
 
 test_then : {A : Type 0} (b : Bool) (r : Result A Fault) (fault : Fault) (y : A) → cond b r (Err fault) ≡ Ok y → (b ≡ true) × (r ≡ Ok y)
@@ -114,17 +114,17 @@ finals_read : (size : ℕ) → ReadsLine (final_at size) (λ bytes. text_of_byte
 unfolding final_at
 finals_read size = record {
   takes = λ words x e.
-    let bad = fault_here words what.Number in
-    let a = bind_ok (bytes_at words) (λ bytes. cond (length bytes.0 == size) (end_at bytes.1 >>= λ _. Ok bytes.0) (Err bad)) x e in
-    let t = test_then (length a.0.0 == size) (end_at a.0.1 >>= λ _. Ok a.0.0) bad x a.2 in
-    let b = bind_ok (end_at a.0.1) (λ _. Ok a.0.0) x t.1 in
-    let p = bytes_read.takes words a.0 a.1 in
-    let q = (no_word.takes a.0.1 b.0 b.1).0 in
-    subst (λ (y : List ℕ). (words.rest.parts ≡ text_of_bytes y ∷ []) × (AreBytes y × (length y ≡ size))) (ok_is a.0.0 x b.2)
-        (p.0 ∙ ap (λ (r : List (List ℕ)). text_of_bytes a.0.0 ∷ r) q, (p.1, eqb-true _ _ t.0));
+      let bad = fault_here words what.Number in
+      let a = bind_ok (bytes_at words) (λ bytes. cond (length bytes.0 == size) (end_at bytes.1 >>= λ _. Ok bytes.0) (Err bad)) x e in
+      let t = test_then (length a.0.0 == size) (end_at a.0.1 >>= λ _. Ok a.0.0) bad x a.2 in
+      let b = bind_ok (end_at a.0.1) (λ _. Ok a.0.0) x t.1 in
+      let p = bytes_read.takes words a.0 a.1 in
+      let q = (no_word.takes a.0.1 b.0 b.1).0 in
+      subst (λ (y : List ℕ). (words.rest.parts ≡ text_of_bytes y ∷ []) × (AreBytes y × (length y ≡ size))) (ok_is a.0.0 x b.2)
+      (p.0 ∙ ap (λ (r : List (List ℕ)). text_of_bytes a.0.0 ∷ r) q, (p.1, eqb-true _ _ t.0));
   again = λ words x is fits.
-    let a = bytes_read.again words x [] is fits.0 in
-    rw (a.1, eq-eqb (length x) size fits.1, no_word.again a.0 tt a.2 tt) refl;
+      let a = bytes_read.again words x [] is fits.0 in
+      rw (a.1, eq-eqb (length x) size fits.1, no_word.again a.0 tt a.2 tt) refl;
 }
 
 -- ---- one line
@@ -216,36 +216,48 @@ not_over false no_way = refl
 job_more : (spec : DeviceSpec) (reading : Reading) (bytes : List ℕ) (rest : List (List ℕ)) (out : Reading) (armed : JournalJob) → bytes ≡ join_with_byte 32 (record_words armed) → RecordFits armed
     → is_nil reading.finals ≡ true → reading.is_over ≡ false → Body spec (record reading { jobs = reading.jobs ++ armed ∷ [] }) rest out → Body spec reading (bytes ∷ rest) out
 job_more spec reading bytes rest out armed is fits first going b = record {
-  jobs = armed ∷ b.jobs; finals = b.finals;
+  jobs = armed ∷ b.jobs;
+  finals = b.finals;
   words = same_cons _ _ _ _ is (b.words ∙ ap (λ (o : Bool). cut_lines (lines_left o b.jobs b.finals)) going) ∙ ap (λ (o : Bool). cut_lines (lines_left o (armed ∷ b.jobs) b.finals)) (sym going);
-  jobs_fit = (fits, b.jobs_fit); finals_fit = b.finals_fit;
+  jobs_fit = (fits, b.jobs_fit);
+  finals_fit = b.finals_fit;
   adds = b.adds ∙ ap (λ (js : List JournalJob). let r : Reading = record { jobs = js; finals = reading.finals ++ b.finals; is_over = true } in r) (append_assoc reading.jobs (armed ∷ []) b.jobs);
-  no_jobs = λ some. never _ first some; over = λ ended. never _ ended going; read = b.read;
+  no_jobs = λ some. never _ first some;
+  over = λ ended. never _ ended going;
+  read = b.read;
 }
 
 final_more : (spec : DeviceSpec) (reading : Reading) (bytes : List ℕ) (rest : List (List ℕ)) (out : Reading) (final : List ℕ) → bytes ≡ join_with_byte 32 (final_words final) → AreBytes final
     → reading.is_over ≡ false → Body spec (record reading { finals = reading.finals ++ final ∷ [] }) rest out → Body spec reading (bytes ∷ rest) out
 final_more spec reading bytes rest out final is fits going b =
     let none = b.no_jobs (more_is_some reading.finals final) in record {
-  jobs = []; finals = final ∷ b.finals;
-  words = same_cons _ _ _ _ is (b.words ∙ ap (λ (o : Bool). cut_lines (lines_left o b.jobs b.finals)) going ∙ ap (λ (js : List JournalJob). cut_lines (body_lines js b.finals)) none)
-      ∙ ap (λ (o : Bool). cut_lines (lines_left o [] (final ∷ b.finals))) (sym going);
-  jobs_fit = tt; finals_fit = (fits, b.finals_fit);
-  adds = b.adds ∙ ap (λ (js : List JournalJob). with_more (record reading { finals = reading.finals ++ final ∷ [] }) js b.finals) none
-      ∙ ap (λ (fs : List (List ℕ)). let r : Reading = record { jobs = reading.jobs ++ []; finals = fs; is_over = true } in r) (append_assoc reading.finals (final ∷ []) b.finals);
-  no_jobs = λ _. refl; over = λ ended. never _ ended going; read = b.read;
-}
+      jobs = [];
+      finals = final ∷ b.finals;
+      words = same_cons _ _ _ _ is (b.words ∙ ap (λ (o : Bool). cut_lines (lines_left o b.jobs b.finals)) going ∙ ap (λ (js : List JournalJob). cut_lines (body_lines js b.finals)) none)
+          ∙ ap (λ (o : Bool). cut_lines (lines_left o [] (final ∷ b.finals))) (sym going);
+      jobs_fit = tt;
+      finals_fit = (fits, b.finals_fit);
+      adds = b.adds ∙ ap (λ (js : List JournalJob). with_more (record reading { finals = reading.finals ++ final ∷ [] }) js b.finals) none
+          ∙ ap (λ (fs : List (List ℕ)). let r : Reading = record { jobs = reading.jobs ++ []; finals = fs; is_over = true } in r) (append_assoc reading.finals (final ∷ []) b.finals);
+      no_jobs = λ _. refl;
+      over = λ ended. never _ ended going;
+      read = b.read;
+    }
 
 end_more : (spec : DeviceSpec) (reading : Reading) (bytes : List ℕ) (rest : List (List ℕ)) (out : Reading) → bytes ≡ join_with_byte 32 end_words → reading.is_over ≡ false
     → Body spec (record reading { is_over = true }) rest out → Body spec reading (bytes ∷ rest) out
 end_more spec reading bytes rest out is going b =
     let none = b.over refl in record {
-  jobs = []; finals = [];
-  words = same_cons _ _ _ _ is b.words ∙ ap (λ (o : Bool). cut_lines (lines_left o [] [])) (sym going);
-  jobs_fit = tt; finals_fit = tt;
-  adds = b.adds ∙ ap (λ (js : List JournalJob). with_more (record reading { is_over = true }) js b.finals) none.0 ∙ ap (λ (fs : List (List ℕ)). with_more (record reading { is_over = true }) [] fs) none.1;
-  no_jobs = λ _. refl; over = λ _. (refl, refl); read = b.read;
-}
+      jobs = [];
+      finals = [];
+      words = same_cons _ _ _ _ is b.words ∙ ap (λ (o : Bool). cut_lines (lines_left o [] [])) (sym going);
+      jobs_fit = tt;
+      finals_fit = tt;
+      adds = b.adds ∙ ap (λ (js : List JournalJob). with_more (record reading { is_over = true }) js b.finals) none.0 ∙ ap (λ (fs : List (List ℕ)). with_more (record reading { is_over = true }) [] fs) none.1;
+      no_jobs = λ _. refl;
+      over = λ _. (refl, refl);
+      read = b.read;
+    }
 
 one_line : (spec : DeviceSpec) (reading : Reading) (bytes : List ℕ) (rest : List (List ℕ)) (out : Reading) (words : Line) (next : Reading) → IsRead spec reading → bytes ≡ join_with_byte 32 words
     → Tells spec reading words next → (IsRead spec next → Body spec next rest out) → Body spec reading (bytes ∷ rest) out
@@ -270,12 +282,16 @@ unfolding body_of
 lines_take spec reading n bytes [] out read e =
     let a = bind_ok (last_line n bytes) (λ _. cond reading.is_over (Ok reading) (Err (out_of_order n))) out e in
     let t = test_ok reading.is_over reading out (out_of_order n) a.2 in record {
-  jobs = []; finals = [];
-  words = ap (λ (b : List ℕ). b ∷ []) (last_takes n bytes a.0 a.1) ∙ ap (λ (o : Bool). cut_lines (lines_left o [] [])) (sym t.0);
-  jobs_fit = tt; finals_fit = tt;
-  adds = sym t.1 ∙ nothing_more reading t.0;
-  no_jobs = λ _. refl; over = λ _. (refl, refl); read = subst (λ (r : Reading). IsRead spec r) t.1 read;
-}
+      jobs = [];
+      finals = [];
+      words = ap (λ (b : List ℕ). b ∷ []) (last_takes n bytes a.0 a.1) ∙ ap (λ (o : Bool). cut_lines (lines_left o [] [])) (sym t.0);
+      jobs_fit = tt;
+      finals_fit = tt;
+      adds = sym t.1 ∙ nothing_more reading t.0;
+      no_jobs = λ _. refl;
+      over = λ _. (refl, refl);
+      read = subst (λ (r : Reading). IsRead spec r) t.1 read;
+    }
 lines_take spec reading n bytes (next ∷ rest) out read e =
     let a = bind_ok (journal_line spec reading n bytes) (λ r. body_of spec r (n + 1) next rest) out e in
     let l = line_takes spec reading n bytes a.0 a.1 in
@@ -311,8 +327,8 @@ end_again : (spec : DeviceSpec) (reading : Reading) (n : ℕ) → reading.is_ove
 end_again spec reading n going all =
     let next : Reading = record reading { is_over = true } in
     next_line spec reading n (join_with_byte 32 end_words) (cut_lines []) next (some_lines [])
-        (line_again spec reading n (line.Command command.End) [] next tt
-            (λ words is. rw (eq-eqb (length reading.finals) (length spec.buffers) all, going, no_word.again words tt is tt) refl))
+    (line_again spec reading n (line.Command command.End) [] next tt
+    (λ words is. rw (eq-eqb (length reading.finals) (length spec.buffers) all, going, no_word.again words tt is tt) refl))
     ∙ over_here spec next (n + 1) refl
 
 sizes_at : (buffers front : List (List ℕ)) (final : List ℕ) (rest : List (List ℕ)) → map length (front ++ final ∷ rest) ≡ map length buffers
@@ -337,8 +353,8 @@ finals_again (f ∷ fs) spec reading n fit going sizes =
     let next : Reading = record reading { finals = reading.finals ++ f ∷ [] } in
     let size : size_of spec (length reading.finals) ≡ Some (length f) = sizes_at spec.buffers reading.finals f fs sizes in
     next_line spec reading n (join_with_byte 32 (final_words f)) (cut_lines (body_lines [] fs)) next (some_lines (body_lines [] fs))
-        (line_again spec reading n line.Final (text_of_bytes f ∷ []) next (bytes_graphic f fit.0.1, tt)
-            (λ words is. rw (size, (finals_read (length f)).again words f is (fit.0, refl)) refl))
+    (line_again spec reading n line.Final (text_of_bytes f ∷ []) next (bytes_graphic f fit.0.1, tt)
+    (λ words is. rw (size, (finals_read (length f)).again words f is (fit.0, refl)) refl))
     ∙ finals_again fs spec next (n + 1) fit.1 going (ap (map length) (append_assoc reading.finals (f ∷ []) fs) ∙ sizes)
     ∙ ap (λ (all : List (List ℕ)). let r : Reading = record { jobs = reading.jobs ++ []; finals = all; is_over = true } in Ok r) (append_assoc reading.finals (f ∷ []) fs)
 
@@ -356,8 +372,8 @@ jobs_again (armed ∷ js) fs spec reading n fit fits first going are sizes =
     let counted : length reading.jobs + 1 ≡ length (reading.jobs ++ armed ∷ []) = omega (arith, length-append reading.jobs (armed ∷ [])) in
     let none : is_nil reading.finals ≡ true = ap is_nil first in
     next_line spec reading n (join_with_byte 32 (record_words armed)) (cut_lines (body_lines js fs)) next (some_lines (body_lines js fs))
-        (line_again spec reading n line.Job (record_fields armed) next (record_graphic armed fit.0)
-            (λ words is. rw (none, going, (records_read spec (length reading.jobs)).again words armed is (fit.0, are.0)) refl))
+    (line_again spec reading n line.Job (record_fields armed) next (record_graphic armed fit.0)
+    (λ words is. rw (none, going, (records_read spec (length reading.jobs)).again words armed is (fit.0, are.0)) refl))
     ∙ jobs_again js fs spec next (n + 1) fit.1 fits first going (subst (λ (k : ℕ). AreRecords spec k js) counted are.1) sizes
     ∙ ap (λ (all : List JournalJob). let r : Reading = record { jobs = all; finals = reading.finals ++ fs; is_over = true } in Ok r) (append_assoc reading.jobs (armed ∷ []) js)
 
@@ -405,12 +421,18 @@ journal_takes text journal e =
     let finals : body.finals ≡ b.0.finals = sym (ap (λ (r : Reading). r.finals) body.adds) in
     let rest = body_lines body.jobs body.finals in
     let is : text ≡ text_of_lines (h.0 ++ body_lines b.0.jobs b.0.finals) =
-        text_is text h.0 rest a.0.1 h.2 body.words
-        ∙ ap (λ (js : List JournalJob). text_of_lines (h.0 ++ body_lines js body.finals)) jobs
-        ∙ ap (λ (fs : List (List ℕ)). text_of_lines (h.0 ++ body_lines b.0.jobs fs)) finals in
-    subst (λ (j : JournalParts). SpellsJournal text j) (ok_is (the_journal a.0.0 b.0) journal b.2)
-        (h.0, h.1, is_journal a.0.0 b.0 h.1.6 body.read ended, subst (λ (js : List JournalJob). AllByRecursion RecordFits js) jobs body.jobs_fit,
-          subst (λ (fs : List (List ℕ)). AllByRecursion AreBytes fs) finals body.finals_fit, is, ltb-false _ _ short.0)
+    text_is text h.0 rest a.0.1 h.2 body.words
+    ∙ ap (λ (js : List JournalJob). text_of_lines (h.0 ++ body_lines js body.finals)) jobs
+    ∙ ap (λ (fs : List (List ℕ)). text_of_lines (h.0 ++ body_lines b.0.jobs fs)) finals in
+    subst (λ (j : JournalParts). SpellsJournal text j) (ok_is (the_journal a.0.0 b.0) journal b.2) (
+      h.0,
+      h.1,
+      is_journal a.0.0 b.0 h.1.6 body.read ended,
+      subst (λ (js : List JournalJob). AllByRecursion RecordFits js) jobs body.jobs_fit,
+      subst (λ (fs : List (List ℕ)). AllByRecursion AreBytes fs) finals body.finals_fit,
+      is,
+      ltb-false _ _ short.0,
+    )
 
 body_left : (spec : DeviceSpec) (n : ℕ) (parts : List (List ℕ)) → 0 < length parts
     → body_of spec nothing_read (left_in n parts).line (left_in n parts).bytes (left_in n parts).more ≡ body_in spec nothing_read n parts
@@ -425,11 +447,11 @@ journal_again text journal spells =
     let header = spells.0 in
     let rest = body_lines journal.jobs journal.finals in
     let lines : lines_of text ≡ left_in 1 (as_bytes header ++ cut_lines rest) =
-        lines_are text header rest (header_graphic header journal.spec spells.1) (body_graphic journal.jobs journal.finals spells.3 spells.4) spells.5 in
+    lines_are text header rest (header_graphic header journal.spec spells.1) (body_graphic journal.jobs journal.finals spells.3 spells.4) spells.5 in
     let short : nat_lt 1048576 (length text) ≡ false = le-ltb _ _ spells.6 in
     let h = header_again 1 header journal.spec (cut_lines rest) spells.1 (some_lines rest) in
     let body = body_left journal.spec h.0 (cut_lines rest) (some_lines rest)
-        ∙ jobs_again journal.jobs journal.finals journal.spec nothing_read h.0 spells.3 spells.4 refl refl spells.2.1 spells.2.2 in
+    ∙ jobs_again journal.jobs journal.finals journal.spec nothing_read h.0 spells.3 spells.4 refl refl spells.2.1 spells.2.2 in
     ap (λ (b : Bool). cond b (Err (Text 0 0 what.TooLong)) (journal_of (lines_of text))) short
     ∙ ap journal_of lines
     ∙ ap (λ (r : Result (DeviceSpec × Left) Fault). r >>= λ h. body_of h.0 nothing_read h.1.line h.1.bytes h.1.more >>= λ reading. Ok (the_journal h.0 reading)) h.1

@@ -1,7 +1,7 @@
 -- The text of a journal is the lines of the grammar.
-use Rattle.std.proofs.Common.{◌≡◌, ℕ, ◌+◌, ◌<◌, ◌≤◌, List, [], ◌∷◌, ◌++◌, append_assoc, length, map, Some, None, Option, refl, sym, ap, subst, ◌∙◌}
+use Rattle.std.proofs.Common.{◌≡◌, ℕ, ◌≤◌, List, [], ◌∷◌, ◌++◌, append_assoc, length, map, Some, None, Option, Ok, refl, sym, ap, ◌∙◌, inl}
 use Rattle.std.specs.Prelude.{codes, flat_map}
-use Rattle.std.specs.List.{join_with_byte}
+use Rattle.std.specs.List.{AllByRecursion, join_with_byte}
 use Rattle.std.specs.Fmt.{decimal}
 use Rattle.std.proofs.lemmas.Grind.{flat_map-append}
 use Rattle.std.proofs.lemmas.List.{append-nil}
@@ -17,15 +17,15 @@ use Rattle.drm_types.specs.declared.spec.EntitySpec.{EntitySpec}
 use Rattle.drm_types.specs.declared.spec.Priority.{Priority}
 use Rattle.drm_types.specs.declared.spec.Priority.TheVariants as priority
 use Rattle.drm_types.specs.declared.spec.RingSpec.{RingSpec}
-use Rattle.drm_text.specs.Grammar.{line_of_words, text_of_lines}
+use Rattle.drm_text.specs.Grammar.{AreBytes, line_of_words, text_of_lines}
 use Rattle.drm_text.specs.Hexadecimal.{text_of_byte, text_of_bytes}
 use Rattle.drm_script.specs.declared.journal.JournalJob.{JournalJob}
 use Rattle.drm_script.specs.Answers.{numbers, separated}
-use Rattle.drm_script.specs.Grammar.{Line, declaration_word, fence_word, packet_pieces, packet_word, item_words, job_words, ring_words, priority_word, entity_words, opening}
-use Rattle.drm_script.specs.Journal.{JournalParts}
-use Rattle.drm_script.specs.JournalGrammar.{status_word, record_words, final_words, end_words}
+use Rattle.drm_script.specs.Grammar.{Line, Each, SpellsBuffer, declaration_word, fence_word, packet_word, job_words, ring_words, priority_word, entity_words, opening}
+use Rattle.drm_script.specs.Journal.{JournalParts, judge_journal}
+use Rattle.drm_script.specs.JournalGrammar.{status_word, record_words, final_words, end_words, JournalFits, SpellsJournal}
 use Rattle.drm_script.specs.JournalText.{line_of_bytes, text_of_priority, line_of_ring, line_of_entity, text_of_header, word_of_declaration, word_of_fence, pieces, word_of_packet, words_of_job, text_of_status, line_of_job, text_of_journal}
-use Rattle.drm_script.proofs.JournalReaders.{body_lines}
+use Rattle.drm_script.proofs.JournalReaders.{body_lines, journal_again}
 
 -- words, each behind the separator
 abbrev behind : ℕ → List (List ℕ) → List ℕ
@@ -95,7 +95,7 @@ record_is armed =
     ∙ ap (λ (t : List ℕ). codes "job" ++ behind 32 (decimal armed.ran ∷ []) ++ t ++ words_of_job armed.job ++ 10 ∷ []) (status_is armed.outcome)
     ∙ ap (λ (t : List ℕ). codes "job" ++ behind 32 (decimal armed.ran ∷ []) ++ (32 ∷ status_word armed.outcome) ++ t ++ 10 ∷ []) (job_is armed.job)
     ∙ ap (λ (t : List ℕ). codes "job" ++ t ++ 10 ∷ [])
-        (append_assoc (behind 32 (decimal armed.ran ∷ [])) (32 ∷ status_word armed.outcome) (behind 32 (job_words armed.job)) ∙ sym (flat_map-append (λ (word : List ℕ). 32 ∷ word) (decimal armed.ran ∷ []) rest))
+    (append_assoc (behind 32 (decimal armed.ran ∷ [])) (32 ∷ status_word armed.outcome) (behind 32 (job_words armed.job)) ∙ sym (flat_map-append (λ (word : List ℕ). 32 ∷ word) (decimal armed.ran ∷ []) rest))
     ∙ ap (λ (t : List ℕ). t ++ 10 ∷ []) (sym (joined 32 (codes "job") (decimal armed.ran ∷ rest)))
 
 abbrev buffer_words : List ℕ → Line
@@ -118,3 +118,75 @@ entity_is entity =
     ∙ ap (λ (t : List ℕ). codes "entity" ++ behind 32 (decimal entity.ring ∷ []) ++ t ++ 10 ∷ []) (priority_is entity.priority)
     ∙ ap (λ (t : List ℕ). codes "entity" ++ t ++ 10 ∷ []) (append_assoc [] (behind 32 (decimal entity.ring ∷ [])) (32 ∷ priority_word entity.priority))
     ∙ ap (λ (t : List ℕ). codes "entity" ++ (t ++ 32 ∷ priority_word entity.priority) ++ 10 ∷ []) (append-nil (32 ∷ decimal entity.ring))
+
+-- ---- all lines
+
+each_line : {X : Type 0} (text : X → List ℕ) (words : X → Line) → ((x : X) → text x ≡ line_of_words (words x)) → (xs : List X) → flat_map text xs ≡ text_of_lines (map words xs)
+each_line text words same [] = refl
+each_line text words same (x ∷ xs) = ap (λ (t : List ℕ). t ++ flat_map text xs) (same x) ∙ ap (λ (r : List ℕ). line_of_words (words x) ++ r) (each_line text words same xs)
+
+lines-append : (front back : List Line) → text_of_lines (front ++ back) ≡ text_of_lines front ++ text_of_lines back
+lines-append front back = flat_map-append line_of_words front back
+
+abbrev device_lines : DeviceSpec → List Line
+device_lines spec = map buffer_words spec.buffers ++ map ring_words spec.rings ++ map entity_words spec.entities
+
+abbrev journal_header : DeviceSpec → List Line
+journal_header spec = device_lines spec ++ opening spec.max_jobs
+
+opening_is : (front : List ℕ) (max_jobs : ℕ) → front ++ codes "jobs" ++ numbers (max_jobs ∷ []) ++ codes "\ngo\n" ≡ front ++ text_of_lines (opening max_jobs)
+opening_is front max_jobs =
+    let words = codes "jobs" ++ 32 ∷ decimal max_jobs in
+    ap (λ (n : List ℕ). front ++ codes "jobs" ++ n ++ codes "\ngo\n") (append-nil (32 ∷ decimal max_jobs))
+    ∙ ap (λ (t : List ℕ). t ++ codes "\ngo\n") (append_assoc front (codes "jobs") (32 ∷ decimal max_jobs))
+    ∙ append_assoc front words (codes "\ngo\n")
+    ∙ ap (λ (t : List ℕ). front ++ t) (sym (append_assoc words (10 ∷ []) (codes "go\n")))
+
+header_is : (spec : DeviceSpec) → text_of_header spec ≡ text_of_lines (journal_header spec)
+unfolding text_of_header
+header_is spec =
+    let b = map buffer_words spec.buffers in
+    let r = map ring_words spec.rings in
+    let e = map entity_words spec.entities in
+    opening_is (flat_map (line_of_bytes (codes "buffer ")) spec.buffers ++ flat_map line_of_ring spec.rings ++ flat_map line_of_entity spec.entities) spec.max_jobs
+    ∙ ap (λ (t : List ℕ). t ++ flat_map line_of_ring spec.rings ++ flat_map line_of_entity spec.entities ++ text_of_lines (opening spec.max_jobs)) (each_line (line_of_bytes (codes "buffer ")) buffer_words (λ x. refl) spec.buffers)
+    ∙ ap (λ (t : List ℕ). text_of_lines b ++ t ++ flat_map line_of_entity spec.entities ++ text_of_lines (opening spec.max_jobs)) (each_line line_of_ring ring_words ring_is spec.rings)
+    ∙ ap (λ (t : List ℕ). text_of_lines b ++ text_of_lines r ++ t ++ text_of_lines (opening spec.max_jobs)) (each_line line_of_entity entity_words entity_is spec.entities)
+    ∙ ap (λ (t : List ℕ). t ++ text_of_lines e ++ text_of_lines (opening spec.max_jobs)) (sym (lines-append b r))
+    ∙ ap (λ (t : List ℕ). t ++ text_of_lines (opening spec.max_jobs)) (sym (lines-append (b ++ r) e))
+    ∙ sym (lines-append (b ++ r ++ e) (opening spec.max_jobs))
+
+-- what is written for a journal is its lines
+pub journal_is : (journal : JournalParts) → text_of_journal journal ≡ text_of_lines (journal_header journal.spec ++ body_lines journal.jobs journal.finals)
+unfolding text_of_journal
+journal_is journal =
+    let h = journal_header journal.spec in
+    let j = map record_words journal.jobs in
+    let f = map final_words journal.finals in
+    ap (λ (t : List ℕ). t ++ flat_map line_of_job journal.jobs ++ flat_map (line_of_bytes (codes "final ")) journal.finals ++ codes "end\n") (header_is journal.spec)
+    ∙ ap (λ (t : List ℕ). text_of_lines h ++ t ++ flat_map (line_of_bytes (codes "final ")) journal.finals ++ codes "end\n") (each_line line_of_job record_words record_is journal.jobs)
+    ∙ ap (λ (t : List ℕ). text_of_lines h ++ text_of_lines j ++ t ++ codes "end\n") (each_line (line_of_bytes (codes "final ")) final_words (λ x. refl) journal.finals)
+    ∙ ap (λ (t : List ℕ). t ++ text_of_lines f ++ codes "end\n") (sym (lines-append h j))
+    ∙ ap (λ (t : List ℕ). t ++ codes "end\n") (sym (lines-append (h ++ j) f))
+    ∙ sym (lines-append (h ++ j ++ f) (end_words ∷ []))
+    ∙ ap text_of_lines (append_assoc (h ++ j) f (end_words ∷ []) ∙ append_assoc h j (f ++ end_words ∷ []) ∙ ap (λ (r : List Line). h ++ r) (sym (append_assoc j f (end_words ∷ []))))
+
+each_buffer : (buffers : List (List ℕ)) → AllByRecursion AreBytes buffers → Each SpellsBuffer (map buffer_words buffers) buffers
+each_buffer [] are = tt
+each_buffer (b ∷ buffers) are = (inl (refl, are.0), each_buffer buffers are.1)
+
+-- what is written for a journal spells it, where its numbers are in their ranges
+pub written_spells : (text : List ℕ) (journal : JournalParts) → text ≡ text_of_journal journal → JournalFits journal → length text ≤ 1048576 → SpellsJournal text journal
+unfolding SpellsJournal
+written_spells text journal is fits short = (
+  journal_header journal.spec,
+  (map buffer_words journal.spec.buffers, each_buffer journal.spec.buffers fits.1.0, refl, fits.1.1, fits.1.2, fits.1.3, fits.0.0),
+  fits.0,
+  fits.2,
+  fits.3,
+  is ∙ journal_is journal,
+  short,
+)
+
+pub written_is_read : (text : List ℕ) (journal : JournalParts) → text ≡ text_of_journal journal → JournalFits journal → length text ≤ 1048576 → judge_journal text ≡ Ok journal
+written_is_read text journal is fits short = journal_again text journal (written_spells text journal is fits short)

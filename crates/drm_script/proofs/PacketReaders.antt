@@ -1,5 +1,5 @@
 -- Packets are read as they are written, and as nothing else.
-use Rattle.std.proofs.Common.{◌≡◌, ℕ, ◌+◌, ◌-◌, ◌^◌, ◌<◌, ◌≤◌, Bool, true, false, cond, List, [], ◌∷◌, ◌++◌, length, Some, None, Option, Result, Ok, Err, refl, sym, ap, subst, ◌∙◌, arith, inl, inr, ◌⊎◌}
+use Rattle.std.proofs.Common.{◌≡◌, ℕ, ◌-◌, ◌^◌, ◌≤◌, Bool, true, false, cond, List, [], ◌∷◌, Some, None, Option, Ok, Err, refl, sym, ap, subst, ◌∙◌, arith, inl, inr, ◌⊎◌}
 use Rattle.std.specs.Prelude.{codes}
 use Rattle.std.specs.Str.{bytes_eq}
 use Rattle.std.specs.List.{AllByRecursion, join_with_byte}
@@ -8,11 +8,10 @@ use Rattle.std.proofs.lemmas.List.Splits.{join_with_byte-slice_split}
 use Rattle.std.proofs.lemmas.Slice.Eq.{bytes_eq-Decides}
 use Rattle.drm_packet.specs.declared.Packet.{Packet}
 use Rattle.drm_packet.specs.declared.Packet.TheVariants.{Fill, Copy, Add, Stall}
-use Rattle.drm_text.specs.declared.fault.Fault.{Fault}
 use Rattle.drm_text.specs.declared.fault.Position.{Position}
 use Rattle.drm_text.specs.declared.fault.TextFault.TheVariants as what
 use Rattle.drm_text.specs.Cut.{parts_of}
-use Rattle.drm_text.specs.Hexadecimal.{byte_of, byte_from, hex_digit, text_of_byte}
+use Rattle.drm_text.specs.Hexadecimal.{byte_of}
 use Rattle.drm_text.specs.Number.{number_up_to}
 use Rattle.drm_text.specs.Reading.{◌>>=◌, ◌>>+◌, or_fault, fault_at}
 use Rattle.drm_text.proofs.BytesWritten.{byte_takes, byte_written}
@@ -88,7 +87,7 @@ fill_of_takes f packet e =
     let r = number_word c.0 f.2 c.1 in
     let s = byte_takes d.0 f.3 d.1 in
     subst (λ (x : Packet). Pieces (codes "fill") (f.0 ∷ f.1 ∷ f.2 ∷ f.3 ∷ []) x) (some_is (Fill a.0 b.0 c.0 d.0) packet d.2)
-        (ap (λ (words : List (List ℕ)). codes "fill" ∷ words) (same_four _ _ _ _ _ _ _ _ p.0 q.0 r.0 s.0), (p.1, q.1, r.1, s.1))
+    (ap (λ (words : List (List ℕ)). codes "fill" ∷ words) (same_four _ _ _ _ _ _ _ _ p.0 q.0 r.0 s.0), (p.1, q.1, r.1, s.1))
 
 abbrev RouteFits : Route → Type 0
 RouteFits route = IsNumber route.source × IsNumber route.source_offset × IsNumber route.target × IsNumber route.target_offset × IsNumber route.len
@@ -112,7 +111,7 @@ route_of_takes f route e =
     let t = number_word x.0 f.4 x.1 in
     let whole : Route = record { source = a.0; source_offset = b.0; target = c.0; target_offset = d.0; len = x.0 } in
     subst (λ (y : Route). ((f.0 ∷ f.1 ∷ f.2 ∷ f.3 ∷ f.4 ∷ []) ≡ route_pieces y) × RouteFits y) (some_is whole route x.2)
-        (same_five _ _ _ _ _ _ _ _ _ _ p.0 q.0 r.0 s.0 t.0, (p.1, q.1, r.1, s.1, t.1))
+    (same_five _ _ _ _ _ _ _ _ _ _ p.0 q.0 r.0 s.0 t.0, (p.1, q.1, r.1, s.1, t.1))
 
 fill_takes : (at : Position) (pieces : List (List ℕ)) (packet : Packet) → fill_at at pieces ≡ Ok packet → Pieces (codes "fill") pieces packet
 unfolding fill_at
@@ -166,15 +165,15 @@ named_takes at name pieces packet e =
     elim (choose (bytes_eq name (codes "fill")) (fill_at at pieces) _ (Ok packet) e) [
       | inl is ↦ rw (same_name name (codes "fill") is.0) (fill_takes at pieces packet is.1)
       | inr e1 ↦ elim (choose (bytes_eq name (codes "copy")) (copy_at at pieces) _ (Ok packet) e1) [
-          | inl is ↦ rw (same_name name (codes "copy") is.0) (copy_takes at pieces packet is.1)
-          | inr e2 ↦ elim (choose (bytes_eq name (codes "add")) (add_at at pieces) _ (Ok packet) e2) [
-              | inl is ↦ rw (same_name name (codes "add") is.0) (add_takes at pieces packet is.1)
-              | inr e3 ↦ elim (choose (bytes_eq name (codes "stall")) (stall_at at pieces) (Err (fault_at at what.Word)) (Ok packet) e3) [
-                  | inl is ↦ rw (same_name name (codes "stall") is.0) (stall_takes at pieces packet is.1)
-                  | inr e4 ↦ absurd (cc)
-                ]
-            ]
+        | inl is ↦ rw (same_name name (codes "copy") is.0) (copy_takes at pieces packet is.1)
+        | inr e2 ↦ elim (choose (bytes_eq name (codes "add")) (add_at at pieces) _ (Ok packet) e2) [
+          | inl is ↦ rw (same_name name (codes "add") is.0) (add_takes at pieces packet is.1)
+          | inr e3 ↦ elim (choose (bytes_eq name (codes "stall")) (stall_at at pieces) (Err (fault_at at what.Word)) (Ok packet) e3) [
+            | inl is ↦ rw (same_name name (codes "stall") is.0) (stall_takes at pieces packet is.1)
+            | inr e4 ↦ absurd (cc)
+          ]
         ]
+      ]
     ]
 
 from_takes : (at : Position) (parts : List (List ℕ)) (packet : Packet) → packet_from at parts ≡ Ok packet → (parts ≡ packet_pieces packet) × PacketFits packet

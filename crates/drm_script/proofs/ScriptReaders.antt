@@ -1,6 +1,6 @@
 -- Scripts are read as they are spelled, and as nothing else.
-use Rattle.std.proofs.Common.{◌≡◌, ℕ, ◌+◌, ◌-◌, ◌^◌, ◌<◌, ◌≤◌, Bool, true, false, cond, ltb, ◌==◌, List, [], ◌∷◌, ◌++◌, append_assoc, length, map, Some, None, Option, Result, Ok, Err, refl, sym, ap, subst, ◌∙◌, arith, inl, inr, ◌⊎◌}
-use Rattle.std.specs.Prelude.{codes, nat_lt, IfOk}
+use Rattle.std.proofs.Common.{◌≡◌, ℕ, ◌<◌, ◌≤◌, Bool, true, false, cond, ◌==◌, List, [], ◌∷◌, ◌++◌, length, map, Result, Ok, Err, refl, sym, ap, subst, ◌∙◌, arith, inl, inr}
+use Rattle.std.specs.Prelude.{nat_lt, IfOk}
 use Rattle.std.specs.List.{AllByRecursion, join_with_byte}
 use Rattle.std.specs.Fmt.{decimal}
 use Rattle.std.proofs.lemmas.Bool.{ltb-false, le-ltb}
@@ -15,10 +15,9 @@ use Rattle.drm_text.specs.declared.fault.Fault.{Fault}
 use Rattle.drm_text.specs.declared.fault.Fault.TheVariants.{Text}
 use Rattle.drm_text.specs.declared.fault.ReadError.{ReadError}
 use Rattle.drm_text.specs.declared.fault.TextFault.TheVariants as what
-use Rattle.drm_text.specs.declared.keywords.Keyword.TheVariants as line
 use Rattle.drm_text.specs.Lines.{left_of, lines_of}
 use Rattle.drm_text.specs.Reading.{◌>>=◌, Gives}
-use Rattle.drm_text.proofs.LineReaders.{AreWords, AreLines, cut_lines, lines_cut, lines_make_text, keyword_is_word}
+use Rattle.drm_text.proofs.LineReaders.{AreWords, AreLines, cut_lines, lines_cut, lines_make_text}
 use Rattle.drm_text.proofs.Spelled.{passes, is_graphic, decimal_graphic, bytes_graphic}
 use Rattle.drm_text.proofs.WordReaders.{bind_ok, ok_is}
 use Rattle.drm_script.specs.declared.script.Script.{Script}
@@ -56,7 +55,7 @@ pub text_is : (text : List ℕ) (header rest : List Line) (left : Left) → ((li
     → (left.bytes ∷ left.more) ≡ cut_lines rest → text ≡ text_of_lines (header ++ rest)
 text_is text header rest left first second =
     lines_make_text text (header ++ rest)
-        (sym (left_parts (parts_of 10 text) (some_parts text)) ∙ first ∙ ap (λ (r : List (List ℕ)). as_bytes header ++ r) second ∙ sym (cut_behind header rest))
+    (sym (left_parts (parts_of 10 text) (some_parts text)) ∙ first ∙ ap (λ (r : List (List ℕ)). as_bytes header ++ r) second ∙ sym (cut_behind header rest))
 
 -- what is left of a text of these lines, before the first one
 pub lines_are : (text : List ℕ) (header rest : List Line) → AreLines header → AreLines rest → text ≡ text_of_lines (header ++ rest) → lines_of text ≡ left_in 1 (as_bytes header ++ cut_lines rest)
@@ -89,11 +88,11 @@ entities_graphic (e ∷ es) fit = ((refl, (number_graphic e.ring fit.0, ((priori
 pub header_graphic : (lines : List Line) (spec : DeviceSpec) → SpellsHeader lines spec → AreLines lines
 header_graphic lines spec spells =
     subst AreLines (sym spells.2)
-        (lines-append (spells.0 ++ map ring_words spec.rings ++ map entity_words spec.entities) (opening spec.max_jobs)
-            (lines-append (spells.0 ++ map ring_words spec.rings) (map entity_words spec.entities)
-                (lines-append spells.0 (map ring_words spec.rings) (buffers_graphic spells.0 spec.buffers spells.1) (rings_graphic spec.rings spells.3))
-                (entities_graphic spec.entities spells.4))
-            ((refl, (number_graphic spec.max_jobs spells.5, tt)), ((refl, tt), tt)))
+    (lines-append (spells.0 ++ map ring_words spec.rings ++ map entity_words spec.entities) (opening spec.max_jobs)
+    (lines-append (spells.0 ++ map ring_words spec.rings) (map entity_words spec.entities)
+    (lines-append spells.0 (map ring_words spec.rings) (buffers_graphic spells.0 spec.buffers spells.1) (rings_graphic spec.rings spells.3))
+    (entities_graphic spec.entities spells.4))
+    ((refl, (number_graphic spec.max_jobs spells.5, tt)), ((refl, tt), tt)))
 
 commands_graphic : (spec : DeviceSpec) (events : List Event) → Commands spec events → AreLines (map command_words events)
 commands_graphic spec [] fit = tt
@@ -127,7 +126,7 @@ script_again text script spells =
     let header = spells.0 in
     let commands = map command_words script.lines in
     let lines : lines_of text ≡ left_in 1 (as_bytes header ++ cut_lines commands) =
-        lines_are text header commands (header_graphic header script.spec spells.1) (commands_graphic script.spec script.lines spells.2) spells.3 in
+    lines_are text header commands (header_graphic header script.spec spells.1) (commands_graphic script.spec script.lines spells.2) spells.3 in
     let short : nat_lt 1048576 (length text) ≡ false = le-ltb _ _ spells.4 in
     let h = header_again 1 header script.spec (cut_lines commands) spells.1 (some_lines commands) in
     let events = events_left script.spec h.0 (cut_lines commands) (some_lines commands) ∙ events_again script.spec [] h.0 script.lines spells.2 in

@@ -1,14 +1,15 @@
 -- The grammar of journals: the words of their lines, and the order of the lines.
-use Rattle.std.specs.Prelude.{◌≡◌, ◌≤◌, ℕ, List, [], ◌∷◌, ◌++◌, length, map, codes, Option, Some, None}
+use Rattle.std.specs.Prelude.{◌≡◌, ◌≤◌, ℕ, List, [], ◌∷◌, ◌++◌, length, map, codes, Option, Some, None, Ok}
 use Rattle.std.specs.List.{AllByRecursion}
 use Rattle.std.specs.Fmt.{decimal}
 use Rattle.drm_types.specs.declared.outcome.Outcome.{Outcome}
 use Rattle.drm_types.specs.declared.outcome.Outcome.TheVariants as outcome
+use Rattle.drm_types.specs.declared.spec.DeviceSpec.{DeviceSpec}
 use Rattle.drm_text.specs.Grammar.{AreBytes, text_of_lines}
 use Rattle.drm_text.specs.Hexadecimal.{text_of_bytes}
 use Rattle.drm_script.specs.declared.journal.JournalJob.{JournalJob}
-use Rattle.drm_script.specs.Grammar.{IsNumber, Line, job_words, JobFits, SpellsHeader}
-use Rattle.drm_script.specs.Journal.{JournalParts, IsJournal}
+use Rattle.drm_script.specs.Grammar.{IsNumber, Line, job_words, JobFits, RingFits, SpellsHeader}
+use Rattle.drm_script.specs.Journal.{JournalParts, IsJournal, judge_journal}
 
 -- the word of a status: of a job with this outcome, or with none
 abbrev pub status_word : Option Outcome → List ℕ
@@ -36,3 +37,22 @@ SpellsJournal text journal =
     × IsJournal journal × AllByRecursion RecordFits journal.jobs × AllByRecursion AreBytes journal.finals
     × (text ≡ text_of_lines (header ++ (map record_words journal.jobs ++ map final_words journal.finals ++ end_words ∷ [])))
     × (length text ≤ 1048576)
+
+-- the numbers and bytes of a device are in the ranges of texts
+abbrev pub DeviceFits : DeviceSpec → Type 0
+DeviceFits spec =
+    AllByRecursion AreBytes spec.buffers × AllByRecursion RingFits spec.rings × AllByRecursion (λ entity. IsNumber entity.ring) spec.entities
+    × IsNumber spec.max_jobs
+
+-- it is a journal, and its numbers and bytes are in the ranges of texts
+abbrev pub JournalFits : JournalParts → Type 0
+JournalFits journal =
+    IsJournal journal × DeviceFits journal.spec × AllByRecursion RecordFits journal.jobs × AllByRecursion AreBytes journal.finals
+
+-- a text that is no longer than texts are spells a journal whose numbers are in their ranges
+abbrev pub SpellsWhereItFits : List ℕ → JournalParts → Type 0
+SpellsWhereItFits text journal = JournalFits journal → length text ≤ 1048576 → SpellsJournal text journal
+
+-- and is read as it
+abbrev pub IsReadWhereItFits : List ℕ → JournalParts → Type 0
+IsReadWhereItFits text journal = JournalFits journal → length text ≤ 1048576 → judge_journal text ≡ Ok journal
