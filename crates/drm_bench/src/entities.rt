@@ -6,7 +6,7 @@ use drm_entity::Entities;
 use std::alloc::{AllocError, Global};
 
 /// Each job goes into the queue of its entity; then all queues are emptied in turn.
-pub fn entities(alloc: Global) -> Result<u64, AllocError> {
+pub(crate) fn entities(alloc: Global) -> Result<u64, AllocError> {
     let mut entities = Entities::new(alloc, &device(alloc, 1)?)?;
     let mut sum = 0u64;
     for job in 0..65_535u32 {

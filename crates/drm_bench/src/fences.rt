@@ -5,7 +5,7 @@ use drm_types::{DeviceSpec, EntitySpec, Outcome, Priority, RingSpec, Sequence};
 use std::alloc::{AllocError, Global};
 
 /// A device of 64 entities, with two rings of this credit limit.
-pub fn device(alloc: Global, credit_limit: u16) -> Result<DeviceSpec, AllocError>
+pub(crate) fn device(alloc: Global, credit_limit: u16) -> Result<DeviceSpec, AllocError>
     ensures { IfOk result (λ d. d.max_jobs ≡ 65535) }
 {
     let mut entities = Sequence::new(alloc);
@@ -32,7 +32,7 @@ pub fn device(alloc: Global, credit_limit: u16) -> Result<DeviceSpec, AllocError
 }
 
 /// Every fence is armed, scheduled, counts a packet, ends and is asked.
-pub fn timeline(alloc: Global) -> Result<u64, AllocError> {
+pub(crate) fn timeline(alloc: Global) -> Result<u64, AllocError> {
     let mut timeline = Timeline::new(alloc, 65_535)?;
     let mut sum = 0u64;
     for _ in 0..65_535u32 {
@@ -61,7 +61,7 @@ pub fn timeline(alloc: Global) -> Result<u64, AllocError> {
 }
 
 /// Each job watches three fences; one fence is scheduled, one ends, and an entity is forgotten now and then.
-pub fn waiters(alloc: Global) -> Result<u64, AllocError> {
+pub(crate) fn waiters(alloc: Global) -> Result<u64, AllocError> {
     let spec = device(alloc, 1)?;
     if spec.entities.len() > 64 {
         return Ok(0);

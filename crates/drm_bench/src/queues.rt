@@ -19,7 +19,7 @@ fn is_ready(counts: &[u32], entity: EntityId) -> bool {
 }
 
 /// Each job gives an entity a new key, asks for the first that is ready, and takes one out now and then.
-pub fn run_queue(alloc: Global) -> Result<u64, AllocError> {
+pub(crate) fn run_queue(alloc: Global) -> Result<u64, AllocError> {
     let mut queue = RunQueue::new(alloc, 64)?;
     let counts: Vec<u32> = vec![in alloc; 0; 48]?;
     let mut sum = 0u64;

@@ -12,7 +12,7 @@ fn usage_of(job: u32) -> Usage {
 }
 
 /// Each job uses one buffer, and ends 100 jobs later; now and then one asks whom to wait for.
-pub fn resv(alloc: Global) -> Result<u64, AllocError> {
+pub(crate) fn resv(alloc: Global) -> Result<u64, AllocError> {
     let mut timeline = Timeline::new(alloc, 65_535)?;
     let mut resv = Resv::new(alloc);
     let mut sum = 0u64;
@@ -41,7 +41,7 @@ pub fn resv(alloc: Global) -> Result<u64, AllocError> {
 }
 
 /// Each job notes sixteen fences of eight entities.
-pub fn deps() -> u64 {
+pub(crate) fn deps() -> u64 {
     let mut sum = 0u64;
     for job in 0..65_535u32 {
         let mut deps = Deps::new();

@@ -5,7 +5,7 @@ use drm_types::Priority;
 use std::alloc::{AllocError, Global};
 
 /// Each job goes to the end of a ring, runs its last packet, and leaves a thousand jobs later.
-pub fn rings(alloc: Global) -> Result<u64, AllocError> {
+pub(crate) fn rings(alloc: Global) -> Result<u64, AllocError> {
     let mut rings = Rings::new(alloc, &device(alloc, 65_535)?)?;
     let mut sum = 0u64;
     for job in 0..65_535u32 {
@@ -38,7 +38,7 @@ pub fn rings(alloc: Global) -> Result<u64, AllocError> {
 }
 
 /// Each job takes its credits where they fit, else an earlier one gives them back.
-pub fn credits() -> u64 {
+pub(crate) fn credits() -> u64 {
     let mut credits = Credits::of(1000);
     let mut sum = 0u64;
     for job in 0..65_535u32 {
@@ -54,7 +54,7 @@ pub fn credits() -> u64 {
 }
 
 /// Each job meets a hang.
-pub fn karma() -> u64 {
+pub(crate) fn karma() -> u64 {
     let mut karma = Karma::zero();
     let mut sum = 0u64;
     for job in 0..65_535u32 {

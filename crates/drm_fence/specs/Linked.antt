@@ -1,5 +1,5 @@
 -- The pairs of each fence, linked into one list that starts and ends at a place of the fence.
-use Rattle.std.specs.Prelude.{◌≡◌, ◌≢◌, ◌⊎◌, ℕ, ◌+◌, ◌<◌, List, length, Option, Some, slice_get, IsTrue}
+use Rattle.std.specs.Prelude.{◌≡◌, ◌⊎◌, ℕ, ◌+◌, ◌<◌, List, length, Option, Some, slice_get, IsTrue}
 use Rattle.std.specs.Option.{option_map_or}
 use Rattle.drm_fence.specs.declared.pair.Pair.{Pair}
 use Rattle.drm_fence.specs.declared.links.Links.{Links}

@@ -1,4 +1,4 @@
-use Rattle.std.proofs.Common.{◌≡◌, ◌≢◌, ℕ, ◌+◌, ◌*◌, ◌<◌, not, false, ◌==◌, List, Option, None, Some, inl, inr, set, length, slice_get, eq-eqb, sym, ap, subst, ◌∙◌, arith}
+use Rattle.std.proofs.Common.{◌≡◌, ◌+◌, ◌*◌, ◌<◌, not, ◌==◌, List, Option, None, Some, set, length, slice_get, eq-eqb, sym, ap, subst, ◌∙◌, arith}
 use Rattle.drm_fence.specs.declared.pair.Pair.{Pair}
 use Rattle.drm_fence.specs.Waiting.{without_entity}
 use Rattle.drm_fence.specs.Cells.{pairs_in}

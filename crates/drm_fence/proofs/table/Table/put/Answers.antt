@@ -1,4 +1,4 @@
-use Rattle.std.proofs.Common.{◌<◌, length, subst, arith}
+use Rattle.std.proofs.Common.{arith}
 use Rattle.drm_fence.proofs.Counted.{count_fits}
 use Rattle.drm_fence.proofs.Linking.{IsJoined, put_linked, neighbours_there}
 use Rattle.drm_fence.proofs.table.Table.put.Goals as goal

@@ -1,4 +1,4 @@
-use Rattle.std.proofs.Common.{◌≡◌, not, length, List, Option, sym, ap, ◌∙◌, arith}
+use Rattle.std.proofs.Common.{not, length, List, Option, sym, ap, ◌∙◌, arith}
 use Rattle.std.specs.Prelude.{filter}
 use Rattle.drm_fence.specs.declared.pair.Pair.{Pair}
 use Rattle.drm_fence.specs.Cells.{pairs_in, is_released}

@@ -1,5 +1,5 @@
-use Rattle.std.proofs.Common.{◌≡◌, length, ◌<◌, sym, subst, arith}
-use Rattle.drm_fence.specs.Linked.{before_of, behind_of}
+use Rattle.std.proofs.Common.{length, ◌<◌, sym, subst}
+use Rattle.drm_fence.specs.Linked.{behind_of}
 use Rattle.drm_fence.proofs.Counted.{at_least_one}
 use Rattle.drm_fence.proofs.Linking.{IsJoined, taken_linked, links_at, pair_in_places, neighbours_of_pair}
 use Rattle.drm_fence.proofs.table.Table.take_out.Goals as goal

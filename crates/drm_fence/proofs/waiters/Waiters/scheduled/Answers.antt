@@ -1,4 +1,4 @@
-use Rattle.std.proofs.Common.{◌≡◌, ◌≤◌, not, ◌==◌, ◌&&◌, length, List, sym, ap, subst, arith}
+use Rattle.std.proofs.Common.{◌≡◌, not, ◌==◌, ◌&&◌, List, sym, ap, subst}
 use Rattle.drm_fence.specs.declared.pair.Pair.{Pair}
 use Rattle.drm_fence.specs.Waiting.{Waiting, without_early}
 use Rattle.drm_fence.specs.Cells.{pairs_in}

@@ -1,4 +1,4 @@
-use Rattle.std.proofs.Common.{◌≡◌, ◌+◌, ◌*◌, ◌<◌, length, List, Option, ◌∷◌, None, Some, set, slice_get, sym, ap, subst, arith}
+use Rattle.std.proofs.Common.{◌≡◌, ◌+◌, ◌*◌, ◌<◌, length, List, Option, ◌∷◌, Some, set, sym, ap, subst, arith}
 use Rattle.drm_fence.specs.declared.pair.Pair.{Pair}
 use Rattle.drm_fence.specs.Waiting.{Waiting, HasNoPair}
 use Rattle.drm_fence.specs.Cells.{pairs_in}

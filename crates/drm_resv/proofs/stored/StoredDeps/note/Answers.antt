@@ -1,4 +1,4 @@
-use Rattle.std.proofs.Common.{◌≡◌, sym, ap, subst, ◌∙◌, arith}
+use Rattle.std.proofs.Common.{sym, ap, subst, ◌∙◌, arith}
 use Rattle.drm_resv.specs.Latest.{ListWithPlaces, noted, IsPerEntity}
 use Rattle.drm_resv.proofs.NotedIs.{noted_in_place, noted_new, before_all, per_entity_noted}
 use Rattle.drm_resv.proofs.stored.StoredDeps.note.Goals as goal
