@@ -11,3 +11,4 @@ pub mod Turning
 pub mod Finding
 pub mod Closing
 pub mod Releasing
+pub mod Crosses
