@@ -175,27 +175,29 @@ fn append_round<R: Wait>(
     acquire.end()
 }
 
-// A hundred rounds.
+// A hundred rounds, which lock two buffers in this order.
+#[tactic(auto, using(crate::proofs::Counting::both_below))]
 fn append_rounds<R: Wait>(
     board: &Board<Appending>,
     seat: AppendingSeat,
-    order: &[BufferId],
+    first: BufferId,
+    second: BufferId,
     rt: &R,
     alloc: Global,
 ) -> AppendingSeat
     requires seat { IsIdle board.now.table.shared.table_id seat }
-    requires order { All (λ b. b < board.now.buffers) order.now }
+    requires buffers { (first < board.now.buffers) × (second < board.now.buffers) }
     ensures { IsIdle board.now.table.shared.table_id result }
 {
     let mut seat = seat;
+    let order = [first, second];
     for _ in 0..100 {
-        seat = append_round(board, seat, order, rt, alloc);
+        seat = append_round(board, seat, &order, rt, alloc);
     }
     seat
 }
 
 // Two threads lock the first two buffers, in opposite orders.
-#[tactic(auto, using(crate::proofs::Crosses::seat_send, crate::proofs::Crosses::board_sync))]
 fn append_in_threads<R: Threads + Wait + Sync>(
     board: &Board<Appending>,
     seat: AppendingSeat,
@@ -206,18 +208,34 @@ fn append_in_threads<R: Threads + Wait + Sync>(
     ensures { IsOutside board.now.table.shared.table_id result }
 {
     let (one, other) = board.split(seat);
-    let up = [BufferId::new(0), BufferId::new(1)];
-    let down = [BufferId::new(1), BufferId::new(0)];
     let (one, other) = thread::join(
         rt,
         move ||
-            requires { IsIdle board.now.table.shared.table_id one × All (λ b. b < board.now.buffers) up }
+            requires { IsIdle board.now.table.shared.table_id one × (2 ≤ board.now.buffers) }
             ensures { IsIdle board.entry.now.table.shared.table_id result }
-        { append_rounds(board, one, &up, rt, alloc) },
+        {
+            append_rounds(
+                board,
+                one,
+                BufferId::new(0),
+                BufferId::new(1),
+                rt,
+                alloc,
+            )
+        },
         move ||
-            requires { IsIdle board.now.table.shared.table_id other × All (λ b. b < board.now.buffers) down }
+            requires { IsIdle board.now.table.shared.table_id other × (2 ≤ board.now.buffers) }
             ensures { IsIdle board.entry.now.table.shared.table_id result }
-        { append_rounds(board, other, &down, rt, alloc) },
+        {
+            append_rounds(
+                board,
+                other,
+                BufferId::new(1),
+                BufferId::new(0),
+                rt,
+                alloc,
+            )
+        },
     );
     board.join(one, other)
 }

@@ -12,16 +12,16 @@ use Rattle.ww_lock.specs.contracts.thread_tests.Appended as Appended
 use Rattle.ww_lock.specs.contracts.thread_tests.Appending as Appending
 use Rattle.ww_lock.specs.contracts.thread_tests.AppendingWard.TheImpl.{ghosts as ward}
 use Rattle.ww_lock.proofs.thread_tests.append_in_threads.Given.{Over}
-use Rattle.ww_lock.proofs.thread_tests.append_in_threads.Lts.{arg-2-1}
+use Rattle.ww_lock.proofs.thread_tests.append_in_threads.Lts.{arg-1-1}
+use Rattle.ww_lock.specs.contracts.thread_tests.append_in_threads.{R-row}
 use Rattle.ww_lock.proofs.Crosses.{list_send, seat_send, board_sync}
 use Rattle.ww_lock.proofs.Ready.{idle_left, idle_right}
-use Rattle.ww_lock.proofs.Counting.{both_below}
 use Rattle.ww_lock.proofs.thread_tests.append_in_threads.Goals as goal
 
 appended_send : IsSend Appended.the_row
 appended_send = search sendable depth 20
 
-crossing : (g : Over) → IsSync g.row.R → (κs : Lfts 2) → IsSend (param 1 (arg-2-1 g.row.R g.R.laws g.R.Threads-dict g.R.Wait-dict κs))
+crossing : (g : Over) → IsSync (R-row g.row.R) → (κs : Lfts 10) → IsSend (param 1 (arg-1-1 g.row.R g.R.laws g.R.Threads-dict g.R.Wait-dict κs))
 crossing g y κs = let h = handle.the_field_send in let L = Vec.the_row BufferId.the_row Global.the_row ghosts in
     let s = seat_send L Appended.the_row unit list_send appended_send in let b = board_sync L Appended.the_row unit list_send appended_send Appending.the_row ward in search sendable depth 20
 
@@ -33,6 +33,4 @@ join-one-requires-send-A g c κs within = let s = seat_send (Vec.the_row BufferI
 
 pub join-one-requires-after_bounds : goal.join-one-requires-after_bounds
 join-one-requires-after_bounds g c κs within = let z = c.args.board.now.table.shared.table_id in let i = c.requires.0 in let n = c.requires.1 in let e = c.split-one.ensures in
-    let zero = c.new.ensures in let one = c.new-2.ensures in let one' = c.new-3.ensures in let zero' = c.new-4.ensures in
-    ((idle_left z c.args.seat c.split-one.result.0 i e.seats.0 e.views.0, both_below c.args.board.now.buffers c.new.result c.new-2.result (omega arith) (omega arith)),
-      (idle_right z c.args.seat c.split-one.result.1 i e.seats.1 e.views.1, both_below c.args.board.now.buffers c.new-3.result c.new-4.result (omega arith) (omega arith)))
+    ((idle_left z c.args.seat c.split-one.result.0 i e.seats.0 e.views.0, n), (idle_right z c.args.seat c.split-one.result.1 i e.seats.1 e.views.1, n))
