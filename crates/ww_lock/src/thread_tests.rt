@@ -1,5 +1,5 @@
 //! Callers in threads.
-ghost use Rattle.std.specs.Prelude.{◌≡◌, ◌<◌, ◌≤◌, ◌+◌, ℕ, All, length, [], ◌∷◌, ◌++◌, vec_len, vec_capacity, Bool, IfSome};
+ghost use Rattle.std.specs.Prelude.{◌≡◌, ◌<◌, ◌≤◌, ◌+◌, ℕ, All, length, [], ◌∷◌, ◌++◌, vec_len, vec_capacity, Bool, IfOk, IfSome};
 ghost use Rattle.atomic_table.specs.Seated.{TableId};
 ghost use Rattle.ww_lock.specs.Acquiring.{Holds, IsSameAcquire, view};
 ghost use Rattle.ww_lock.specs.Begun.{IsOutside};
@@ -9,7 +9,7 @@ ghost use mathlib.Core.List.{IsPrefix};
 
 use crate::{Acquire, BeginError, Board, LockError, Seat, TaskChange, Ward};
 use drm_types::BufferId;
-use std::alloc::Global;
+use std::alloc::{AllocError, Global};
 use std::sync::Wait;
 use std::test::Fail;
 use std::thread;
@@ -256,5 +256,175 @@ fn two_threads_append_in_opposite_orders(rt: HostRuntime) -> Result<(), Fail> {
     assert!(rt; pivot.len() == 400);
     assert!(rt; matches!(&out[0], Some(it) if it.times == 200));
     assert!(rt; matches!(&out[1], Some(it) if it.times == 200));
+    Ok(())
+}
+
+/// Plain counters, beside a pivot that says nothing of them.
+struct Counters;
+
+impl Ward for Counters {
+    ghost use Rattle.ww_lock.specs.Sample.{still};
+
+    type Pivot = u64;
+
+    type Value = u64;
+
+    type Task = ();
+
+    ghost good = { λ _. Unit {0} };
+
+    ghost fits = { λ _ _ _. Unit {0} };
+
+    ghost grows = { λ _ _. Unit {0} };
+
+    ghost posted = { λ _ _. 0 };
+
+    ghost busy = { λ _ _. Unit {0} };
+
+    ghost reflexive = { λ _. tt };
+
+    ghost transitive = { λ _ _ _ _ _. tt };
+
+    ghost onward = { λ _ _ _ _. still 0 };
+}
+
+type Counting = Acquire<u64, u64, ()>;
+
+type CountingSeat = Seat<u64, u64, ()>;
+
+/// What one thread does: its rounds, in an order that the seed picks.
+#[derive(Drop)]
+struct Job {
+    seat: CountingSeat,
+    seed: u64,
+    rounds: u64,
+}
+
+// The buffers below `count`, in an order that the seed picks.
+fn order_of(alloc: Global, count: u32, seed: u64) -> Result<Vec<BufferId>, AllocError>
+    ensures { IfOk result (λ v. All (λ b. b < count) v.items) }
+{
+    let mut order = Vec::with_capacity(alloc, count as usize)?;
+    for number in 0..count {
+        order.push_reserved(BufferId::new(number));
+    }
+    let mut state = seed;
+    for last in 1..order.len() {
+        state = state
+            .wrapping_mul(6364136223846793005)
+            .wrapping_add(1442695040888963407);
+        order.swap((state >> 33) as usize % (last + 1), last);
+    }
+    Ok(order)
+}
+
+// Counts each value that is held.
+fn count_held(acquire: &mut Counting)
+    ensures { (z : TableId) → IsReady (λ _ _ _. Unit {0}) z acquire.old → IsReady (λ _ _ _. Unit {0}) z acquire.new }
+{
+    for i in 0..acquire.held().len() {
+        let (buffer, _) = acquire.held()[i];
+        let value = acquire.value(buffer);
+        *value = value.wrapping_add(1);
+    }
+}
+
+// Locks all in this order, counts each, and gives all back.
+fn count_round<R: Wait>(
+    board: &Board<Counters>,
+    seat: CountingSeat,
+    order: &[BufferId],
+    rt: &R,
+    alloc: Global,
+) -> CountingSeat
+    requires seat { IsIdle board.now.table.shared.table_id seat }
+    requires order { All (λ b. b < board.now.buffers) order.now }
+    ensures { IsIdle board.now.table.shared.table_id result }
+{
+    let mut acquire = match board.begin(seat, rt, alloc) {
+        Ok(acquire) => acquire,
+        Err(BeginError::Memory(seat)) => return seat,
+        Err(BeginError::TicketsOut(seat)) => return seat,
+    };
+    lock_all(board, &mut acquire, order, rt);
+    count_held(&mut acquire);
+    release_all(board, &mut acquire);
+    acquire.end()
+}
+
+// The rounds of one thread. It makes none where its order has no room.
+fn count_rounds<R: Wait>(board: &Board<Counters>, job: Job, rt: &R, alloc: Global)
+    requires { IsIdle board.now.table.shared.table_id job.seat }
+{
+    let Job { seat, seed, rounds } = job;
+    let Ok(order) = order_of(alloc, board.buffers, seed) else {
+        return;
+    };
+    let mut seat = seat;
+    for _ in 0..rounds {
+        seat = count_round(board, seat, &order, rt, alloc);
+    }
+}
+
+// Jobs for so many threads with so many rounds in all, and a seat that is left.
+fn jobs_of(
+    board: &Board<Counters>,
+    seat: CountingSeat,
+    threads: u64,
+    rounds: u64,
+    alloc: Global,
+) -> Result<(Vec<Job>, CountingSeat), AllocError>
+    requires { IsIdle board.now.table.shared.table_id seat }
+    ensures { IfOk result (λ t. All (λ j. IsIdle board.now.table.shared.table_id j.seat) t.0.items × IsIdle board.now.table.shared.table_id t.1) }
+{
+    let mut seat = seat;
+    let mut jobs = Vec::new(alloc);
+    let mut left = rounds;
+    for thread in 0..threads {
+        let (kept, given) = board.split(seat);
+        seat = kept;
+        let share = left / (threads - thread);
+        left -= share;
+        jobs.push(Job {
+            seat: given,
+            seed: thread,
+            rounds: share,
+        })?;
+    }
+    Ok((jobs, seat))
+}
+
+fn count_in_threads<R: Threads + Wait + Sync>(
+    board: &Board<Counters>,
+    jobs: Vec<Job>,
+    rt: &R,
+    alloc: Global,
+) -> bool
+    requires { All (λ j. IsIdle board.now.table.shared.table_id j.seat) jobs.items }
+{
+    thread::map_vec(rt, jobs, &|job: Job|
+        requires { IsIdle board.now.table.shared.table_id job.seat }
+    { count_rounds(board, job, rt, alloc) })
+    .is_ok()
+}
+
+#[test]
+fn no_round_of_many_threads_is_lost(rt: HostRuntime) -> Result<(), Fail> {
+    let alloc = rt.alloc();
+    let values = Vec::from_elem(alloc, 0u64, 16)?;
+    let (board, seat) = Board::<Counters>::new(alloc, 1, values, 0)?;
+    let threads = match thread::available_parallelism(&rt) {
+        Ok(cores) => 2 * (cores.get() as u64).min(1000),
+        Err(_) => 8,
+    };
+    let (jobs, seat) = jobs_of(&board, seat, threads, 20_000, alloc)?;
+    assert!(rt; count_in_threads(&board, jobs, &rt, alloc));
+    let mut out = Vec::with_capacity(alloc, 16)?;
+    assert!(rt; board.close(seat, &mut out).is_ok());
+    let mut sum = 0u64;
+    for value in out {
+        sum = sum.wrapping_add(value.unwrap_or(0));
+    }
+    assert!(rt; sum == 16 * 20_000);
     Ok(())
 }
