@@ -5,6 +5,7 @@ ghost use Rattle.ww_lock.specs.Acquiring.{Holds, IsSameAcquire, view};
 ghost use Rattle.ww_lock.specs.Begun.{IsOutside};
 ghost use Rattle.ww_lock.specs.Held.{HasAt, IsApart, IsSameKeys, Lacks};
 ghost use Rattle.ww_lock.specs.Threads.{Counts, IsIdle, IsReady, count_of};
+ghost use Rattle.std.specs.List.Sorted.{IsPermutation};
 ghost use mathlib.Core.List.{IsPrefix};
 
 use crate::{Acquire, BeginError, Board, LockError, Seat, TaskChange, Ward};
@@ -300,20 +301,26 @@ struct Job {
     rounds: u64,
 }
 
-// The buffers below `count`, in an order that the seed picks.
-fn order_of(alloc: Global, count: u32, seed: u64) -> Result<Vec<BufferId>, AllocError>
-    ensures { IfOk result (λ v. All (λ b. b < count) v.items) }
+// Puts the buffers into an order that the seed picks.
+fn shuffle(order: &mut [BufferId], seed: u64)
+    ensures { IsPermutation order.old order.new }
 {
-    let mut order = Vec::with_capacity(alloc, count as usize)?;
-    for number in 0..count {
-        order.push_reserved(BufferId::new(number));
-    }
     let mut state = seed;
     for last in 1..order.len() {
         state = state
             .wrapping_mul(6364136223846793005)
             .wrapping_add(1442695040888963407);
         order.swap((state >> 33) as usize % (last + 1), last);
+    }
+}
+
+// The buffers below `count`.
+fn order_of(alloc: Global, count: u32) -> Result<Vec<BufferId>, AllocError>
+    ensures { IfOk result (λ v. All (λ b. b < count) v.items) }
+{
+    let mut order = Vec::with_capacity(alloc, count as usize)?;
+    for number in 0..count {
+        order.push_reserved(BufferId::new(number));
     }
     Ok(order)
 }
@@ -357,9 +364,10 @@ fn count_rounds<R: Wait>(board: &Board<Counters>, job: Job, rt: &R, alloc: Globa
     requires { IsIdle board.now.table.shared.table_id job.seat }
 {
     let Job { seat, seed, rounds } = job;
-    let Ok(order) = order_of(alloc, board.buffers, seed) else {
+    let Ok(mut order) = order_of(alloc, board.buffers) else {
         return;
     };
+    shuffle(order.as_mut_slice(), seed);
     let mut seat = seat;
     for _ in 0..rounds {
         seat = count_round(board, seat, &order, rt, alloc);
@@ -402,7 +410,7 @@ fn count_in_threads<R: Threads + Wait + Sync>(
 ) -> bool
     requires { All (λ j. IsIdle board.now.table.shared.table_id j.seat) jobs.items }
 {
-    thread::map_vec(rt, jobs, &|job: Job|
+    thread::map_vec(rt, jobs, &move |job: Job|
         requires { IsIdle board.now.table.shared.table_id job.seat }
     { count_rounds(board, job, rt, alloc) })
     .is_ok()
