@@ -1,6 +1,6 @@
 -- What of a board may cross threads: as its pivot and its values may.
 use denote.RattleType.{RattleType}
-use denote.Param.Send.{IsSend, IsSync, struct_sync, sendable}
+use denote.Param.Send.{IsSend, IsSync, sendable}
 use Rattle.atomic_table.proofs.shared.Seat.TheSendSync as place
 use Rattle.ww_lock.specs.contracts.board.Board as Board
 use Rattle.atomic_table.proofs.owned.Table.TheSendSync as tables

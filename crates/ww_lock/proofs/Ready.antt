@@ -1,5 +1,5 @@
 -- What a caller that may lock keeps at each call.
-use Rattle.std.proofs.Common.{◌≡◌, ◌≢◌, ℕ, ◌+◌, ◌<◌, ◌≤◌, suc, List, [], ◌∷◌, ◌++◌, length, sym, refl, ap, ◌∙◌, subst, ⊎_elim, inl, inr, arith, eq-eqb, ne_eqb, Bool, true, false, Result, Ok, Err}
+use Rattle.std.proofs.Common.{◌≡◌, ℕ, ◌<◌, ◌≤◌, suc, List, [], ◌∷◌, length, sym, ap, ◌∙◌, subst, ⊎_elim, arith, eq-eqb, ne_eqb, Bool, false, Result, Ok, Err}
 use Rattle.std.specs.Prelude.{if◌then◌else◌}
 use mathlib.Core.Logic.{dite}
 use native.Mathlib.Decide.{ℕ_discrete}
@@ -8,8 +8,8 @@ use Rattle.ww_lock.specs.declared.locks.LockError.{LockError}
 use Rattle.ww_lock.specs.declared.locks.LockError.TheVariants.{Sealed, Already, Backoff}
 use Rattle.atomic_table.specs.Seated.{TableId}
 use Rattle.ww_lock.specs.Rule.{In, newcomer}
-use Rattle.ww_lock.specs.Steps.{with_claim, with_mets, with_release, with_ticket, with_entry, with_exit, right_half, without}
-use Rattle.ww_lock.specs.Held.{IsSameKeys, IsApart, Lacks}
+use Rattle.ww_lock.specs.Steps.{with_release, with_ticket, with_entry, with_exit, right_half, without}
+use Rattle.ww_lock.specs.Held.{IsApart}
 use Rattle.ww_lock.specs.Acquiring.{HoldsOutside, IsSameAcquire, Waited, Claimed, AnswersLock, view}
 use Rattle.ww_lock.specs.declared.lifetime.Seat.{Seat}
 use Rattle.ww_lock.specs.declared.board.TaskChange.TheVariants.{Same}
@@ -38,12 +38,15 @@ module _ {A : Type 0} where
   without_fewer b x (q ∷ xs) h = dite (ℕ_discrete q.0 b)
       (λ same. let r = without_most b xs in subst (λ (k : Bool). length (if k then without b xs else q ∷ without b xs) < suc (length xs)) (sym (eq-eqb q.0 b same)) (omega arith))
       (λ ne. let r = without_fewer b x xs (⊎_elim (λ s. absurd (ne (ap (λ z. z.0) (sym s)))) (λ s. s) h) in
-        subst (λ (k : Bool). length (if k then without b xs else q ∷ without b xs) < suc (length xs)) (sym (ne_eqb q.0 b ne)) (omega arith))
+      subst (λ (k : Bool). length (if k then without b xs else q ∷ without b xs) < suc (length xs)) (sym (ne_eqb q.0 b ne)) (omega arith))
 
 module _ {P X T : Type 0} (z : TableId) where
   pub idle_same : (s t : Seat P X T) → IsIdle z s → IsSameSeat s t → IsIdle z t
-  idle_same s t i e = ((e.0 ∙ i.0.0, ap (λ m. m.1) e.2 ∙ i.0.1, ap (λ m. m.0.lock.owes) e.2 ∙ i.0.2, ap (λ m. m.0.pivot.inside) e.2 ∙ i.0.3),
-    ap (λ m. m.0.task) e.2 ∙ i.1, (i.2.0, i.2.1, ap (λ m. m.0.pivot.seen) e.2 ∙ i.2.2))
+  idle_same s t i e = (
+    (e.0 ∙ i.0.0, ap (λ m. m.1) e.2 ∙ i.0.1, ap (λ m. m.0.lock.owes) e.2 ∙ i.0.2, ap (λ m. m.0.pivot.inside) e.2 ∙ i.0.3),
+    ap (λ m. m.0.task) e.2 ∙ i.1,
+    (i.2.0, i.2.1, ap (λ m. m.0.pivot.seen) e.2 ∙ i.2.2),
+  )
 
   pub idle_new : (s : Seat P X T) (p : P) → IsOutside z s → sees s ≡ newcomer p → IsIdle z s
   idle_new s p o e = (o, ap (λ v. v.task) e, (p, [], ap (λ v. v.pivot.seen) e))
@@ -61,9 +64,9 @@ module _ {P X T : Type 0} (fits : ℕ → P → X → Type 0) (z : TableId) wher
     unsealed = c.2.1 ∙ r.unsealed;
     owed = λ d y w i j p f.
         ⊎_elim (λ old. ⊎_elim (λ kept. r.owed d y w old kept p f) (λ new. absurd (lacks_same b a.place.me.0.lock.owes a.held.items r.holds.keys c.1 y (subst (λ n. In (n, y) a.place.me.0.lock.owes) (ap (λ q. q.0) new) old)))
-            (in_last (d, w) (b, x) a.held.items (subst (In (d, w)) e j)))
-        (λ new. ⊎_elim (λ kept. absurd (c.1 w (subst (λ n. In (n, w) a.held.items) (ap (λ q. q.0) new) kept)) ) (λ also. subst (fits d p) (ap (λ q. q.1) new ∙ sym (ap (λ q. q.1) also)) f)
-            (in_last (d, w) (b, x) a.held.items (subst (In (d, w)) e j)))
+        (in_last (d, w) (b, x) a.held.items (subst (In (d, w)) e j)))
+        (λ new. ⊎_elim (λ kept. absurd (c.1 w (subst (λ n. In (n, w) a.held.items) (ap (λ q. q.0) new) kept))) (λ also. subst (fits d p) (ap (λ q. q.1) new ∙ sym (ap (λ q. q.1) also)) f)
+        (in_last (d, w) (b, x) a.held.items (subst (In (d, w)) e j)))
         (in_last (d, y) (b, x) a.place.me.0.lock.owes (subst (λ u. In (d, y) u.lock.owes) v i));
     idle = ap (λ u. u.task) v ∙ r.idle;
     saw = (r.saw.0, r.saw.1, ap (λ u. u.pivot.seen) v ∙ r.saw.2);

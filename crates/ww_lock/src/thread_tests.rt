@@ -214,29 +214,11 @@ fn append_in_threads<R: Threads + Wait + Sync>(
         move ||
             requires { IsIdle board.now.table.shared.table_id one × (2 ≤ board.now.buffers) }
             ensures { IsIdle board.entry.now.table.shared.table_id result }
-        {
-            append_rounds(
-                board,
-                one,
-                BufferId::new(0),
-                BufferId::new(1),
-                rt,
-                alloc,
-            )
-        },
+        { append_rounds(board, one, BufferId::new(0), BufferId::new(1), rt, alloc) },
         move ||
             requires { IsIdle board.now.table.shared.table_id other × (2 ≤ board.now.buffers) }
             ensures { IsIdle board.entry.now.table.shared.table_id result }
-        {
-            append_rounds(
-                board,
-                other,
-                BufferId::new(1),
-                BufferId::new(0),
-                rt,
-                alloc,
-            )
-        },
+        { append_rounds(board, other, BufferId::new(1), BufferId::new(0), rt, alloc) },
     );
     board.join(one, other)
 }
@@ -410,9 +392,13 @@ fn count_in_threads<R: Threads + Wait + Sync>(
 ) -> bool
     requires { All (λ j. IsIdle board.now.table.shared.table_id j.seat) jobs.items }
 {
-    thread::map_vec(rt, jobs, &move |job: Job|
-        requires { IsIdle board.now.table.shared.table_id job.seat }
-    { count_rounds(board, job, rt, alloc) })
+    thread::map_vec(
+        rt,
+        jobs,
+        &move |job: Job|
+            requires { IsIdle board.now.table.shared.table_id job.seat }
+        { count_rounds(board, job, rt, alloc) },
+    )
     .is_ok()
 }
 

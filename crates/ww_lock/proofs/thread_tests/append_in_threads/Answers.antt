@@ -1,4 +1,3 @@
-use Rattle.std.proofs.Common.{rules, arith}
 use contract.Lifetimes.{Lfts}
 use denote.Param.{param}
 use denote.Param.Send.{IsSend, IsSync, sendable}

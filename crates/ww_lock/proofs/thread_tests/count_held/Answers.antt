@@ -11,6 +11,7 @@ value-value-requires c = let xs = c.loop-i.acquire.held.items in let i = c.loop-
     (i, (e.1, at_index xs i e l (c.index-held-i.is ∙ ap (λ z. get_or z i e) same) ∙ ap (λ (n : ℕ). some (n, e.1)) (ap (λ z. z.0) c.index-held-i.is)))
 
 pub loop-i-preserved : goal.loop-i-preserved
-loop-i-preserved c = let e = c.value-value.ensures in
-    (λ z h. (let r = c.loop-i.invariant.0 z h in record { holds = e.holds false z _ r.holds; unsealed = r.unsealed; owed = λ _ _ _ _ _ _ _. tt; idle = r.idle; saw = r.saw }),
-      keys_set c.loop-i.acquire.held.items _ _ c.value-value.result.now _ e.value ∙ c.loop-i.invariant.1)
+loop-i-preserved c = let e = c.value-value.ensures in (
+  λ z h. (let r = c.loop-i.invariant.0 z h in record { holds = e.holds false z _ r.holds; unsealed = r.unsealed; owed = λ _ _ _ _ _ _ _. tt; idle = r.idle; saw = r.saw }),
+  keys_set c.loop-i.acquire.held.items _ _ c.value-value.result.now _ e.value ∙ c.loop-i.invariant.1,
+)

@@ -1,4 +1,3 @@
-use Rattle.std.proofs.Common.{◌≡◌}
 use Rattle.atomic_table.specs.Seated.{TableId}
 use Rattle.ww_lock.specs.Held.{IsSameKeys}
 use Rattle.ww_lock.specs.Threads.{IsReady}

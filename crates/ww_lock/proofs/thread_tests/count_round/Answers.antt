@@ -1,8 +1,4 @@
-use Rattle.std.proofs.Common.{sym, subst, ap, ◌∙◌, refl, true, false}
-use Rattle.ww_lock.specs.Rule.{In}
-use Rattle.ww_lock.proofs.Lists.{key_in}
-use Rattle.ww_lock.proofs.Trying.{lacks_same}
-use Rattle.ww_lock.proofs.Ready.{idle_same, begun, came_back, ended}
+use Rattle.ww_lock.proofs.Ready.{idle_same, begun, ended}
 use Rattle.ww_lock.proofs.thread_tests.count_round.Goals as goal
 
 pub returns-in-Err-Memory : goal.returns-in-Err-Memory

@@ -1,4 +1,4 @@
-use Rattle.std.proofs.Common.{◌≡◌, All}
+use Rattle.std.proofs.Common.{All}
 use Rattle.ww_lock.specs.Threads.{IsIdle}
 use Rattle.ww_lock.proofs.thread_tests.jobs_of.Given as goal
 

@@ -1,4 +1,4 @@
-use Rattle.std.proofs.Common.{◌≡◌, ◌<◌, ◌+◌, All, vec_len, vec_capacity}
+use Rattle.std.proofs.Common.{◌≡◌, ◌<◌, All, vec_len, vec_capacity}
 use Rattle.ww_lock.proofs.thread_tests.order_of.Given as goal
 
 abbrev pub invariant-loop-number : goal.invariant-loop-number

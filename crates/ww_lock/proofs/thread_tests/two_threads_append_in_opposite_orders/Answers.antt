@@ -1,4 +1,4 @@
-use Rattle.std.proofs.Common.{rules, arith}
+use Rattle.std.proofs.Common.{rules}
 use Rattle.ww_lock.proofs.Ready.{idle_new}
 use Rattle.ww_lock.proofs.thread_tests.two_threads_append_in_opposite_orders.Goals as goal
 
