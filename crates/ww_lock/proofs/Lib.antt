@@ -11,3 +11,6 @@ pub mod Turning
 pub mod Finding
 pub mod Closing
 pub mod Releasing
+pub mod Crosses
+pub mod Ready
+pub mod Counting

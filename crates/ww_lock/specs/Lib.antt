@@ -8,3 +8,4 @@ pub mod Lending
 pub mod Begun
 pub mod Sample
 pub mod Leaving
+pub mod Threads

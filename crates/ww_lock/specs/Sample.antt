@@ -1,5 +1,5 @@
 -- Wards of the tests.
-use Rattle.std.specs.Prelude.{ℕ, zero, suc, ◌<◌}
+use Rattle.std.specs.Prelude.{ℕ, zero, suc, ◌<◌, ◌≡◌}
 use Rattle.std.proofs.Common.{refl, inl, inr, ⊎_elim, subst, sym}
 use Rattle.std.proofs.Math.Nat.{lt_trans}
 use Rattle.ww_lock.specs.Fences.{NotBack}
@@ -22,3 +22,7 @@ awaits p t = ⊥
 pub words_onward : (p q : ℕ) → NotBack p q → (f : ℕ) → NotBack (word_of p f) (word_of q f)
 words_onward p q h zero = h
 words_onward p q h (suc f) = inl refl
+
+-- the pivot is the number of the task, which is not 0
+abbrev pub is_task : ℕ → ℕ → Type 0
+is_task p t = (p ≡ t) × (0 < t)

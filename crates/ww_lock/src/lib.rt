@@ -18,6 +18,8 @@ mod plays;
 mod steps;
 #[cfg(test)]
 mod tests;
+#[cfg(test)]
+mod thread_tests;
 mod ward;
 
 pub use acquire::Acquire;

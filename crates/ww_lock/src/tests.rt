@@ -153,3 +153,53 @@ fn a_closed_board_gives_back_what_it_had(rt: HostRuntime) -> Result<(), Fail> {
     assert!(rt; out[0] == Some(5) && out[1] == Some(6));
     Ok(())
 }
+
+// The pivot is the number of the task that it waits for, or 0.
+struct Tasks;
+
+impl Ward for Tasks {
+    ghost use Rattle.ww_lock.specs.Sample.{is_task, still};
+
+    type Pivot = u64;
+
+    type Value = u64;
+
+    type Task = u64;
+
+    ghost good = { λ _. Unit {0} };
+
+    ghost fits = { λ _ _ _. Unit {0} };
+
+    ghost grows = { λ _ _. Unit {0} };
+
+    ghost posted = { λ _ _. 0 };
+
+    ghost busy = { is_task };
+
+    ghost reflexive = { λ _. tt };
+
+    ghost transitive = { λ _ _ _ _ _. tt };
+
+    ghost onward = { λ _ _ _ _. still 0 };
+}
+
+// Another caller has been inside between the two calls, and left the pivot as it was.
+#[test]
+fn a_task_is_begun_and_ended(rt: HostRuntime) -> Result<(), Fail> {
+    let alloc = rt.alloc();
+    let (board, seat) = Board::<Tasks>::new(alloc, 0, Vec::new(alloc), 0)?;
+    let (mut first, mut second) = board.split(seat);
+    let pivot = board.enter(&mut first, &rt);
+    assert!(rt; pivot == 0);
+    board.leave(&mut first, 7, &TaskChange::Begins(7), true);
+    let pivot = board.enter(&mut second, &rt);
+    assert!(rt; pivot == 7);
+    board.leave(&mut second, pivot, &TaskChange::Same, true);
+    let pivot = board.enter(&mut first, &rt);
+    prove!(pivot == 7);
+    board.leave(&mut first, 0, &TaskChange::Ends, true);
+    let seat = board.join(first, second);
+    let mut out = Vec::new(alloc);
+    assert!(rt; board.close(seat, &mut out).is_ok_and(|pivot| pivot == 0));
+    Ok(())
+}
