@@ -11,14 +11,14 @@ use Rattle.drm_text.specs.Cut.{Words, Left}
 use Rattle.drm_text.specs.Hexadecimal.{bytes_at}
 use Rattle.drm_text.specs.Lines.{start_at, last_line, out_of_order, lines_of}
 use Rattle.drm_text.specs.Reading.{◌>>=◌, or_fault, or_bad_device}
-use Rattle.drm_text.specs.Words.{word_at, number_at, end_at, fault_here}
+use Rattle.drm_text.specs.Words.{word_at, number_at, end_at}
 use Rattle.drm_text.specs.declared.fault.Fault.{Fault}
 use Rattle.drm_text.specs.declared.keywords.Command.TheVariants as command
 use Rattle.drm_text.specs.declared.keywords.Keyword.{Keyword}
 use Rattle.drm_text.specs.declared.keywords.Keyword.TheVariants as line
 use Rattle.drm_script.specs.Header.{header_of, header_line, header_at, checked_device, is_open}
 use Rattle.drm_script.specs.Job.{job_at}
-use Rattle.drm_script.specs.Journal.{JournalParts, IsJournal, IsRead, AreRecords, is_record, record_or, record_at, status_of, size_of, final_at, with_job, with_final, with_end, with_body, journal_line, body_of, nothing_read, journal_of, judge_journal}
+use Rattle.drm_script.specs.Journal.{JournalParts, IsJournal, IsRead, is_record, record_or, record_at, status_of, size_of, final_at, with_job, with_final, with_end, with_body, journal_line, body_of, nothing_read, journal_of, judge_journal}
 use Rattle.drm_script.specs.declared.header.Section.{Section}
 use Rattle.drm_script.specs.declared.journal.JournalJob.{JournalJob}
 use Rattle.drm_script.specs.declared.journal.Reading.{Reading}

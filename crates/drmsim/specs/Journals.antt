@@ -1,5 +1,5 @@
 -- Engines over journals: what is written is what the serial machine has to say of the journal that is read.
-use Rattle.std.specs.Prelude.{◌≡◌, ℕ, List, Option, Ok, Err, IfSome, codes}
+use Rattle.std.specs.Prelude.{◌≡◌, ℕ, List, Option, Ok, Err, IfSome}
 use Rattle.std.specs.Io.KnownBytes.{Appends, Keeps}
 use Rattle.drm_script.specs.Journal.{JournalParts, judge_journal}
 use Rattle.drm_script.specs.Transfer.{AppendsFront}

@@ -1,6 +1,5 @@
 -- What a journal leaves: the buffers of the serial machine, which runs its jobs one after another.
 use Rattle.std.specs.Prelude.{ℕ, List, map}
-use Rattle.drm_core.specs.declared.event.Answer.{Answer}
 use Rattle.drm_core.specs.declared.event.Answer.TheVariants as answer
 use Rattle.drm_serial.specs.Serial.{Turn, serial}
 use Rattle.drm_script.specs.declared.journal.JournalJob.{JournalJob}
