@@ -464,3 +464,8 @@ journal_found text (Err e) gives = tt
 pub journal_only : (text : List ℕ) (result : Result JournalParts ReadError) → Gives (λ j. j) result (judge_journal text) → (journal : JournalParts) → SpellsJournal text journal
     → Gives (λ j. j) result (Ok journal)
 journal_only text result gives journal spells = subst (λ (judged : Result JournalParts Fault). Gives (λ j. j) result judged) (journal_again text journal spells) gives
+
+-- what a text spells is a journal
+pub journal_stands : (text : List ℕ) (journal : JournalParts) → SpellsJournal text journal → IsJournal journal
+unfolding SpellsJournal
+journal_stands text journal spells = spells.2

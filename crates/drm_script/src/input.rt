@@ -3,7 +3,7 @@
 ghost use Rattle.std.specs.Prelude.{◌≡◌, List, None, take, IfOk, IfSome};
 ghost use Rattle.drm_types.specs.Limits.{spec_fault};
 ghost use Rattle.drm_script.specs.Commands.{AllNamesExist};
-ghost use Rattle.drm_script.specs.Journal.{judge_journal};
+ghost use Rattle.drm_script.specs.Journal.{IsJournal, judge_journal};
 ghost use Rattle.drm_script.specs.Script.{judge_script};
 ghost use Rattle.drm_script.specs.Transfer.{IsNoFault, IsReadOf, input_error_of};
 
@@ -70,7 +70,8 @@ pub fn read_script_from<R: Read>(alloc: Global, reader: &mut R) -> Result<Script
 
 /// The journal that all bytes of the reader spell.
 pub fn read_journal_from<R: Read>(alloc: Global, reader: &mut R) -> Result<Journal, InputError>
-    ensures { IsReadOf judge_journal (R.remaining reader.old) result }
+    ensures value { IsReadOf judge_journal (R.remaining reader.old) result }
+    ensures stands { IfOk result IsJournal }
 {
     let text = read_input(alloc, reader)?;
     match read_journal(alloc, &text) {

@@ -9,8 +9,7 @@ ghost use Rattle.drmsim.specs.Leaving.{left_by};
 use crate::comparison::{Comparison, compare};
 use crate::ending::Ending;
 use crate::leaving::run_journal;
-use crate::reading::journal_from;
-use drm_script::{Journal, put_all};
+use drm_script::{Journal, put_all, read_journal_from};
 use std::alloc::{AllocError, Global};
 use std::io::{Read, Write};
 
@@ -28,7 +27,7 @@ fn judge(alloc: Global, journal: &Journal) -> Result<Comparison, AllocError>
 pub fn check<R: Read, W: Write>(alloc: Global, reader: &mut R, writer: &mut W) -> Ending
     ensures { Checks (R.remaining reader.old) (W.contents writer.old) (W.contents writer.new) result }
 {
-    let journal = match journal_from(alloc, reader) {
+    let journal = match read_journal_from(alloc, reader) {
         Ok(journal) => journal,
         Err(error) => return Ending::of_input(error),
     };

@@ -12,7 +12,6 @@ mod command_line;
 mod comparison;
 mod ending;
 mod leaving;
-mod reading;
 mod replay;
 mod serial;
 #[cfg(test)]

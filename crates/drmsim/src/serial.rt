@@ -7,9 +7,8 @@ ghost use Rattle.drmsim.specs.Leaving.{left_by, text_of_buffers};
 
 use crate::ending::Ending;
 use crate::leaving::run_journal;
-use crate::reading::journal_from;
 use drm_core::Answer;
-use drm_script::{Journal, put_all, write_answers};
+use drm_script::{Journal, put_all, read_journal_from, write_answers};
 use std::alloc::{AllocError, Global};
 use std::io::{Read, Write};
 
@@ -32,7 +31,7 @@ fn lines(alloc: Global, journal: &Journal) -> Result<Vec<u8>, AllocError>
 pub fn serial<R: Read, W: Write>(alloc: Global, reader: &mut R, writer: &mut W) -> Ending
     ensures { Serializes (R.remaining reader.old) (W.contents writer.old) (W.contents writer.new) result }
 {
-    let journal = match journal_from(alloc, reader) {
+    let journal = match read_journal_from(alloc, reader) {
         Ok(journal) => journal,
         Err(error) => return Ending::of_input(error),
     };
