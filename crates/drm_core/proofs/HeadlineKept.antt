@@ -12,6 +12,7 @@ use Rattle.drm_types.specs.declared.spec.RingSpec.{RingSpec}
 use Rattle.drm_types.specs.Usages.{is_as_strong}
 use Rattle.drm_buffer.specs.Memory.{bytes_of}
 use Rattle.drm_serial.specs.Serial.{serial}
+use Rattle.drm_job.specs.Fault.{IsJob}
 use Rattle.drm_job.proofs.Within.{none_first, none_when}
 use Rattle.drm_fence.specs.declared.phase.Phase.{Phase}
 use Rattle.drm_fence.specs.declared.phase.Phase.TheVariants.{Queued, Scheduled, Ended}
@@ -30,11 +31,12 @@ use Rattle.drm_core.specs.Ring.{used_credits}
 use Rattle.drm_core.specs.Outcomes.{outcome_of_event}
 use Rattle.drm_core.specs.Context.{holds}
 use Rattle.drm_core.specs.Names.{names_exist}
+use Rattle.drm_core.specs.Order.{HasPlace}
 use Rattle.drm_core.specs.Refusals.{idle_refusal, not_held_refusal, read_refusal, busy_fence}
 use Rattle.drm_core.specs.Step.{Step}
 use Rattle.drm_core.specs.Run.{Run, LawfulRun, AllNamesExist}
 use Rattle.drm_core.specs.Lawful.{HasRightOutcome, IsLawfulDevice}
-use Rattle.drm_core.specs.Steady.{IsSteadyCore, PlansHeld, HoldersBegun}
+use Rattle.drm_core.specs.Steady.{IsSteadyCore, PlansHeld, HoldersBegun, JobsHavePlace}
 use Rattle.drm_core.specs.Headline.{serial_memory, serial_bytes, WritersEnded, MayRead, IsRefused, TellsOutcome, Promises, Headline}
 use Rattle.drm_core.proofs.CoreSteps.{step_is_kept}
 use Rattle.drm_core.proofs.DeviceSteps.{not_when}
@@ -42,6 +44,7 @@ use Rattle.drm_core.proofs.Opening.{opened_core_steady}
 use Rattle.drm_core.proofs.Readback.{writers_ended}
 use Rattle.drm_core.proofs.HeadlineGiven.{run_holders_begun, opened_holders_begun, read_given}
 use Rattle.drm_core.proofs.HeadlineReads.{run_plans_held, opened_plans_held, may_read_on}
+use Rattle.drm_core.proofs.Places.{run_places_kept, no_places}
 use Rattle.drm_core.proofs.HeadlineSteps.{is_refusal, cases_step, stands_within, ended_stays, refused_keeps, step_leaves_bytes}
 
 -- where a run leads is steady, and of the same description
@@ -158,8 +161,8 @@ tells_outcome r (Ended Stopped) is right = record {
 }
 
 -- a steady core of this description keeps its promises
-pub promises_kept : (spec : DeviceSpec) (s : CoreState) → IsSteadyCore s → PlansHeld s → HoldersBegun s → s.device.spec ≡ spec → Promises spec s
-promises_kept spec s steady plans begun same = record {
+pub promises_kept : (spec : DeviceSpec) (s : CoreState) → IsSteadyCore s → PlansHeld s → HoldersBegun s → JobsHavePlace s.device → s.device.spec ≡ spec → Promises spec s
+promises_kept spec s steady plans begun places same = record {
   bytes = memory_is s spec steady same;
   dumps = λ b a n step. dump_gives s spec a n b steady same step;
   reads = λ ctx b a n step. look_gives s spec (event.Read ctx b) a n b steady same step (λ given is. is);
@@ -169,6 +172,13 @@ promises_kept spec s steady plans begun same = record {
     | inr given ↦ inr (given ∙ ap (λ m. answer.Bytes (bytes_of m b)) (memory_is s spec steady same))
   ];
   statuses = λ f status n step. status_given s f status n step;
+  jobs = λ f r at.
+      let sound = law.records f r at in
+      record {
+        job = subst (λ p. IsJob p r.job) same sound.job;
+        place = subst (λ p. HasPlace p f r.job) same (places f r at);
+        ran = sound.ran;
+      };
   outcomes = λ f r at. tells_outcome r r.phase refl (law.records f r at).outcome;
   fence_order = λ i j x y both after. (law.follows i j x y both.order both.first both.second).ended after;
   packet_order = λ i j x y both after. (law.follows i j x y both.order both.first both.second).ran after;
@@ -203,4 +213,5 @@ pub headline : Headline
 headline spec events answers new names run =
     let end = run_is_steady (opened spec) spec events answers new (opened_core_steady spec) refl names run in
     promises_kept spec new end.0 (run_plans_held (opened spec) events answers new (opened_plans_held spec) run)
-    (run_holders_begun (opened spec) events answers new (opened_holders_begun spec) run) end.1
+    (run_holders_begun (opened spec) events answers new (opened_holders_begun spec) run)
+    (run_places_kept (opened spec) spec events answers new (opened_core_steady spec) refl names (no_places spec) run) end.1

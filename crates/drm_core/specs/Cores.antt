@@ -13,7 +13,7 @@ use Rattle.drm_core.specs.declared.cores.CoreTable.{CoreTable}
 use Rattle.drm_core.specs.State.{DeviceState, Context, CoreState}
 use Rattle.drm_core.specs.Context.{holds_all}
 use Rattle.drm_core.specs.Reservation.{usage_at}
-use Rattle.drm_core.specs.Steady.{IsSteadyCore, PlansHeld, HoldersBegun}
+use Rattle.drm_core.specs.Steady.{IsSteadyCore, PlansHeld, HoldersBegun, JobsHavePlace}
 use Rattle.drm_core.specs.Tables.{state_of, IsWhole}
 
 -- the context of a row: what it has planned is its job
@@ -60,11 +60,13 @@ pub record IsCore (c : CoreTable) : Type 0 where
   pub context_count : length c.contexts.items ≡ 64
   pub tickets : c.next_ticket ≤ 2 ^ 63
 
--- the tables of a core: its contexts hold what they have planned, and have begun where they hold something
+-- the tables of a core: its contexts hold what they have planned, and have begun where they hold something, and its jobs
+-- have their places
 pub record IsWholeCore (c : CoreTable) : Type 0 where
   pub core : IsCore c
   pub plans_held : PlansHeld (core_state c)
   pub holders_begun : HoldersBegun (core_state c)
+  pub jobs_placed : JobsHavePlace (state_of c.table)
 
 -- the entity of the job of this number
 abbrev pub entity_at : List JobRecord → ℕ → ℕ

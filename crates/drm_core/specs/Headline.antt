@@ -7,6 +7,7 @@ use Rattle.drm_types.specs.declared.spec.RingSpec.{RingSpec}
 use Rattle.drm_types.specs.Usages.{is_as_strong}
 use Rattle.drm_buffer.specs.Memory.{bytes_of}
 use Rattle.drm_job.specs.declared.Draft.{Draft}
+use Rattle.drm_job.specs.Fault.{IsJob}
 use Rattle.drm_serial.specs.Serial.{serial}
 use Rattle.drm_fence.specs.Phases.{is_queued, has_ended, status_of}
 use Rattle.drm_core.specs.declared.event.Answer.{Answer}
@@ -18,7 +19,7 @@ use Rattle.drm_core.specs.declared.event.Refusal.TheVariants.{Memory}
 use Rattle.drm_core.specs.declared.journal.JobRecord.{JobRecord}
 use Rattle.drm_core.specs.State.{CoreState, opened}
 use Rattle.drm_core.specs.Journal.{turns, is_over}
-use Rattle.drm_core.specs.Order.{comes_after}
+use Rattle.drm_core.specs.Order.{comes_after, HasPlace}
 use Rattle.drm_core.specs.Reservation.{usage_at}
 use Rattle.drm_core.specs.Ring.{used_credits}
 use Rattle.drm_core.specs.Context.{holds}
@@ -76,6 +77,12 @@ pub record TellsOutcome (r : JobRecord) : Type 0 where
   pub cancelled : status_of r.phase ≡ negsuc 124 → IsTrue r.is_skipped
   pub stopped : status_of r.phase ≡ negsuc 2 → r.ran ≡ 0
 
+-- the device takes the job under this number, and the job has run no more packets than it has
+pub record IsTaken (spec : DeviceSpec) (number : ℕ) (r : JobRecord) : Type 0 where
+  pub job : IsJob spec r.job
+  pub place : HasPlace spec number r.job
+  pub ran : r.ran ≤ length r.job.packets
+
 -- a job stays what it was, its outcome stays, and with an outcome or a skipped mark it runs no packet more
 pub record StaysFinal (old new : JobRecord) : Type 0 where
   pub job : new.job ≡ old.job
@@ -102,7 +109,9 @@ pub record Promises (spec : DeviceSpec) (state : CoreState) : Type 0 where
   -- a status is that of the armed job's fence
   pub statuses : (fence : ℕ) (status : ℤ) (next : CoreState) → Step state (event.Status fence) (answer.Status status) next
       → (r : JobRecord) × IsArmed state fence r × (status ≡ status_of r.phase)
-  -- and it tells the right outcome
+  -- an armed job is one that the device takes, behind all jobs whose fences it names
+  pub jobs : (fence : ℕ) (r : JobRecord) → IsArmed state fence r → IsTaken spec fence r
+  -- and its status tells the right outcome
   pub outcomes : (fence : ℕ) (r : JobRecord) → IsArmed state fence r → TellsOutcome r
   -- a job has its outcome after each earlier job that conflicts with it or whose fence it names
   pub fence_order : (i j : ℕ) (earlier later : JobRecord) → AreArmed state i earlier j later → IsTrue (comes_after later.job i earlier.job)

@@ -1,6 +1,7 @@
 -- Which earlier jobs a job comes after, and when it may begin.
-use Rattle.std.specs.Prelude.{ℕ, Bool, not, ◌&&◌, ◌||◌, ◌==◌, List, take}
+use Rattle.std.specs.Prelude.{ℕ, ◌<◌, Bool, not, ◌&&◌, ◌||◌, ◌==◌, List, take, Contains}
 use Rattle.std.specs.List.{list_all, list_any, filter}
+use Rattle.drm_types.specs.declared.spec.DeviceSpec.{DeviceSpec}
 use Rattle.drm_job.specs.declared.Draft.{Draft}
 use Rattle.drm_job.specs.Conflicts.{conflicts}
 use Rattle.drm_core.specs.declared.journal.JobRecord.{JobRecord}
@@ -26,3 +27,8 @@ is_ready journal j r = list_all (λ n. is_met r.ring n.1) (dependencies journal 
 -- whether all these jobs have outcomes
 abbrev pub have_ended : List (ℕ × JobRecord) → Bool
 have_ended records = list_all (λ n. has_ended n.1.phase) records
+
+-- the device has this number to give, and the job names fences of earlier jobs alone
+pub record HasPlace (spec : DeviceSpec) (number : ℕ) (job : Draft) : Type 0 where
+  pub given : number < spec.max_jobs
+  pub after : (fence : ℕ) → Contains job.after fence → fence < number

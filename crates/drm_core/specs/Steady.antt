@@ -4,7 +4,7 @@ use Rattle.drm_core.specs.declared.journal.JobRecord.{JobRecord}
 use Rattle.drm_core.specs.State.{DeviceState, Context, CoreState}
 use Rattle.drm_resv.specs.Reservation.{Reservation}
 use Rattle.drm_fence.specs.Phases.{is_queued}
-use Rattle.drm_core.specs.Order.{comes_after, is_met}
+use Rattle.drm_core.specs.Order.{comes_after, is_met, HasPlace}
 use Rattle.drm_core.specs.Ring.{pending_of}
 use Rattle.drm_core.specs.Arming.{ring_of}
 use Rattle.drm_job.specs.declared.Draft.{Draft}
@@ -54,3 +54,7 @@ begun_in contexts ctx = not (is_none (option_and_then (λ o. o) (slice_get conte
 -- who holds a buffer has begun
 abbrev pub HoldersBegun : CoreState → Type 0
 HoldersBegun state = (ctx buffer : ℕ) → IsTrue (holds state ctx buffer) → IsTrue (begun_in state.contexts ctx)
+
+-- each armed job has its place among the jobs of the device
+abbrev pub JobsHavePlace : DeviceState → Type 0
+JobsHavePlace device = (number : ℕ) (r : JobRecord) → slice_get device.journal number ≡ Some r → HasPlace device.spec number r.job

@@ -40,4 +40,4 @@ pub use drm_fence::Phase;
 pub use event::{Answer, Event, Refusal};
 pub use journal::JobRecord;
 pub use laws::{every_run_is_lawful, headline};
-pub use machine::{BuildError, Core};
+pub use machine::{BuildError, Closed, Core};

@@ -7,3 +7,4 @@ pub mod JobReaders
 pub mod PacketReaders
 pub mod Records
 pub mod ScriptReaders
+pub mod CoreJournal

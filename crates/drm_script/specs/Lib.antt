@@ -6,5 +6,6 @@ pub mod Job
 pub mod Journal
 pub mod JournalGrammar
 pub mod JournalText
+pub mod Leaving
 pub mod Script
 pub mod Transfer

@@ -8,6 +8,7 @@
 
 mod answers;
 mod command;
+mod core_journal;
 mod header;
 mod input;
 mod job;

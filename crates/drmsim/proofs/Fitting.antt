@@ -10,7 +10,7 @@ use Rattle.drm_job.proofs.InRange.{runs_in}
 use Rattle.drm_serial.proofs.Sizes.{sizes-serial}
 use Rattle.drm_script.specs.declared.journal.JournalJob.{JournalJob}
 use Rattle.drm_script.specs.Journal.{JournalParts, AreRecords, IsJournal, is_job, is_record, has_place}
-use Rattle.drmsim.specs.Leaving.{turn_of, turns_of, left_by}
+use Rattle.drm_script.specs.Leaving.{turn_of, turns_of, left_by}
 
 -- the first part of a test that passes
 pub first_part : (x y : Bool) → (x && y) ≡ true → x ≡ true

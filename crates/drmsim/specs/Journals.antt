@@ -8,7 +8,8 @@ use Rattle.drmsim.specs.declared.comparison.Comparison.TheVariants as comparison
 use Rattle.drmsim.specs.declared.ending.Ending.{Ending}
 use Rattle.drmsim.specs.declared.ending.Ending.TheVariants as ending
 use Rattle.drmsim.specs.Comparing.{Compares, text_of_comparison}
-use Rattle.drmsim.specs.Leaving.{left_by, text_of_buffers}
+use Rattle.drm_script.specs.Leaving.{left_by}
+use Rattle.drmsim.specs.Leaving.{text_of_buffers}
 
 -- a journal that the input spells where it is known, and of which this holds
 abbrev pub Spells : Option (List ℕ) → (JournalParts → Type 0) → Type 0

@@ -4,7 +4,7 @@ ghost use Rattle.std.specs.Prelude.{◌≡◌, IfOk};
 ghost use Rattle.drm_script.specs.Journal.{IsJournal};
 ghost use Rattle.drmsim.specs.Comparing.{Compares};
 ghost use Rattle.drmsim.specs.Journals.{Checks};
-ghost use Rattle.drmsim.specs.Leaving.{left_by};
+ghost use Rattle.drm_script.specs.Leaving.{left_by};
 
 use crate::comparison::{Comparison, compare};
 use crate::ending::Ending;

@@ -2,7 +2,7 @@
 
 ghost use Rattle.std.specs.Prelude.{◌≡◌, length, map, IfOk};
 ghost use Rattle.drm_script.specs.Journal.{IsJournal};
-ghost use Rattle.drmsim.specs.Leaving.{left_by, turn_of};
+ghost use Rattle.drm_script.specs.Leaving.{left_by, turn_of};
 
 use drm_script::{Journal, JournalJob};
 use drm_serial::{Serial, Turn};

@@ -3,7 +3,8 @@
 ghost use Rattle.std.specs.Prelude.{◌≡◌, IfOk};
 ghost use Rattle.drm_script.specs.Journal.{IsJournal};
 ghost use Rattle.drmsim.specs.Journals.{Serializes};
-ghost use Rattle.drmsim.specs.Leaving.{left_by, text_of_buffers};
+ghost use Rattle.drm_script.specs.Leaving.{left_by};
+ghost use Rattle.drmsim.specs.Leaving.{text_of_buffers};
 
 use crate::ending::Ending;
 use crate::leaving::run_journal;

@@ -3,6 +3,9 @@
 use super::{run, try_failed_reads, try_failed_writes, try_run};
 use crate::command_line::Engine;
 use crate::tests::failing::SlowWriter;
+use drm_core::Core;
+use drm_script::{Journal, read_journal, read_script, write_journal};
+use std::alloc::Global;
 use std::test::Fail;
 
 /// A job that was skipped after two of its three packets, and one that ran behind it.
@@ -91,4 +94,38 @@ fn fronts_of_a_journal(rt: HostRuntime) {
             assert!(rt; writer.taken.is_empty(), "at {len}");
         }
     }
+}
+
+/// A job that hangs behind its first packet, so that it, the two behind it and a later one are skipped.
+const HANGS: &[u8] = b"buffer 00000000\nring 4 10 0\nentity 0 normal\njobs 8\ngo\n\
+submit 0 1 w0 fill:0:0:2:07 stall:9 fill:0:2:2:07\nsubmit 0 1 w0 fill:0:0:4:08\nsubmit 0 1 w0 fill:0:0:4:09\n\
+pick 0 0\npick 0 0\nstep 0\nstep 0\ntimeout 0 10\nstep 0\nfence 0\npick 0 10\nfinish 0 11\ntimeout 0 20\n\
+finish 0 11\nfinish 0 11\ndump 0\nsubmit 0 1 w0\npick 0 12\n";
+
+/// Its journal: the first job ran one packet, and the last one has no outcome yet.
+const HUNG: &[u8] = b"buffer 00000000\nring 4 10 0\nentity 0 normal\njobs 8\ngo\n\
+job 1 -125 0 1 w0 fill:0:0:2:07 stall:9 fill:0:2:2:07\njob 0 -125 0 1 w0 fill:0:0:4:08\n\
+job 0 -125 0 1 w0 fill:0:0:4:09\njob 0 0 0 1 w0\nfinal 07070000\nend\n";
+
+/// The journal of what a core did with the script.
+fn journal_of(alloc: Global, script: &[u8]) -> Option<Journal> {
+    let script = read_script(alloc, script).ok()?;
+    let mut core = Core::build(alloc, script.spec).ok()?;
+    core.run(alloc, script.lines.into_vec()).ok()?;
+    Journal::of_core(alloc, core).ok()
+}
+
+#[test]
+fn journal_of_a_run(rt: HostRuntime) -> Result<(), Fail> {
+    let Some(journal) = journal_of(rt.alloc(), HANGS) else {
+        panic!(rt; "no journal");
+    };
+    let text = write_journal(rt.alloc(), &journal)?;
+    assert_eq!(rt; text.as_slice(), HUNG);
+    let Ok(again) = read_journal(rt.alloc(), &text) else {
+        panic!(rt; "refused");
+    };
+    let written = write_journal(rt.alloc(), &again)?;
+    assert_eq!(rt; written.as_slice(), HUNG);
+    try_run(&rt, rt.alloc(), Engine::Check, &text, b"same\n", 0, "done")
 }

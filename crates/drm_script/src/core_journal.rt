@@ -1,0 +1,70 @@
+//! The journal of what a core did.
+
+ghost use Rattle.std.specs.Prelude.{◌≡◌, IfOk, map};
+ghost use Rattle.drm_fence.specs.Phases.{outcome_of as outcome_in};
+ghost use Rattle.drm_script.specs.Leaving.{left_by, told_of, journal_left};
+
+use crate::journal::{Journal, JournalJob};
+use drm_core::{Closed, Core, JobRecord, Phase};
+use drm_types::{Outcome, Sequence};
+use std::alloc::{AllocError, Global};
+
+/// How a job of this phase ended, if it has.
+fn outcome_of(phase: Phase) -> Option<Outcome>
+    ensures { result ≡ outcome_in phase }
+{
+    match phase {
+        Phase::Ended(outcome) => Some(outcome),
+        Phase::Queued | Phase::Scheduled => None,
+    }
+}
+
+impl JournalJob {
+    /// What a journal tells of an armed job.
+    pub fn of_record(armed: JobRecord) -> JournalJob
+        ensures { result ≡ told_of armed }
+    {
+        let JobRecord {
+            job,
+            phase,
+            ran,
+            ..
+        } = armed;
+        JournalJob {
+            job,
+            ran,
+            outcome: outcome_of(phase),
+        }
+    }
+}
+
+fn tell_records(
+    alloc: Global,
+    records: Sequence<JobRecord>,
+) -> Result<Sequence<JournalJob>, AllocError>
+    ensures { IfOk result (λ jobs. jobs ≡ map told_of records) }
+{
+    let jobs = records
+        .into_vec()
+        .into_iter()
+        .map(JournalJob::of_record)
+        .collect(alloc)?;
+    Ok(Sequence::from_vec(jobs))
+}
+
+impl Journal {
+    /// The journal of what the core did, whatever that was. The machine that runs its jobs one after another leaves
+    /// its last bytes, so a check of it finds no difference.
+    pub fn of_core(alloc: Global, core: Core) -> Result<Journal, AllocError>
+        ensures value { IfOk result (λ journal. journal ≡ journal_left core) }
+        ensures same { IfOk result (λ journal. left_by journal ≡ journal.finals) }
+    {
+        let Closed {
+            spec,
+            records,
+            buffers,
+        } = core.close();
+        let jobs = tell_records(alloc, records)?;
+        Ok(Journal::new(spec, jobs, buffers))
+    }
+}
