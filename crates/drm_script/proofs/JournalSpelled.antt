@@ -1,5 +1,5 @@
 -- The text of a journal is the lines of the grammar.
-use Rattle.std.proofs.Common.{◌≡◌, ℕ, ◌≤◌, List, [], ◌∷◌, ◌++◌, append_assoc, length, map, Some, None, Option, Ok, refl, sym, ap, ◌∙◌, inl}
+use Rattle.std.proofs.Common.{◌≡◌, ℕ, List, [], ◌∷◌, ◌++◌, append_assoc, map, Some, None, Option, refl, sym, ap, ◌∙◌, inl}
 use Rattle.std.specs.Prelude.{codes, flat_map}
 use Rattle.std.specs.List.{AllByRecursion, join_with_byte}
 use Rattle.std.specs.Fmt.{decimal}
@@ -22,10 +22,11 @@ use Rattle.drm_text.specs.Hexadecimal.{text_of_byte, text_of_bytes}
 use Rattle.drm_script.specs.declared.journal.JournalJob.{JournalJob}
 use Rattle.drm_script.specs.Answers.{numbers, separated}
 use Rattle.drm_script.specs.Grammar.{Line, Each, SpellsBuffer, declaration_word, fence_word, packet_word, job_words, ring_words, priority_word, entity_words, opening}
-use Rattle.drm_script.specs.Journal.{JournalParts, judge_journal}
-use Rattle.drm_script.specs.JournalGrammar.{status_word, record_words, final_words, end_words, JournalFits, SpellsJournal}
+use Rattle.drm_script.specs.Journal.{JournalParts, IsJournal}
+use Rattle.drm_script.specs.JournalGrammar.{status_word, record_words, final_words, end_words, HasBytes, DeviceFits, RecordFits, SpellsJournal, SpellsIfShort}
 use Rattle.drm_script.specs.JournalText.{line_of_bytes, text_of_priority, line_of_ring, line_of_entity, text_of_header, word_of_declaration, word_of_fence, pieces, word_of_packet, words_of_job, text_of_status, line_of_job, text_of_journal}
-use Rattle.drm_script.proofs.JournalReaders.{body_lines, journal_again}
+use Rattle.drm_script.proofs.Filled.{buffers_sized, as_sized, filled}
+use Rattle.drm_script.proofs.JournalReaders.{body_lines}
 
 -- words, each behind the separator
 abbrev behind : ℕ → List (List ℕ) → List ℕ
@@ -175,18 +176,17 @@ each_buffer : (buffers : List (List ℕ)) → AllByRecursion AreBytes buffers �
 each_buffer [] are = tt
 each_buffer (b ∷ buffers) are = (inl (refl, are.0), each_buffer buffers are.1)
 
--- what is written for a journal spells it, where its numbers are in their ranges
-pub written_spells : (text : List ℕ) (journal : JournalParts) → text ≡ text_of_journal journal → JournalFits journal → length text ≤ 1048576 → SpellsJournal text journal
+-- what is written for a journal spells it, where its numbers and bytes are of their types
+pub written_spells : (text : List ℕ) (journal : JournalParts) → text ≡ text_of_journal journal → IsJournal journal
+    → DeviceFits journal.spec → AllByRecursion RecordFits journal.jobs → AllByRecursion HasBytes journal.finals → SpellsIfShort text journal
 unfolding SpellsJournal
-written_spells text journal is fits short = (
-  journal_header journal.spec,
-  (map buffer_words journal.spec.buffers, each_buffer journal.spec.buffers fits.1.0, refl, fits.1.1, fits.1.2, fits.1.3, fits.0.0),
-  fits.0,
-  fits.2,
-  fits.3,
-  is ∙ journal_is journal,
-  short,
-)
-
-pub written_is_read : (text : List ℕ) (journal : JournalParts) → text ≡ text_of_journal journal → JournalFits journal → length text ≤ 1048576 → judge_journal text ≡ Ok journal
-written_is_read text journal is fits short = journal_again text journal (written_spells text journal is fits short)
+written_spells text journal is stands device jobs finals = λ short.
+    let sized = buffers_sized journal.spec stands.0 in (
+      journal_header journal.spec,
+      (map buffer_words journal.spec.buffers, each_buffer journal.spec.buffers (filled journal.spec.buffers sized device.0), refl, device.1, device.2, device.3, stands.0),
+      stands,
+      jobs,
+      filled journal.finals (as_sized journal.finals journal.spec.buffers stands.2 sized) finals,
+      is ∙ journal_is journal,
+      short,
+    )

@@ -1,5 +1,6 @@
 pub mod JournalReaders
 pub mod JournalSpelled
+pub mod Filled
 pub mod Known
 pub mod CommandReaders
 pub mod HeaderReaders

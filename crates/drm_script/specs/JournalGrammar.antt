@@ -1,5 +1,5 @@
 -- The grammar of journals: the words of their lines, and the order of the lines.
-use Rattle.std.specs.Prelude.{◌≡◌, ◌≤◌, ℕ, List, [], ◌∷◌, ◌++◌, length, map, codes, Option, Some, None, Ok}
+use Rattle.std.specs.Prelude.{◌≡◌, ◌<◌, ◌≤◌, ℕ, List, [], ◌∷◌, ◌++◌, length, map, codes, Option, Some, None, Ok}
 use Rattle.std.specs.List.{AllByRecursion}
 use Rattle.std.specs.Fmt.{decimal}
 use Rattle.drm_types.specs.declared.outcome.Outcome.{Outcome}
@@ -38,21 +38,20 @@ SpellsJournal text journal =
     × (text ≡ text_of_lines (header ++ (map record_words journal.jobs ++ map final_words journal.finals ++ end_words ∷ [])))
     × (length text ≤ 1048576)
 
+-- each of these is a byte
+abbrev pub HasBytes : List ℕ → Type 0
+HasBytes bytes = AllByRecursion (λ byte. byte < 256) bytes
+
 -- the numbers and bytes of a device are in the ranges of texts
 abbrev pub DeviceFits : DeviceSpec → Type 0
 DeviceFits spec =
-    AllByRecursion AreBytes spec.buffers × AllByRecursion RingFits spec.rings × AllByRecursion (λ entity. IsNumber entity.ring) spec.entities
+    AllByRecursion HasBytes spec.buffers × AllByRecursion RingFits spec.rings × AllByRecursion (λ entity. IsNumber entity.ring) spec.entities
     × IsNumber spec.max_jobs
 
--- it is a journal, and its numbers and bytes are in the ranges of texts
-abbrev pub JournalFits : JournalParts → Type 0
-JournalFits journal =
-    IsJournal journal × DeviceFits journal.spec × AllByRecursion RecordFits journal.jobs × AllByRecursion AreBytes journal.finals
-
--- a text that is no longer than texts are spells a journal whose numbers are in their ranges
-abbrev pub SpellsWhereItFits : List ℕ → JournalParts → Type 0
-SpellsWhereItFits text journal = JournalFits journal → length text ≤ 1048576 → SpellsJournal text journal
+-- a text that is no longer than texts are spells the journal
+abbrev pub SpellsIfShort : List ℕ → JournalParts → Type 0
+SpellsIfShort text journal = length text ≤ 1048576 → SpellsJournal text journal
 
 -- and is read as it
-abbrev pub IsReadWhereItFits : List ℕ → JournalParts → Type 0
-IsReadWhereItFits text journal = JournalFits journal → length text ≤ 1048576 → judge_journal text ≡ Ok journal
+abbrev pub IsReadIfShort : List ℕ → JournalParts → Type 0
+IsReadIfShort text journal = length text ≤ 1048576 → judge_journal text ≡ Ok journal

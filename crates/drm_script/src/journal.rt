@@ -62,9 +62,10 @@ impl Journal {
         Journal { spec, jobs, finals }
     }
 
-    /// The device.
+    /// The device. A caller learns here what holds of every journal.
     pub fn spec(&self) -> &DeviceSpec
-        ensures { result.now ≡ self.now.spec }
+        ensures value { result.now ≡ self.now.spec }
+        ensures stands { IsJournal self.now }
     {
         &self.spec
     }

@@ -1,7 +1,6 @@
 //! The engine `check`: compares what a journal's jobs leave with the last bytes that the journal tells.
 
 ghost use Rattle.std.specs.Prelude.{◌≡◌, IfOk};
-ghost use Rattle.drm_script.specs.Journal.{IsJournal};
 ghost use Rattle.drmsim.specs.Comparing.{Compares};
 ghost use Rattle.drmsim.specs.Journals.{Checks};
 ghost use Rattle.drm_script.specs.Leaving.{left_by};
@@ -15,7 +14,6 @@ use std::io::{Read, Write};
 
 /// Compares the buffers that a journal leaves with those that it tells.
 fn judge(alloc: Global, journal: &Journal) -> Result<Comparison, AllocError>
-    requires { IsJournal journal.now }
     ensures { IfOk result (λ found. Compares (left_by journal.now) journal.now.finals found) }
 {
     let buffers = run_journal(alloc, journal)?;

@@ -1,7 +1,6 @@
 //! What a journal leaves: the buffers of the machine that runs its jobs one after another.
 
 ghost use Rattle.std.specs.Prelude.{◌≡◌, length, map, IfOk};
-ghost use Rattle.drm_script.specs.Journal.{IsJournal};
 ghost use Rattle.drm_script.specs.Leaving.{left_by, turn_of};
 
 use drm_script::{Journal, JournalJob};
@@ -23,7 +22,6 @@ fn turns<'a>(alloc: Global, jobs: &'a [JournalJob]) -> Result<Vec<Turn<'a>>, All
 
 /// The buffers that the serial machine leaves, which begins with those of the header and takes the jobs as its turns.
 pub fn run_journal(alloc: Global, journal: &Journal) -> Result<Sequence<Sequence<u8>>, AllocError>
-    requires { IsJournal journal.now }
     ensures value { IfOk result (λ buffers. buffers ≡ left_by journal.now) }
     ensures sizes { IfOk result (λ buffers. map length buffers ≡ map length journal.now.finals) }
 {

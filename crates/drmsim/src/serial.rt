@@ -1,7 +1,6 @@
 //! The engine `serial`: from a journal to the buffers that its jobs leave when they run one after another.
 
 ghost use Rattle.std.specs.Prelude.{◌≡◌, IfOk};
-ghost use Rattle.drm_script.specs.Journal.{IsJournal};
 ghost use Rattle.drmsim.specs.Journals.{Serializes};
 ghost use Rattle.drm_script.specs.Leaving.{left_by};
 ghost use Rattle.drmsim.specs.Leaving.{text_of_buffers};
@@ -15,7 +14,6 @@ use std::io::{Read, Write};
 
 /// The lines of the buffers that a journal leaves.
 fn lines(alloc: Global, journal: &Journal) -> Result<Vec<u8>, AllocError>
-    requires { IsJournal journal.now }
     ensures { IfOk result (λ text. text.items ≡ text_of_buffers (left_by journal.now)) }
 {
     let buffers = run_journal(alloc, journal)?;

@@ -8,10 +8,10 @@ use Rattle.drmsim.proofs.leaving.run_journal.Goals as goal
 pub run-requires : goal.run-requires
 run-requires c =
     let turns : c.deref.result.now ≡ turns_of c.args.journal.now = c.deref.ensures.value ∙ c.in_ok-turns.ensures ∙ ap (map turn_of) c.jobs.ensures in
-    rw (turns, c.spec.ensures) (turns_fit c.args.journal.now c.requires)
+    rw (turns, c.spec.ensures.value) (turns_fit c.args.journal.now c.spec.ensures.stands)
 
 pub returns-clause-sizes : goal.returns-clause-sizes
 returns-clause-sizes c =
     let turns : c.deref.result.now ≡ turns_of c.args.journal.now = c.deref.ensures.value ∙ c.in_ok-turns.ensures ∙ ap (map turn_of) c.jobs.ensures in
-    let left : serial c.spec.result.now.buffers c.deref.result.now ≡ left_by c.args.journal.now = rw (turns, c.spec.ensures) refl in
-    IfOk-weaker c.run.result _ _ (λ buffers same. ap (λ (bs : List (List ℕ)). map length bs) (same ∙ left) ∙ left_sizes c.args.journal.now c.requires) c.run.ensures
+    let left : serial c.spec.result.now.buffers c.deref.result.now ≡ left_by c.args.journal.now = rw (turns, c.spec.ensures.value) refl in
+    IfOk-weaker c.run.result _ _ (λ buffers same. ap (λ (bs : List (List ℕ)). map length bs) (same ∙ left) ∙ left_sizes c.args.journal.now c.spec.ensures.stands) c.run.ensures
