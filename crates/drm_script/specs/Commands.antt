@@ -1,5 +1,5 @@
 -- Command lines: the events of a script.
-use Rattle.std.specs.Prelude.{ℕ, ◌+◌, ◌^◌, ◌-◌, List, [], ◌∷◌, ◌++◌, length, Option, Some, None, Result, Ok, IsTrue}
+use Rattle.std.specs.Prelude.{ℕ, Bool, true, false, ◌+◌, ◌^◌, ◌-◌, List, [], ◌∷◌, ◌++◌, length, Option, Some, None, Result, Ok, IsTrue}
 use Rattle.std.specs.List.{AllByRecursion}
 use Rattle.drm_core.specs.Names.{names_exist}
 use Rattle.drm_core.specs.declared.event.Event.{Event}
@@ -38,6 +38,25 @@ plan_at words =
     name_at 64 words >>= λ ctx.
     job_at ctx.1 >>= λ draft.
     Ok (event.Plan ctx.0 draft)
+
+-- whether a ring is what the command names
+abbrev pub names_ring : Command → Bool
+names_ring command.Pick = true
+names_ring command.Step = true
+names_ring command.Finish = true
+names_ring command.Timeout = true
+names_ring other = false
+
+-- whether the command names a context, and no job
+abbrev pub names_context : Command → Bool
+names_context command.Begin = true
+names_context command.Try = true
+names_context command.Done = true
+names_context command.Drop = true
+names_context command.End = true
+names_context command.Arm = true
+names_context command.Read = true
+names_context other = false
 
 -- the event that the words behind a command's name spell
 unfoldable pub event_at : DeviceSpec → Command → Words → Result Event Fault

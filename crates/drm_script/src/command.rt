@@ -3,7 +3,7 @@
 ghost use Rattle.std.specs.Prelude.{◌≡◌, ◌<◌, ◌≤◌, length, IfOk, IsTrue};
 ghost use Rattle.drm_core.specs.Names.{names_exist};
 ghost use Rattle.drm_text.specs.Reading.{Reads, Gives};
-ghost use Rattle.drm_script.specs.Commands.{context_and_buffer_at, ring_and_moment_at, command_of, event_at, event_line};
+ghost use Rattle.drm_script.specs.Commands.{context_and_buffer_at, ring_and_moment_at, names_ring, names_context, command_of, event_at, event_line};
 
 use crate::job::read_job;
 use drm_core::Event;
@@ -34,20 +34,45 @@ fn read_ring_and_moment(spec: &DeviceSpec, words: &mut Words) -> Result<(RingId,
     Ok((ring, now))
 }
 
+/// The event of a command that names a ring.
 #[tactic(auto, unfolding(crate::specs::Commands::event_at))]
-fn read_event(
-    alloc: Global,
-    spec: &DeviceSpec,
-    command: Command,
-    words: &mut Words,
-) -> Result<Event, ReadError>
-    ensures value { Gives (λ event. event) result (event_at spec.now command words.old) }
+fn read_ring_event(spec: &DeviceSpec, command: Command, words: &mut Words) -> Result<Event, Fault>
+    requires { IsTrue (names_ring command) }
+    ensures value { Reads (λ event. event) result (event_at spec.now command words.old) }
     ensures exist { IfOk result (λ event. IsTrue (names_exist spec.now event)) }
 {
     match command {
-        Command::Submit => Ok(Event::Submit {
-            draft: read_job(alloc, words)?,
+        Command::Pick => {
+            let (ring, now) = read_ring_and_moment(spec, words)?;
+            Ok(Event::Pick { ring, now })
+        }
+        Command::Step => Ok(Event::Step {
+            ring: words.last_name(spec.rings.len())?,
         }),
+        Command::Finish => {
+            let (ring, now) = read_ring_and_moment(spec, words)?;
+            Ok(Event::Finish { ring, now })
+        }
+        Command::Timeout => {
+            let (ring, now) = read_ring_and_moment(spec, words)?;
+            Ok(Event::Timeout { ring, now })
+        }
+        _ => unreachable!(),
+    }
+}
+
+/// The event of a command that names a context, and no job.
+#[tactic(auto, unfolding(crate::specs::Commands::event_at))]
+fn read_context_event(
+    spec: &DeviceSpec,
+    command: Command,
+    words: &mut Words,
+) -> Result<Event, Fault>
+    requires { IsTrue (names_context command) }
+    ensures value { Reads (λ event. event) result (event_at spec.now command words.old) }
+    ensures exist { IfOk result (λ event. IsTrue (names_exist spec.now event)) }
+{
+    match command {
         Command::Begin => Ok(Event::Begin {
             ctx: words.last_name(CONTEXTS)?,
         }),
@@ -65,27 +90,37 @@ fn read_event(
         Command::End => Ok(Event::End {
             ctx: words.last_name(CONTEXTS)?,
         }),
+        Command::Arm => Ok(Event::Arm {
+            ctx: words.last_name(CONTEXTS)?,
+        }),
+        Command::Read => {
+            let (ctx, buffer) = read_context_and_buffer(spec, words)?;
+            Ok(Event::Read { ctx, buffer })
+        }
+        _ => unreachable!(),
+    }
+}
+
+#[tactic(auto, unfolding(crate::specs::Commands::event_at))]
+fn read_event(
+    alloc: Global,
+    spec: &DeviceSpec,
+    command: Command,
+    words: &mut Words,
+) -> Result<Event, ReadError>
+    ensures value { Gives (λ event. event) result (event_at spec.now command words.old) }
+    ensures exist { IfOk result (λ event. IsTrue (names_exist spec.now event)) }
+{
+    match command {
+        Command::Submit => Ok(Event::Submit {
+            draft: read_job(alloc, words)?,
+        }),
         Command::Plan => Ok(Event::Plan {
             ctx: words.name(CONTEXTS)?,
             draft: read_job(alloc, words)?,
         }),
-        Command::Arm => Ok(Event::Arm {
-            ctx: words.last_name(CONTEXTS)?,
-        }),
-        Command::Pick => {
-            let (ring, now) = read_ring_and_moment(spec, words)?;
-            Ok(Event::Pick { ring, now })
-        }
-        Command::Step => Ok(Event::Step {
-            ring: words.last_name(spec.rings.len())?,
-        }),
-        Command::Finish => {
-            let (ring, now) = read_ring_and_moment(spec, words)?;
-            Ok(Event::Finish { ring, now })
-        }
-        Command::Timeout => {
-            let (ring, now) = read_ring_and_moment(spec, words)?;
-            Ok(Event::Timeout { ring, now })
+        Command::Pick | Command::Step | Command::Finish | Command::Timeout => {
+            Ok(read_ring_event(spec, command, words)?)
         }
         Command::Cancel => Ok(Event::Cancel {
             entity: words.last_name(spec.entities.len())?,
@@ -93,16 +128,13 @@ fn read_event(
         Command::Reap => Ok(Event::Reap {
             entity: words.last_name(spec.entities.len())?,
         }),
-        Command::Read => {
-            let (ctx, buffer) = read_context_and_buffer(spec, words)?;
-            Ok(Event::Read { ctx, buffer })
-        }
         Command::Fence => Ok(Event::Status {
             fence: words.last_number(u64::from(u32::MAX))? as u32,
         }),
         Command::Dump => Ok(Event::Dump {
             buffer: BufferId::new(words.last_name(spec.buffers.len())?),
         }),
+        _ => Ok(read_context_event(spec, command, words)?),
     }
 }
 
