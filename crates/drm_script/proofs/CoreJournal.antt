@@ -1,5 +1,5 @@
 -- What a core leaves is a journal.
-use Rattle.std.proofs.Common.{◌≡◌, ℕ, zero, suc, ◌+◌, ◌<◌, ◌≤◌, Bool, true, ◌&&◌, List, [], ◌∷◌, map, length, Some, None, Option, refl, sym, ap, subst, ◌∙◌, arith, slice_get, get_or}
+use Rattle.std.proofs.Common.{◌≡◌, ℕ, suc, ◌+◌, ◌<◌, ◌≤◌, Bool, true, ◌&&◌, List, [], ◌∷◌, map, length, Some, None, refl, sym, ap, subst, ◌∙◌, arith, slice_get, get_or}
 use Rattle.std.specs.Prelude.{Contains, IsTrue, is_none, nat_lt}
 use Rattle.std.specs.List.{list_all}
 use Rattle.std.proofs.lemmas.Bool.{and_from, lt-ltb, le-leb, eq-eqb}
@@ -8,7 +8,7 @@ use Rattle.std.proofs.lemmas.List.Sums.{list_all-from_AllPass}
 use Rattle.drm_types.specs.Limits.{spec_fault}
 use Rattle.drm_types.specs.declared.outcome.Outcome.TheVariants.{Good, Cancelled, Stopped}
 use Rattle.drm_types.specs.declared.spec.DeviceSpec.{DeviceSpec}
-use Rattle.drm_job.specs.Fault.{job_fault, IsJob}
+use Rattle.drm_job.specs.Fault.{IsJob}
 use Rattle.drm_job.specs.declared.Draft.{Draft}
 use Rattle.drm_fence.specs.Phases.{outcome_of, status_of}
 use Rattle.drm_fence.specs.declared.phase.Phase.{Phase}
@@ -16,10 +16,9 @@ use Rattle.drm_fence.specs.declared.phase.Phase.TheVariants.{Queued, Scheduled, 
 use Rattle.drm_serial.specs.Serial.{serial}
 use Rattle.drm_core.specs.declared.journal.JobRecord.{JobRecord}
 use Rattle.drm_core.specs.Headline.{IsTaken, Promises, TellsOutcome}
-use Rattle.drm_core.specs.Journal.{turns}
 use Rattle.drm_core.specs.State.{CoreState}
 use Rattle.drm_script.specs.declared.journal.JournalJob.{JournalJob}
-use Rattle.drm_script.specs.Journal.{JournalParts, AreRecords, IsJournal, is_job, is_record, has_place, may_have_run}
+use Rattle.drm_script.specs.Journal.{AreRecords, IsJournal, is_job, is_record, has_place, may_have_run}
 use Rattle.drm_script.specs.Leaving.{turn_of, left_by, told_of, journal_left}
 
 job_taken : (spec : DeviceSpec) (job : Draft) → IsJob spec job → is_job spec job ≡ true

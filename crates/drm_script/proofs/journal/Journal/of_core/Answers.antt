@@ -1,6 +1,6 @@
-use Rattle.std.proofs.Common.{◌≡◌, ◌∙◌, List, ℕ, sym, subst}
+use Rattle.std.proofs.Common.{◌≡◌, ◌∙◌, sym, subst}
 use Rattle.drm_script.specs.Journal.{JournalParts, IsJournal}
-use Rattle.drm_script.specs.Leaving.{left_by, journal_left}
+use Rattle.drm_script.specs.Leaving.{left_by}
 use Rattle.drm_script.proofs.CoreJournal.{core_is_journal, core_checks, parts_left}
 use Rattle.drm_script.proofs.journal.Journal.of_core.Goals as goal
 
