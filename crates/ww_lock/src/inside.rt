@@ -13,8 +13,9 @@ ghost use Rattle.ww_lock.specs.declared.board.Slot.TheVariants.{Gone};
 use crate::acquire::Acquire;
 use crate::board::{Board, Place, Slot, TaskChange};
 use crate::lifetime::Seat;
-use crate::steps::{SharedTable, enter, join, leave, look, post, read_back, settle, split};
+use crate::steps::{SharedTable, enter, join, leave, look, pause, post, read_back, settle, split};
 use crate::ward::Ward;
+use crossbeam_utils::Backoff;
 use drm_types::{BufferId, FenceId};
 use std::snapshot::Snapshot;
 use std::sync::Wait;
@@ -34,6 +35,7 @@ fn take_pivot<W: Ward, R: Wait>(
     ensures looked { (f x : ℕ) → In (f, x) place.old.me.0.looked → NotBack x (W.posted result f) }
     ensures busy { (t : W.Task) → place.old.me.0.task ≡ Some t → W.busy result t }
 {
+    let backoff = Backoff::new();
     for _ in rt.forever() {
         if enter(shared, place) == 0 {
             let Slot::Pivot(pivot) = shared.exchange(place, 0, Slot::Gone) else {
@@ -41,7 +43,7 @@ fn take_pivot<W: Ward, R: Wait>(
             };
             return pivot;
         }
-        shared.park(rt, 1, 1);
+        pause(shared, &backoff, 1, 1, rt);
     }
     unreachable!()
 }

@@ -7,8 +7,9 @@ ghost use Rattle.ww_lock.specs.Held.{HasAt};
 
 use crate::acquire::{Acquire, place_of};
 use crate::board::Board;
-use crate::steps::{bring, claim, pull, release};
+use crate::steps::{bring, claim, pause, pull, release};
 use crate::ward::Ward;
+use crossbeam_utils::Backoff;
 use drm_types::{BufferId, Ticket};
 use std::sync::Wait;
 
@@ -72,7 +73,8 @@ impl<W: Ward> Board<W> {
         }
     }
 
-    /// Locks a value (`ww_mutex_lock`). It waits for a younger holder, and for any holder where the caller holds nothing.
+    /// Locks a value (`ww_mutex_lock`). It waits for a younger holder, and for any holder where the caller holds nothing:
+    /// it tries a few times more, and then sleeps until the value is given back.
     pub fn lock<R: Wait>(
         &self,
         acquire: &mut Acquire<W::Pivot, W::Value, W::Task>,
@@ -83,6 +85,8 @@ impl<W: Ward> Board<W> {
         ensures holds { HoldsOutside self.now.table.shared.table_id acquire.new }
         ensures answers { AnswersLock buffer acquire.old acquire.new result }
     {
+        let backoff = Backoff::new();
+        let word = buffer.number() as usize + 2;
         for _ in rt.forever() {
             let Err(refusal) = self.try_lock(acquire, buffer) else {
                 return Ok(());
@@ -99,9 +103,7 @@ impl<W: Ward> Board<W> {
                 TryLockError::Younger { holder } => holder,
             };
             let low = (holder & 0xffff_ffff) as u32;
-            self.table
-                .shared
-                .park(rt, buffer.number() as usize + 2, low);
+            pause(&self.table.shared, &backoff, word, low, rt);
         }
         unreachable!()
     }
