@@ -1,0 +1,30 @@
+use Rattle.std.proofs.Common.{sym, subst, ◌≤◌}
+use denote.Param.Send.{IsSend, IsSync, sendable}
+use contract.Lifetimes.{Lfts}
+use denote.Param.{param}
+use denote.Builtin.{u64, unit}
+use Rattle.std.proofs.alloc.Global.TheSendSync as handle
+use Rattle.lock_bench.specs.contracts.threads.Job as Job
+use Rattle.lock_bench.specs.contracts.rounds.Counters as Counters
+use Rattle.lock_bench.specs.contracts.rounds.CountersWard.TheImpl.{ghosts as ward}
+use Rattle.lock_bench.specs.contracts.threads.run_jobs.{R-row}
+use Rattle.lock_bench.proofs.threads.run_jobs.Given.{Over}
+use Rattle.lock_bench.proofs.threads.run_jobs.Lts.{arg-0-4}
+use Rattle.ww_lock.specs.Threads.{IsIdle}
+use Rattle.ww_lock.proofs.Crosses.{seat_send, board_sync}
+use Rattle.lock_bench.proofs.threads.run_jobs.Goals as goal
+
+job_send : IsSend Job.the_row
+job_send = let s = seat_send u64 u64 unit (search sendable) (search sendable) in search sendable depth 20
+
+pub map_vec-requires-send-J : goal.map_vec-requires-send-J
+map_vec-requires-send-J g c κs within = let j = job_send in search sendable depth 20
+
+crossing : (g : Over) → IsSync (R-row g.row.R) → (κs : Lfts 9) → IsSync (param 4 (arg-0-4 g.row.R g.R.laws g.R.Threads-dict g.R.Wait-dict κs))
+crossing g y κs = let h = handle.the_field_sync in let b = board_sync u64 u64 unit (search sendable) (search sendable) Counters.the_row ward in search sendable depth 20
+
+pub map_vec-requires-sync-F : goal.map_vec-requires-sync-F
+map_vec-requires-sync-F g c κs within = crossing g c.type_bounds.sync-R κs
+
+pub map_vec-requires-after_bounds : goal.map_vec-requires-after_bounds
+map_vec-requires-after_bounds g c κs within i x l e = subst (λ j. IsIdle c.args.board.now.table.shared.table_id j.seat × (j.kind.locks ≤ c.args.board.now.buffers)) (sym e) (c.requires i x l)

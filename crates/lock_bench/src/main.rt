@@ -1,0 +1,52 @@
+//! lock_bench: what the lock of the device costs, on one thread and in threads.
+//!
+//! Each word `KIND:THREADS:ROUNDS` shares so many rounds among so many threads, and prints a sum. A round draws a ticket,
+//! locks, counts what it holds, gives it back and ends. `one` locks one value of sixteen, `all` locks all sixteen in an
+//! order of the thread's own, and `yielding` does that and yields the processor before it gives them back.
+//! `bench/lock/run` times it beside the same in plain Rust, whose sums are what the gate expects here.
+#![tactic(auto)]
+
+ghost use Rattle.std.specs.Prelude.{◌≤◌, IfSome};
+
+mod rounds;
+mod threads;
+
+use crate::threads::{Kind, sum_of_rounds};
+use std::{env, io};
+
+/// The kind of rounds that a word names.
+fn kind_of(word: &str) -> Option<Kind>
+    ensures { IfSome result (λ k. k.locks ≤ 16) }
+{
+    let (locks, yields) = match word {
+        "one" => (1, false),
+        "all" => (16, false),
+        "yielding" => (16, true),
+        _ => return None,
+    };
+    Some(Kind { locks, yields })
+}
+
+/// The words of one part: its kind, how many threads and how many rounds.
+fn parts_of(word: &str) -> Option<(&str, u64, u64)> {
+    let (kind, counts) = word.split_once(':')?;
+    let (threads, rounds) = counts.split_once(':')?;
+    Some((
+        kind,
+        threads.parse::<u64>().unwrap_or(1).min(64),
+        rounds.parse::<u64>().unwrap_or(0),
+    ))
+}
+
+fn main(rt: HostRuntime) -> io::Result<()> {
+    let words: Vec<String> = env::args(&rt)?.collect(rt.alloc())?;
+    for word in words.iter().skip(1) {
+        if let Some((name, threads, rounds)) = parts_of(word) {
+            if let Some(kind) = kind_of(name) {
+                let sum = sum_of_rounds(&rt, rt.alloc(), kind, threads, rounds)?;
+                println!(rt; "{name} {sum}")?;
+            }
+        }
+    }
+    Ok(())
+}

@@ -1,0 +1,161 @@
+//! The rounds of one thread.
+ghost use Rattle.std.specs.Prelude.{◌≡◌, ◌<◌, ℕ, All, [], IfOk, IfSome};
+ghost use Rattle.atomic_table.specs.Seated.{TableId};
+ghost use Rattle.std.specs.List.Sorted.{IsPermutation};
+ghost use Rattle.ww_lock.specs.Threads.{IsIdle, IsReady};
+
+use drm_types::BufferId;
+use std::alloc::{AllocError, Global};
+use std::sync::Wait;
+use std::thread;
+use ww_lock::{Acquire, BeginError, Board, LockError, Seat, Ward};
+
+/// Plain counters, beside a pivot that says nothing of them.
+pub(crate) struct Counters;
+
+impl Ward for Counters {
+    ghost use Rattle.ww_lock.specs.Sample.{still};
+
+    type Pivot = u64;
+
+    type Value = u64;
+
+    type Task = ();
+
+    ghost good = { λ _. Unit {0} };
+
+    ghost fits = { λ _ _ _. Unit {0} };
+
+    ghost grows = { λ _ _. Unit {0} };
+
+    ghost posted = { λ _ _. 0 };
+
+    ghost busy = { λ _ _. Unit {0} };
+
+    ghost reflexive = { λ _. tt };
+
+    ghost transitive = { λ _ _ _ _ _. tt };
+
+    ghost onward = { λ _ _ _ _. still 0 };
+}
+
+type Counting = Acquire<u64, u64, ()>;
+
+pub(crate) type CountingSeat = Seat<u64, u64, ()>;
+
+/// The buffers below `count`, in an order that the seed picks.
+pub(crate) fn order_of(alloc: Global, count: u32, seed: u64) -> Result<Vec<BufferId>, AllocError>
+    ensures { IfOk result (λ v. All (λ b. b < count) v.items) }
+{
+    let mut order = Vec::with_capacity(alloc, count as usize)?;
+    for number in 0..count {
+        order.push_reserved(BufferId::new(number));
+    }
+    shuffle(order.as_mut_slice(), seed);
+    Ok(order)
+}
+
+fn shuffle(order: &mut [BufferId], seed: u64)
+    ensures { IsPermutation order.old order.new }
+{
+    let mut state = seed;
+    for last in 1..order.len() {
+        state = state
+            .wrapping_mul(6364136223846793005)
+            .wrapping_add(1442695040888963407);
+        order.swap((state >> 33) as usize % (last + 1), last);
+    }
+}
+
+#[tactic(auto, using(ww_lock::proofs::Ready::locked))]
+// Locks each buffer of the order that is not held yet, or answers the one for which the caller has to back off.
+fn lock_others<R: Wait>(
+    board: &Board<Counters>,
+    acquire: &mut Counting,
+    order: &[BufferId],
+    rt: &R,
+) -> Option<BufferId>
+    requires ready { IsReady (λ _ _ _. Unit {0}) board.now.table.shared.table_id acquire.old }
+    requires order { All (λ b. b < board.now.buffers) order.now }
+    ensures ready { IsReady (λ _ _ _. Unit {0}) board.now.table.shared.table_id acquire.new }
+    ensures contended { IfSome result (λ b. b < board.now.buffers) }
+{
+    for &buffer in order {
+        match board.lock(acquire, buffer, rt) {
+            Ok(()) => {}
+            Err(LockError::Already) => {}
+            Err(LockError::Backoff { holder: _ }) => return Some(buffer),
+            Err(LockError::Sealed) => unreachable!(),
+        }
+    }
+    None
+}
+
+#[tactic(auto, using(ww_lock::proofs::Ready::released))]
+fn release_all(board: &Board<Counters>, acquire: &mut Counting)
+    requires { IsReady (λ _ _ _. Unit {0}) board.now.table.shared.table_id acquire.old }
+    ensures ready { IsReady (λ _ _ _. Unit {0}) board.now.table.shared.table_id acquire.new }
+    ensures empty { acquire.new.held.items ≡ [] }
+{
+    while acquire.held().len() > 0 {
+        let (buffer, _) = acquire.held()[0];
+        board.release(acquire, buffer);
+    }
+}
+
+#[tactic(auto, using(ww_lock::proofs::Ready::claimed))]
+// Locks all of the order, and begins anew with the one for which it had to back off.
+fn lock_all<R: Wait>(board: &Board<Counters>, acquire: &mut Counting, order: &[BufferId], rt: &R)
+    requires ready { IsReady (λ _ _ _. Unit {0}) board.now.table.shared.table_id acquire.old }
+    requires order { All (λ b. b < board.now.buffers) order.now }
+    ensures { IsReady (λ _ _ _. Unit {0}) board.now.table.shared.table_id acquire.new }
+{
+    for _ in rt.forever() {
+        let Some(contended) = lock_others(board, acquire, order, rt) else {
+            return;
+        };
+        release_all(board, acquire);
+        let Ok(()) = board.lock_slow(acquire, contended, rt) else {
+            unreachable!()
+        };
+    }
+    unreachable!()
+}
+
+// Counts each value that is held.
+fn count_held(acquire: &mut Counting)
+    ensures { (z : TableId) → IsReady (λ _ _ _. Unit {0}) z acquire.old → IsReady (λ _ _ _. Unit {0}) z acquire.new }
+{
+    for i in 0..acquire.held().len() {
+        let (buffer, _) = acquire.held()[i];
+        let value = acquire.value(buffer);
+        *value = value.wrapping_add(1);
+    }
+}
+
+/// Locks the buffers in this order, counts each, and gives them back. Without memory it does nothing.
+pub(crate) fn round<R: Wait>(
+    board: &Board<Counters>,
+    seat: CountingSeat,
+    order: &[BufferId],
+    yields: bool,
+    rt: &R,
+    alloc: Global,
+) -> CountingSeat
+    requires seat { IsIdle board.now.table.shared.table_id seat }
+    requires order { All (λ b. b < board.now.buffers) order.now }
+    ensures { IsIdle board.now.table.shared.table_id result }
+{
+    let mut acquire = match board.begin(seat, rt, alloc) {
+        Ok(acquire) => acquire,
+        Err(BeginError::Memory(seat)) => return seat,
+        Err(BeginError::TicketsOut(seat)) => return seat,
+    };
+    lock_all(board, &mut acquire, order, rt);
+    count_held(&mut acquire);
+    if yields {
+        thread::yield_now();
+    }
+    release_all(board, &mut acquire);
+    acquire.end()
+}
