@@ -1,34 +1,27 @@
 -- A context that may read is not refused, but for want of memory.
 use Rattle.std.proofs.Common.{◌≡◌, ℕ, zero, suc, ◌+◌, ◌<◌, Bool, true, false, cond, not, ◌==◌, List, [], ◌∷◌, map, set, Some, None, Option, refl, sym, ap, subst, ◌∙◌, inl, inr, ◌⊎◌, slice_get}
 use Rattle.std.specs.Option.{option_map_or}
-use Rattle.std.specs.Prelude.{option_and_then, option_map, nat_lt, length, is_none, find, filter}
-use Rattle.std.specs.List.{AllByRecursion, enumerate_from}
-use Rattle.std.proofs.lemmas.Bool.{cases_eq, cases_Bool, both_ways, eqb-true}
-use Rattle.std.proofs.lemmas.List.Elements.{All-weaker, recursion_from_All}
+use Rattle.std.specs.Prelude.{option_and_then, option_map, nat_lt, length, is_none, find}
+use Rattle.std.specs.List.{enumerate_from}
+use Rattle.std.proofs.lemmas.Bool.{cases_eq, both_ways, eqb-true}
 use Rattle.drm_types.specs.Firsts.{when, first_of}
-use Rattle.drm_types.specs.Usages.{is_as_strong}
-use Rattle.drm_types.specs.declared.access.Usage.TheVariants.{Write}
 use Rattle.drm_types.specs.declared.spec.DeviceSpec.{DeviceSpec}
 use Rattle.drm_buffer.specs.Memory.{bytes_of}
 use Rattle.drm_job.proofs.Within.{none_first}
-use Rattle.drm_fence.specs.Phases.{has_ended}
-use Rattle.drm_resv.specs.declared.entry.Entry.{Entry}
 use Rattle.drm_core.specs.declared.event.Answer.{Answer}
 use Rattle.drm_core.specs.declared.event.Answer.TheVariants as answer
 use Rattle.drm_core.specs.declared.event.Event.{Event}
 use Rattle.drm_core.specs.declared.event.Event.TheVariants as event
 use Rattle.drm_core.specs.declared.event.Refusal.TheVariants.{Busy, CtxIdle, Memory, NotHeld, StillHolds}
 use Rattle.drm_core.specs.State.{Context, CoreState, opened}
-use Rattle.drm_core.specs.Reservation.{is_signaled, IsOfJob}
 use Rattle.drm_core.specs.Context.{context_of, holder_of, holds, least_held, ticket_of, with_holder}
-use Rattle.drm_core.specs.Refusals.{plan_of, idle_refusal, not_held_refusal, read_refusal, early_refusal, least}
+use Rattle.drm_core.specs.Refusals.{plan_of, idle_refusal, not_held_refusal, read_refusal, early_refusal}
 use Rattle.drm_core.specs.Outcomes.{armed_core, context_changed, outcome_of_event}
 use Rattle.drm_core.specs.Run.{Run}
 use Rattle.drm_core.proofs.Readback.{writers_free}
 use Rattle.drm_core.specs.Step.{unless_refused, Step}
 use Rattle.drm_core.specs.Steady.{IsSteadyCore, begun_in, HoldersBegun}
-use Rattle.drm_core.specs.Headline.{is_writer, MayRead}
-use Rattle.drm_core.proofs.Records.{at_test}
+use Rattle.drm_core.specs.Headline.{MayRead}
 use Rattle.drm_core.proofs.Pairs.{get_set_other}
 use Rattle.drm_core.proofs.HeadlineSteps.{cases_step, at_cond, at_option}
 use Rattle.drm_core.proofs.HeadlineReads.{holds_in, get_set_here}

@@ -4,20 +4,16 @@ use Rattle.std.specs.Option.{option_map_or}
 use Rattle.std.specs.Prelude.{option_map, nat_lt, nat_le, length, pos, negsuc}
 use Rattle.std.proofs.lemmas.Bool.{both_ways, and_parts, ltb-true, leb-false}
 use Rattle.std.proofs.lemmas.Option.{slice_get_within}
-use Rattle.drm_types.specs.declared.access.Usage.{Usage}
-use Rattle.drm_types.specs.declared.access.Usage.TheVariants.{Write}
 use Rattle.drm_types.specs.declared.outcome.Outcome.TheVariants.{Good, Cancelled, Stopped}
 use Rattle.drm_types.specs.declared.spec.DeviceSpec.{DeviceSpec}
 use Rattle.drm_types.specs.declared.spec.RingSpec.{RingSpec}
-use Rattle.drm_types.specs.Usages.{is_as_strong}
 use Rattle.drm_buffer.specs.Memory.{bytes_of}
 use Rattle.drm_serial.specs.Serial.{serial}
 use Rattle.drm_job.specs.Fault.{IsJob}
 use Rattle.drm_job.proofs.Within.{none_first, none_when}
 use Rattle.drm_fence.specs.declared.phase.Phase.{Phase}
 use Rattle.drm_fence.specs.declared.phase.Phase.TheVariants.{Queued, Scheduled, Ended}
-use Rattle.drm_fence.specs.Phases.{has_ended, outcome_of, status_of}
-use Rattle.drm_resv.specs.Reservation.{Reservation}
+use Rattle.drm_fence.specs.Phases.{has_ended, status_of}
 use Rattle.drm_core.specs.declared.event.Answer.{Answer}
 use Rattle.drm_core.specs.declared.event.Answer.TheVariants as answer
 use Rattle.drm_core.specs.declared.event.Event.{Event}
@@ -26,7 +22,6 @@ use Rattle.drm_core.specs.declared.event.Refusal.TheVariants.{Memory, NotHeld, B
 use Rattle.drm_core.specs.declared.journal.JobRecord.{JobRecord}
 use Rattle.drm_core.specs.State.{CoreState, opened}
 use Rattle.drm_core.specs.Journal.{turns}
-use Rattle.drm_core.specs.Reservation.{usage_at, Fits}
 use Rattle.drm_core.specs.Ring.{used_credits}
 use Rattle.drm_core.specs.Outcomes.{outcome_of_event}
 use Rattle.drm_core.specs.Context.{holds}
@@ -34,7 +29,7 @@ use Rattle.drm_core.specs.Names.{names_exist}
 use Rattle.drm_core.specs.Order.{HasPlace}
 use Rattle.drm_core.specs.Refusals.{idle_refusal, not_held_refusal, read_refusal, busy_fence}
 use Rattle.drm_core.specs.Step.{Step}
-use Rattle.drm_core.specs.Run.{Run, LawfulRun, AllNamesExist}
+use Rattle.drm_core.specs.Run.{Run, AllNamesExist}
 use Rattle.drm_core.specs.Lawful.{HasRightOutcome, IsLawfulDevice}
 use Rattle.drm_core.specs.Steady.{IsSteadyCore, PlansHeld, HoldersBegun, JobsHavePlace}
 use Rattle.drm_core.specs.Headline.{serial_memory, serial_bytes, WritersEnded, MayRead, IsRefused, TellsOutcome, Promises, Headline}

@@ -46,6 +46,7 @@ pub mod Submitting
 pub mod Plans
 pub mod HeadlineSteps
 pub mod HeadlineReads
+pub mod DeviceGrows
 pub mod Places
 pub mod HeadlineGiven
 pub mod HeadlineKept

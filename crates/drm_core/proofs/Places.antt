@@ -1,7 +1,7 @@
 -- Each armed job has its place, and keeps it.
 use Rattle.std.proofs.Common.{◌≡◌, ℕ, ◌<◌, Bool, List, [], ◌∷◌, Some, None, Option, refl, sym, ap, subst, ◌∙◌, inl, inr, slice_get}
 use Rattle.std.specs.Option.{option_map_or}
-use Rattle.std.specs.Prelude.{option_map, nat_le, is_none, length, Contains, find, IsTrue}
+use Rattle.std.specs.Prelude.{option_map, nat_le, is_none, length, find, IsTrue}
 use Rattle.std.proofs.lemmas.Bool.{leb-false}
 use Rattle.std.proofs.lemmas.Option.{slice_get_within}
 use Rattle.drm_types.specs.Firsts.{when}

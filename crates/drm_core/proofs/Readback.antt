@@ -15,8 +15,7 @@ use Rattle.drm_resv.specs.Reservation.{Reservation}
 use Rattle.drm_fence.specs.declared.phase.Phase.{Phase}
 use Rattle.drm_fence.specs.declared.phase.Phase.TheVariants.{Queued, Scheduled, Ended}
 use Rattle.drm_fence.specs.Phases.{has_ended, outcome_of}
-use Rattle.drm_core.specs.Headline.{is_writer}
-use Rattle.drm_core.specs.Held.{HaveEnded}
+use Rattle.drm_core.specs.Headline.{is_writer, HaveEnded}
 use Rattle.drm_core.specs.Reservation.{usage_at, is_signaled, stands_for, IsOfJob, Fits}
 use Rattle.drm_core.specs.Refusals.{least, busy_fence}
 use Rattle.drm_core.specs.Lawful.{EachTwo, KeepsEntityOrder}

@@ -51,8 +51,12 @@ abbrev pub is_writer : Draft → ℕ → Bool
 is_writer job buffer = option_map_or (λ usage. is_as_strong usage Write) (usage_at buffer job) false
 
 -- every armed job that writes the buffer has its outcome
+abbrev pub HaveEnded : ℕ → List JobRecord → Type 0
+HaveEnded buffer journal =
+    (fence : ℕ) (r : JobRecord) → slice_get journal fence ≡ Some r → IsTrue (is_writer r.job buffer) → IsTrue (has_ended r.phase)
+
 abbrev pub WritersEnded : CoreState → ℕ → Type 0
-WritersEnded state buffer = (fence : ℕ) (r : JobRecord) → IsArmed state fence r → IsTrue (is_writer r.job buffer) → IsTrue (has_ended r.phase)
+WritersEnded state buffer = HaveEnded buffer state.device.journal
 
 -- a context may read a buffer: it holds it, and every armed job that writes it has its outcome
 pub record MayRead (state : CoreState) (ctx buffer : ℕ) : Type 0 where

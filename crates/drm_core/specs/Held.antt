@@ -1,12 +1,10 @@
 -- The reservations that are held at an arming, each with its buffer.
 use Rattle.std.specs.Prelude.{◌≡◌, ℕ, List, map, Some, slice_get, IsTrue}
 use Rattle.drm_types.specs.declared.access.Usage.{Usage}
-use Rattle.drm_fence.specs.Phases.{has_ended}
 use Rattle.drm_job.specs.declared.Draft.{Draft}
 use Rattle.drm_resv.specs.Reservation.{Reservation, WithRoom}
 use Rattle.drm_core.specs.declared.journal.JobRecord.{JobRecord}
 use Rattle.drm_core.specs.Arming.{armed_reservation}
-use Rattle.drm_core.specs.Headline.{is_writer}
 use Rattle.drm_core.specs.Reservation.{usage_at, Fits}
 
 -- what they keep, without their room
@@ -25,8 +23,3 @@ armed_held journal job held = map (λ h. (h.0, armed_reservation journal job h.0
 -- each fits the journal
 abbrev pub AllFit : List JobRecord → List (ℕ × Reservation) → Type 0
 AllFit journal held = (k : ℕ) (h : ℕ × Reservation) → slice_get held k ≡ Some h → Fits h.0 journal h.1
-
--- every armed job that writes the buffer has its outcome
-abbrev pub HaveEnded : ℕ → List JobRecord → Type 0
-HaveEnded buffer journal =
-    (fence : ℕ) (r : JobRecord) → slice_get journal fence ≡ Some r → IsTrue (is_writer r.job buffer) → IsTrue (has_ended r.phase)

@@ -8,7 +8,10 @@ ghost use Rattle.drm_core.specs.Answers.{picked, stepped, finished, timed_out};
 ghost use Rattle.drm_core.specs.Arming.{armed_device};
 ghost use Rattle.drm_core.specs.Building.{RefusesToBuild};
 ghost use Rattle.drm_core.specs.Cores.{DepsCover};
-ghost use Rattle.drm_core.specs.Held.{HaveRoom, kept_of, armed_held, AllFit, HaveEnded};
+ghost use Rattle.drm_core.specs.Grows.{Grows};
+ghost use Rattle.drm_core.specs.Lawful.{IsLawfulDevice};
+ghost use Rattle.drm_core.specs.Held.{HaveRoom, kept_of, armed_held, AllFit};
+ghost use Rattle.drm_core.specs.Headline.{HaveEnded};
 ghost use Rattle.drm_core.specs.Reservation.{Fits};
 ghost use Rattle.drm_core.specs.declared.event.Refusal.TheVariants as refusal;
 ghost use Rattle.drm_job.specs.Fault.{IsJob};
@@ -72,6 +75,8 @@ impl Device {
         requires there { ring < length self.old.spec.rings }
         ensures picked { IfOk result (λ p. (pick_refusal self.old ring ≡ None) × (pick_outcome self.old ring now ≡ (picked p, self.new))) }
         ensures refused { IfErr result (λ r. (pick_refusal self.old ring ≡ Some r) × (self.new ≡ self.old)) }
+        ensures lawful { IsLawfulDevice self.new }
+        ensures grows { Grows self.old self.new }
     {
         self.table.pick(ring, now)
     }
@@ -81,6 +86,8 @@ impl Device {
         requires there { ring < length self.old.spec.rings }
         ensures ran { IfOk result (λ s. (step_refusal self.old ring ≡ None) × (step_outcome self.old ring ≡ (stepped s, self.new))) }
         ensures refused { IfErr result (λ r. (step_refusal self.old ring ≡ Some r) × (self.new ≡ self.old)) }
+        ensures lawful { IsLawfulDevice self.new }
+        ensures grows { Grows self.old self.new }
     {
         self.table.step(ring)
     }
@@ -90,6 +97,8 @@ impl Device {
         requires there { ring < length self.old.spec.rings }
         ensures finished { IfOk result (λ f. (finish_refusal self.old ring ≡ None) × (finish_outcome self.old ring now ≡ (finished f, self.new))) }
         ensures refused { IfErr result (λ r. (finish_refusal self.old ring ≡ Some r) × (self.new ≡ self.old)) }
+        ensures lawful { IsLawfulDevice self.new }
+        ensures grows { Grows self.old self.new }
     {
         self.table.finish(ring, now)
     }
@@ -99,6 +108,8 @@ impl Device {
     pub fn timeout(&mut self, ring: RingId, now: Moment) -> Expired
         requires there { ring < length self.old.spec.rings }
         ensures expired { timeout_outcome self.old ring now ≡ (timed_out result, self.new) }
+        ensures lawful { IsLawfulDevice self.new }
+        ensures grows { Grows self.old self.new }
     {
         self.table.timeout(ring, now)
     }
@@ -108,6 +119,8 @@ impl Device {
         requires there { entity < length self.old.spec.entities }
         ensures stopped { OnOk result ((cancel_refusal self.old entity ≡ None) × (self.new ≡ cancelled_device self.old entity)) }
         ensures refused { IfErr result (λ r. (cancel_refusal self.old entity ≡ Some r) × (self.new ≡ self.old)) }
+        ensures lawful { IsLawfulDevice self.new }
+        ensures grows { Grows self.old self.new }
     {
         self.table.cancel(entity)
     }
@@ -118,6 +131,8 @@ impl Device {
         requires there { entity < length self.old.spec.entities }
         ensures reaped { IfOk result (λ f. (reap_refusal self.old entity ≡ None) × (reap_outcome self.old entity ≡ (answer.Reaped f, self.new))) }
         ensures refused { IfErr result (λ r. (reap_refusal self.old entity ≡ Some r) × (self.new ≡ self.old)) }
+        ensures lawful { IsLawfulDevice self.new }
+        ensures grows { Grows self.old self.new }
     {
         self.table.reap(entity)
     }
@@ -138,6 +153,8 @@ impl Device {
         ensures held { OnOk result (kept_of held.new.items ≡ armed_held self.old.journal plan.job (kept_of held.old.items)) }
         ensures fit { OnOk result (AllFit self.old.journal (kept_of held.old.items) → AllFit self.new.journal (kept_of held.new.items)) }
         ensures refused { IfErr result (λ back. (arm_refusal self.old plan.job ≡ Some back.1) × (back.0 ≡ plan) × (self.new ≡ self.old) × (held.new ≡ held.old)) }
+        ensures lawful { IsLawfulDevice self.new }
+        ensures grows { Grows self.old self.new }
     {
         if let Some(refusal) = self.table.arm_refusal(&plan.job) {
             return Err((plan, refusal));
@@ -171,9 +188,10 @@ impl Device {
         }
     }
 
-    /// The description that the device was built from. No event changes it.
+    /// The description that the device was built from, whose buffers it has. No event changes it.
     pub fn spec(&self) -> &DeviceSpec
-        ensures { result.now ≡ self.now.spec }
+        ensures value { result.now ≡ self.now.spec }
+        ensures buffers { length self.now.memory ≡ length self.now.spec.buffers }
     {
         &self.table.spec
     }

@@ -1,4 +1,4 @@
-use Rattle.std.proofs.Common.{◌≡◌, ◌<◌, ◌∙◌, sym, ap, refl, length, slice_get, Some, get_or, arith}
+use Rattle.std.proofs.Common.{◌≡◌, ◌∙◌, sym, refl, slice_get, Some, get_or, arith}
 use Rattle.std.proofs.lemmas.Option.{slice_get_within, slice_get-get_or}
 use Rattle.drm_fence.specs.Fences.{has_ended_at}
 use Rattle.drm_core.proofs.HeldFacts.{held_next}

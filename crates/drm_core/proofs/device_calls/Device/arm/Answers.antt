@@ -2,9 +2,11 @@ use Rattle.std.proofs.Common.{◌≡◌, ◌∙◌, ap, sym, subst, length}
 use Rattle.std.specs.Vec.{with_items}
 use Rattle.drm_fence.specs.Fences.{has_ended_at}
 use Rattle.drm_core.specs.Arming.{armed_device}
+use Rattle.drm_core.specs.Grows.{Grows}
 use Rattle.drm_core.specs.Held.{kept_of, armed_held, AllFit}
 use Rattle.drm_core.specs.State.{DeviceState}
 use Rattle.drm_core.specs.Tables.{state_of}
+use Rattle.drm_core.proofs.Growth.{arm_grows}
 use Rattle.drm_core.proofs.HeldFacts.{held_in_vector, held_after}
 use Rattle.drm_core.proofs.device_calls.Device.arm.Goals as goal
 
@@ -29,3 +31,6 @@ returns-clause-fit c =
     let new = (with_items v c.add_held_uses.new.held).items in
     subst (λ (d : DeviceState). AllFit d.journal (kept_of v.items) → AllFit (state_of c.arm.new.self).journal (kept_of new)) c.self.view_is
     (held_after (state_of t) (state_of c.arm.new.self) t.fences.list job v.items new c.self.invariant.fences c.self.invariant.steady.lawful.entities c.arm.ensures.armed uses).1
+
+pub returns-clause-grows : goal.returns-clause-grows
+returns-clause-grows c = subst (Grows c.args.self.now) (sym (c.arm.ensures.armed ∙ ap (λ (d : DeviceState). armed_device d c.args.plan.job) c.self.view_is)) (arm_grows c.args.self.now c.args.plan.job)

@@ -1,9 +1,6 @@
 use Rattle.std.proofs.Common.{◌≡◌, ◌∙◌, ap, sym, subst, Some, None}
-use Rattle.drm_resv.specs.Reservation.{Reservation}
-use Rattle.drm_core.specs.Held.{HaveEnded}
 use Rattle.drm_core.specs.Lawful.{EachTwo, KeepsEntityOrder}
 use Rattle.drm_core.specs.Refusals.{busy_fence}
-use Rattle.drm_core.specs.Reservation.{Fits}
 use Rattle.drm_core.specs.State.{DeviceState}
 use Rattle.drm_core.proofs.Readback.{writers_ended, writers_free}
 use Rattle.drm_core.proofs.device_calls.Device.read_into.Goals as goal
