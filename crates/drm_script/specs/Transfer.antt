@@ -1,5 +1,7 @@
 -- What is read from a reader, and what is written to a writer.
-use Rattle.std.specs.Prelude.{◌≡◌, ℕ, List, Option, Result, Ok, Err, IfSome, take}
+use Rattle.std.specs.Prelude.{◌≡◌, ◌≢◌, ℕ, List, Option, Result, Ok, Err, IfSome, take}
+use Rattle.std.specs.declared.io.ErrorKind.{ErrorKind}
+use Rattle.std.specs.declared.io.ErrorKind.TheVariants.{OutOfMemory}
 use Rattle.std.specs.Io.KnownBytes.{Appends}
 use Rattle.drm_text.specs.declared.fault.Fault.{Fault}
 use Rattle.drm_text.specs.declared.fault.ReadError.{ReadError}
@@ -14,11 +16,11 @@ IsReadOf judge known (Err (input.Fault fault)) = IfSome known (λ text. judge te
 IsReadOf judge known (Err input.Memory) = Unit {0}
 IsReadOf judge known (Err input.Failed) = Unit {0}
 
--- an error that says nothing of the text
-abbrev pub IsNoFault : InputError → Type 0
-IsNoFault (input.Fault fault) = ⊥
-IsNoFault input.Memory = Unit {0}
-IsNoFault input.Failed = Unit {0}
+-- what a read that failed so is told as: where memory was refused as that, and never as a fault of the text
+abbrev pub IsFailure : ErrorKind → InputError → Type 0
+IsFailure kind input.Memory = kind ≡ OutOfMemory
+IsFailure kind input.Failed = kind ≢ OutOfMemory
+IsFailure kind (input.Fault fault) = ⊥
 
 -- the same error
 abbrev pub input_error_of : ReadError → InputError

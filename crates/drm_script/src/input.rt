@@ -1,11 +1,12 @@
 //! From a reader to what its bytes spell.
 
 ghost use Rattle.std.specs.Prelude.{◌≡◌, List, None, take, IfOk, IfSome};
+ghost use Rattle.std.specs.IoError.{error_kind};
 ghost use Rattle.drm_types.specs.Limits.{spec_fault};
 ghost use Rattle.drm_script.specs.Commands.{AllNamesExist};
 ghost use Rattle.drm_script.specs.Journal.{IsJournal, judge_journal};
 ghost use Rattle.drm_script.specs.Script.{judge_script};
-ghost use Rattle.drm_script.specs.Transfer.{IsNoFault, IsReadOf, input_error_of};
+ghost use Rattle.drm_script.specs.Transfer.{IsFailure, IsReadOf, input_error_of};
 
 use crate::journal::{Journal, read_journal};
 use crate::script::{Script, read_script};
@@ -25,7 +26,7 @@ pub enum InputError {
 }
 
 impl From<io::Error> for InputError {
-    ghost from_gives = { λ _ e. IsNoFault e };
+    ghost from_gives = { λ e error. IsFailure (error_kind e) error };
 
     fn from(e: io::Error) -> InputError {
         if e.kind() == ErrorKind::OutOfMemory {

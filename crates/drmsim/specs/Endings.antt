@@ -1,5 +1,8 @@
 -- What the program tells of an ending.
-use Rattle.std.specs.Prelude.{ℕ, Bool, true, false}
+use Rattle.std.specs.Prelude.{ℕ, Bool, true, false, List, ◌++◌, codes}
+use Rattle.std.specs.Fmt.{decimal}
+use Rattle.drm_text.specs.Faults.{number_of_fault}
+use Rattle.drm_text.specs.declared.fault.Fault.TheVariants.{Text, Device}
 use Rattle.drm_script.specs.declared.input.InputError.{InputError}
 use Rattle.drm_script.specs.declared.input.InputError.TheVariants as input
 use Rattle.drmsim.specs.declared.ending.Ending.{Ending}
@@ -28,3 +31,14 @@ status_of (ending.Fault fault) = 2
 status_of ending.NoMemory = 3
 status_of ending.NoInput = 4
 status_of ending.NoOutput = 4
+
+-- what is printed of it
+abbrev pub text_of_ending : Ending → List ℕ
+text_of_ending ending.Done = codes "done"
+text_of_ending ending.Differs = codes "differs"
+text_of_ending (ending.Fault (Text line column what)) =
+    codes "line " ++ decimal line ++ codes " column " ++ decimal column ++ codes ": fault " ++ decimal (number_of_fault what)
+text_of_ending (ending.Fault (Device bad)) = codes "refused 1 " ++ decimal bad.part ++ codes " " ++ decimal bad.index
+text_of_ending ending.NoMemory = codes "out of memory"
+text_of_ending ending.NoInput = codes "input failed"
+text_of_ending ending.NoOutput = codes "output failed"

@@ -1,7 +1,7 @@
 //! How a run of an engine ended, and how the program tells it.
 
-ghost use Rattle.std.specs.Prelude.{◌≡◌};
-ghost use Rattle.drmsim.specs.Endings.{ending_of_input, is_told, status_of};
+ghost use Rattle.std.specs.Prelude.{◌≡◌, Some};
+ghost use Rattle.drmsim.specs.Endings.{ending_of_input, is_told, status_of, text_of_ending};
 
 use drm_script::{Fault, InputError};
 use drm_types::BadSpec;
@@ -58,6 +58,8 @@ impl Ending {
 }
 
 impl fmt::Display for Ending {
+    ghost output = { λ ending. Some (text_of_ending ending) };
+
     fn fmt<W: fmt::Write>(&self, f: &mut fmt::Formatter<W>) -> fmt::Result {
         match self {
             Ending::Done => write!(f, "done"),

@@ -7,6 +7,10 @@
 //! ending.
 #![tactic(auto)]
 
+ghost use Rattle.std.specs.Prelude.{◌≡◌};
+ghost use Rattle.std.specs.Process.{exit_status};
+ghost use Rattle.drmsim.specs.Endings.{status_of};
+
 mod check;
 mod command_line;
 mod comparison;
@@ -42,7 +46,9 @@ fn run(rt: &HostRuntime, engine: Engine) -> Ending {
 }
 
 /// Tells the ending on standard error, unless standard output has; nothing is left to do where that can't be written.
-fn tell(rt: &HostRuntime, ending: &Ending) -> ExitCode {
+fn tell(rt: &HostRuntime, ending: &Ending) -> ExitCode
+    ensures { exit_status result ≡ status_of ending.now }
+{
     if !ending.is_told() {
         eprintln!(rt; "{ending}").ok();
     }
