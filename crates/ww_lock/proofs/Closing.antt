@@ -1,18 +1,18 @@
 -- A board that is taken apart.
-use Rattle.std.proofs.Common.{◌≡◌, ◌≢◌, ℕ, ◌+◌, ◌<◌, ◌≤◌, zero, suc, List, [], ◌∷◌, ◌++◌, length, get_or, set, sym, refl, ap, ◌∙◌, subst, arith, Bool, false}
+use Rattle.std.proofs.Common.{◌≡◌, ◌≢◌, ℕ, ◌+◌, ◌<◌, ◌≤◌, zero, suc, List, [], ◌∷◌, ◌++◌, length, length-append, get_or, set, sym, refl, ap, ◌∙◌, subst, arith, Bool, false}
 use Rattle.std.specs.Prelude as plain
 use Rattle.std.specs.Prelude.{Some, None}
 use mathlib.Core.Logic.{dite}
-use mathlib.Core.Option.{some, some-injective, some-ne-none}
+use mathlib.Core.Option.{some, none, some-injective, some-ne-none}
 use native.Mathlib.Decide.{ℕ_discrete}
 use lib.ListN.{get_elem?}
-use Rattle.atomic_table.specs.Table.{Final, Seen}
+use Rattle.atomic_table.specs.Table.{State, Final, Seen}
 use Rattle.atomic_table.proofs.Lists.{at_map, at_last}
 use Rattle.ww_lock.specs.declared.board.View.{View}
 use Rattle.ww_lock.specs.declared.board.Slot.{Slot}
 use Rattle.ww_lock.specs.declared.board.Slot.TheVariants.{Pivot, Value}
 use Rattle.ww_lock.specs.Rule.{In, Keeps, pivot_of}
-use Rattle.ww_lock.specs.Lifetime.{FitsAll}
+use Rattle.ww_lock.specs.Lifetime.{FitsAll, AreHome, IsPivot}
 use Rattle.ww_lock.proofs.Trying.{value_or}
 use Rattle.ww_lock.proofs.Finding.{below}
 
@@ -47,6 +47,33 @@ more_back {P} {X} {T} ws xs out b o len back here i x e = dite (ℕ_discrete i b
 
 pub back_same : {P X T : Type 0} (ws ws' : List ℕ) (xs xs' : List (Slot P X T)) (out : List (plain.Option X)) → ws ≡ ws' → xs ≡ xs' → Back ws xs out → Back ws' xs' out
 back_same ws ws' xs xs' out d e back i x at = let b = back i x at in (ap (λ l. get_elem? l (i + 1)) (sym e) ∙ b.0, ap (λ l. get_elem? l (i + 2)) (sym d) ∙ b.1)
+
+-- each place whose word is 0 has its value
+abbrev pub Whole : {P X T : Type 0} → List ℕ → List (Slot P X T) → List (plain.Option X) → Type 0
+Whole {P} {X} {T} ws xs out = (i : ℕ) → i < length out → get_elem? ws (i + 2) ≡ some 0 → (x : X) × (get_elem? out i ≡ some (Some x)) × (get_elem? xs (i + 1) ≡ some (Value x))
+
+pub more_whole : {P X T : Type 0} (ws : List ℕ) (xs : List (Slot P X T)) (out : List (plain.Option X)) (b : ℕ) (o : plain.Option X) → length out ≡ b → Whole ws xs out
+    → (get_elem? ws (b + 2) ≡ some 0 → (x : X) × (o ≡ Some x) × (get_elem? xs (b + 1) ≡ some (Value x))) → Whole ws xs (out ++ o ∷ [])
+more_whole {P} {X} {T} ws xs out b o len whole here i low at_zero = dite (ℕ_discrete i b)
+    (λ same. let it = here (subst (λ k. get_elem? ws (k + 2) ≡ some 0) same at_zero) in (
+      it.0,
+      ap (get_elem? (out ++ o ∷ [])) same ∙ (at_last out o b len ∙ ap some it.1),
+      subst (λ k. get_elem? xs (k + 1) ≡ some (Value it.0)) (sym same) it.2,
+    ))
+    (λ ne. let q = length-append out (o ∷ []) in let it = whole i (omega arith) at_zero in (it.0, before out o i (omega arith) ∙ it.1, it.2)) where
+      before : {A : Type 0} (l : List A) (a : A) (j : ℕ) → j < length l → get_elem? (l ++ a ∷ []) j ≡ get_elem? l j
+      before [] a j low = absurd (omega arith)
+      before (y ∷ ys) a zero low = refl
+      before (y ∷ ys) a (suc j) low = before ys a j (omega arith)
+
+pub whole_same : {P X T : Type 0} (ws ws' : List ℕ) (xs xs' : List (Slot P X T)) (out : List (plain.Option X)) → ws ≡ ws' → xs ≡ xs' → Whole ws xs out → Whole ws' xs' out
+whole_same ws ws' xs xs' out d e whole = subst (λ l. Whole ws' l out) e (subst (λ l. Whole l xs out) d whole)
+
+-- what stands within a list
+at_within : (l : List ℕ) (i : ℕ) → i < length l → get_elem? l i ≡ some (get_or l i 0)
+at_within [] i low = absurd (omega arith)
+at_within (x ∷ xs) zero low = refl
+at_within (x ∷ xs) (suc i) low = at_within xs i (omega arith)
 
 pub set_false : (l : List Bool) (i : ℕ) → get_or (set l i false) i false ≡ false
 set_false [] i = refl
@@ -91,3 +118,37 @@ module _ {P X T : Type 0} (good : P → Type 0) (fits : ℕ → P → X → Type
             let one : t.0 ≡ x = ap (value_or x) (some-injective _ _ (sym t.1 ∙ b.0)) in
             subst (λ k. fits k p x) (let q : i ≡ 0 + i = omega arith in q) (subst (λ y. fits i p y) one (subst (λ u. fits i u t.0) same t.2))),
       )
+
+  -- the values that come back are those at home
+  pub gives_home : (e : Ended) (out : List (plain.Option X)) → length out + 1 ≡ length xs → Back ws xs out → Whole ws xs out → AreHome e.0 out
+  gives_home e out count back whole b x = (given, taken) where
+    s : State (Slot P X T) (View P X T)
+    s = e.0
+
+    given : get_elem? out b ≡ some (Some x) → get_elem? s.homes (b + 1) ≡ some (some (Value x))
+    given at =
+        let r = e.1.0 in let deep = r.deep in let len = e.3 in let low = below out b (Some x) at in let inside : b < r.n = omega arith in let it = back b x at in
+        let h = r.locks.home b inside (ap (λ l. get_or l (b + 2) 0) e.2 ∙ at_get ws (b + 2) 0 it.1) in
+        let one : h.0 ≡ x = ap (value_or x) (some-injective _ _ (sym (e.4 (b + 1) (Value h.0) h.1) ∙ it.0)) in
+        subst (λ y. get_elem? s.homes (b + 1) ≡ some (some (Value y))) one h.1
+
+    taken : get_elem? s.homes (b + 1) ≡ some (some (Value x)) → get_elem? out b ≡ some (Some x)
+    taken at =
+        let r = e.1.0 in let deep = r.deep in let wide = r.wide in let len = e.3 in let low = below s.homes (b + 1) (some (Value x)) at in let inside : b < r.n = omega arith in
+        dite (ℕ_discrete (get_or s.words (b + 2) 0) 0)
+        (λ zero_word.
+        let here : get_elem? ws (b + 2) ≡ some 0 =
+        ap (λ l. get_elem? l (b + 2)) (sym e.2) ∙ (at_within s.words (b + 2) (omega arith) ∙ ap some zero_word) in
+        let it = whole b (omega arith) here in
+        let one : it.0 ≡ x = ap (value_or x) (some-injective _ _ (sym it.2 ∙ e.4 (b + 1) (Value x) at)) in
+        it.1 ∙ ap (λ y. some (Some y)) one)
+        (λ ne. let gone = (r.locks.out b inside ne).0 in let never : some none ≡ some (some (Value x)) = sym gone ∙ at in absurd (some-ne-none _ (sym (some-injective _ _ never))))
+
+  -- the pivot that comes back is the one at home, and where none does it is out
+  pub gives_pivot : (e : Ended) (p : P) → get_elem? ws 1 ≡ some 0 → get_elem? xs 0 ≡ some (Pivot p) → IsPivot e.0 (Some p)
+  gives_pivot e p z here =
+      let same : shown_at e ≡ p = ap (pivot_or p) (some-injective _ _ (sym (home_pivot e z) ∙ here)) in
+      subst (λ q. get_elem? e.0.homes 0 ≡ some (some (Pivot q))) same (e.1.0.pivots.at_home (ap (λ l. get_or l 1 0) e.2 ∙ at_get ws 1 0 z))
+
+  pub pivot_is_out : (e : Ended) (n : ℕ) → get_elem? ws 1 ≡ some n → n ≢ 0 → IsPivot e.0 None
+  pivot_is_out e n at ne = (e.1.0.pivots.away (λ z. ne (sym (at_get ws 1 n at) ∙ (sym (ap (λ l. get_or l 1 0) e.2) ∙ z)))).1

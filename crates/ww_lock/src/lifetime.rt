@@ -1,7 +1,7 @@
 //! How a board is made and taken apart.
 ghost use Rattle.std.specs.Prelude.{◌≡◌, ◌<◌, ◌≤◌, ◌+◌, ◌^◌, ℕ, [], ◌∷◌, length, IfOk, OnErr, MatchResult, Option, Some, None, vec_len, vec_capacity, Result};
 ghost use Rattle.ww_lock.specs.Rule.{In, newcomer};
-ghost use Rattle.ww_lock.specs.Lifetime.{FitsAll, Filled, AllFit};
+ghost use Rattle.ww_lock.specs.Lifetime.{FitsAll, Filled, AllFit, TakesApart};
 ghost use Rattle.ww_lock.specs.Begun.{IsOutside, sees};
 
 use crate::board::{Board, Place, Slot, Start, Tables};
@@ -78,7 +78,8 @@ impl<W: Ward> Board<W> {
         ))
     }
 
-    /// Takes a board apart: the pivot, and each value into `out`, in order. A value that was out comes as `None`.
+    /// Takes a board apart: the pivot, and each value into `out`, in order. A value that was out comes as `None`, and a
+    /// pivot that was out is an error.
     pub fn close(
         self,
         seat: Seat<W::Pivot, W::Value, W::Task>,
@@ -87,6 +88,7 @@ impl<W: Ward> Board<W> {
         requires seat { seat.place.table_id ≡ self.table.shared.table_id }
         requires out { (out.old.items ≡ []) × (self.buffers ≤ vec_capacity out.old) }
         ensures pivot { MatchResult result (λ p. W.good p × ((q : W.Pivot) → In q seat.place.me.0.pivot.seen → W.grows q p) × FitsAll (λ b x. W.fits b p x) 0 out.new.items) (λ _. Unit {0}) }
+        ensures home { MatchResult result (λ p. TakesApart W.good W.fits W.grows W.posted W.busy self.posts seat.place.id seat.place.me.0 out.new.items (Some p)) (λ _. TakesApart W.good W.fits W.grows W.posted W.busy self.posts seat.place.id seat.place.me.0 out.new.items None) }
         ensures length { vec_len out.new ≡ self.buffers }
     {
         let Board {

@@ -3,9 +3,10 @@ use mathlib.Core.Logic.{dite}
 use native.Mathlib.Decide.{ℕ_discrete}
 use Rattle.std.specs.Mem.Slots.{slots_items, slots_filled, slots_counts}
 use lib.ListN.{get_elem?}
-use mathlib.Core.Option.{some}
+use mathlib.Core.Option.{some, some-injective}
 use Rattle.ww_lock.specs.declared.board.Slot.TheVariants.{Value}
-use Rattle.ww_lock.proofs.Closing.{value_at_home, pivot_at_home, comes_back, set_false, more_back, back_same, Back}
+use Rattle.ww_lock.specs.Lifetime.{TakesApart}
+use Rattle.ww_lock.proofs.Closing.{value_at_home, pivot_at_home, comes_back, set_false, more_back, back_same, Back, Whole, more_whole, whole_same, gives_home, gives_pivot, pivot_is_out}
 use Rattle.ww_lock.proofs.board.Board.close.Goals.{then-holder-eq0+in-Value, else-holder-eq0+in-Pivot-1, else-holder-eq0+in-Value-1, else-holder-eq0+in-Announced-1, else-holder-eq0+in-Gone-1}
 use Rattle.ww_lock.proofs.board.Board.close.Goals as goal
 
@@ -29,14 +30,18 @@ unreachable-requires-in_default-pivot g c = let w = g.W.Ward in let e = c.close_
 pub loop-b-preserved : goal.loop-b-preserved
 loop-b-preserved g c = let i = c.loop-b.invariant in let t = c.take-slot.ensures.others in let low = c.loop-b-test.true in let X = g.row.W-Value.Denot in
     let H : Option X → Type 0 = λ o. (x : X) → o ≡ Some x → (get_elem? (slots_items c.take-slot.new.self.slots) (c.loop-b.b + 1) ≡ some (Value x)) × (get_elem? (slots_items c.take-slot.new.self.words) (c.loop-b.b + 2) ≡ some 0) in
-    let N : Type 0 = (o : Option X) × (c.if-holder-eq0.out.items ≡ c.loop-b.out.items ++ o ∷ []) × (vec_capacity c.if-holder-eq0.out ≡ vec_capacity c.loop-b.out) × H o in
+    let K : Option X → Type 0 = λ o. get_elem? (slots_items c.take-slot.new.self.words) (c.loop-b.b + 2) ≡ some 0
+    → (x : X) × (o ≡ Some x) × (get_elem? (slots_items c.take-slot.new.self.slots) (c.loop-b.b + 1) ≡ some (Value x)) in
+    let N : Type 0 = (o : Option X) × (c.if-holder-eq0.out.items ≡ c.loop-b.out.items ++ o ∷ []) × (vec_capacity c.if-holder-eq0.out ≡ vec_capacity c.loop-b.out) × H o × K o in
+    let away : (c.word-holder.result ≡ 0 → ⊥) → K None = λ ne z.
+    absurd (ne (some-injective _ _ (sym c.word-holder.ensures ∙ (ap (λ ws. get_elem? (slots_items ws) (c.loop-b.b + 2)) (sym t.3) ∙ z)))) in
     let absent : H None = λ x e. absurd (cc (e)) in
     let next : N = elim c.if-holder-eq0.branch [
-      | then-holder-eq0+in-Value w ↦ (Some w.in-Value.value, ap (λ z. z.items) w.out-is ∙ w.push_reserved.ensures.items, ap vec_capacity w.out-is ∙ w.push_reserved.ensures.capacity, λ x e. (ap (λ z. get_elem? z (c.loop-b.b + 1)) t.0 ∙ (c.take-slot.ensures.value ∙ ap some (w.in-Value.is ∙ ap Value (some-of e))), ap (λ z. get_elem? (slots_items z) (c.loop-b.b + 2)) t.3 ∙ (c.word-holder.ensures ∙ ap some w.if-holder-eq0.true)))
-      | else-holder-eq0+in-Pivot-1 w ↦ (None, ap (λ z. z.items) w.out-is ∙ w.push_reserved-else-holder-eq0.ensures.items, ap vec_capacity w.out-is ∙ w.push_reserved-else-holder-eq0.ensures.capacity, absent)
-      | else-holder-eq0+in-Value-1 w ↦ (None, ap (λ z. z.items) w.out-is ∙ w.push_reserved-else-holder-eq0.ensures.items, ap vec_capacity w.out-is ∙ w.push_reserved-else-holder-eq0.ensures.capacity, absent)
-      | else-holder-eq0+in-Announced-1 w ↦ (None, ap (λ z. z.items) w.out-is ∙ w.push_reserved-else-holder-eq0.ensures.items, ap vec_capacity w.out-is ∙ w.push_reserved-else-holder-eq0.ensures.capacity, absent)
-      | else-holder-eq0+in-Gone-1 w ↦ (None, ap (λ z. z.items) w.out-is ∙ w.push_reserved-else-holder-eq0.ensures.items, ap vec_capacity w.out-is ∙ w.push_reserved-else-holder-eq0.ensures.capacity, absent)
+      | then-holder-eq0+in-Value w ↦ (Some w.in-Value.value, ap (λ z. z.items) w.out-is ∙ w.push_reserved.ensures.items, ap vec_capacity w.out-is ∙ w.push_reserved.ensures.capacity, λ x e. (ap (λ z. get_elem? z (c.loop-b.b + 1)) t.0 ∙ (c.take-slot.ensures.value ∙ ap some (w.in-Value.is ∙ ap Value (some-of e))), ap (λ z. get_elem? (slots_items z) (c.loop-b.b + 2)) t.3 ∙ (c.word-holder.ensures ∙ ap some w.if-holder-eq0.true)), λ z. (w.in-Value.value, refl, ap (λ ss. get_elem? ss (c.loop-b.b + 1)) t.0 ∙ (c.take-slot.ensures.value ∙ ap some w.in-Value.is)))
+      | else-holder-eq0+in-Pivot-1 w ↦ (None, ap (λ z. z.items) w.out-is ∙ w.push_reserved-else-holder-eq0.ensures.items, ap vec_capacity w.out-is ∙ w.push_reserved-else-holder-eq0.ensures.capacity, absent, away w.if-holder-eq0.false)
+      | else-holder-eq0+in-Value-1 w ↦ (None, ap (λ z. z.items) w.out-is ∙ w.push_reserved-else-holder-eq0.ensures.items, ap vec_capacity w.out-is ∙ w.push_reserved-else-holder-eq0.ensures.capacity, absent, away w.if-holder-eq0.false)
+      | else-holder-eq0+in-Announced-1 w ↦ (None, ap (λ z. z.items) w.out-is ∙ w.push_reserved-else-holder-eq0.ensures.items, ap vec_capacity w.out-is ∙ w.push_reserved-else-holder-eq0.ensures.capacity, absent, away w.if-holder-eq0.false)
+      | else-holder-eq0+in-Gone-1 w ↦ (None, ap (λ z. z.items) w.out-is ∙ w.push_reserved-else-holder-eq0.ensures.items, ap vec_capacity w.out-is ∙ w.push_reserved-else-holder-eq0.ensures.capacity, absent, away w.if-holder-eq0.false)
     ] in (
       t.3 ∙ i.0,
       t.0 ∙ i.1,
@@ -51,9 +56,34 @@ loop-b-preserved g c = let i = c.loop-b.invariant in let t = c.take-slot.ensures
       subst (Back (slots_items c.take-slot.new.self.words) (slots_items c.take-slot.new.self.slots)) (sym next.1)
           (more_back (slots_items c.take-slot.new.self.words) (slots_items c.take-slot.new.self.slots) c.loop-b.out.items c.loop-b.b next.0 i.6
           (back_same _ _ _ _ c.loop-b.out.items (ap slots_items (sym t.3)) (sym t.0) i.8) next.3),
+      subst (Whole (slots_items c.take-slot.new.self.words) (slots_items c.take-slot.new.self.slots)) (sym next.1)
+          (more_whole (slots_items c.take-slot.new.self.words) (slots_items c.take-slot.new.self.slots) c.loop-b.out.items c.loop-b.b next.0 i.6
+          (whole_same _ _ _ _ c.loop-b.out.items (ap slots_items (sym t.3)) (sym t.0) i.9) next.4),
     )
 
 pub returns-clause-pivot : goal.returns-clause-pivot
 returns-clause-pivot g c = let w = g.W.Ward in let i = c.loop-b.invariant in let e = c.close_with-closed.ensures in let t = c.take-pivot.ensures.others in let n = slots_counts c.close_with-closed.result.slots in let count = e.counts in
     comes_back w.good w.fits w.grows w.posted w.busy _ _ _ _ _ e.values.2 c.in-Pivot.pivot c.loop-b.out.items (let had = i.6 in let low = i.5 in let s₁ = c.args.self.sized in let s = s₁.2 in omega arith) (c.word-at.ensures ∙ ap some c.if-at-ne0.false) (c.take-pivot.ensures.value ∙ ap some c.in-Pivot.is)
     (back_same _ _ _ _ c.loop-b.out.items (ap slots_items (i.0 ∙ t.3)) (i.1 ∙ t.0) i.8)
+
+pub returns-clause-home : goal.returns-clause-home
+returns-clause-home g c = let w = g.W.Ward in let i = c.loop-b.invariant in let e = c.close_with-closed.ensures in let t = c.take-pivot.ensures.others in let n = slots_counts c.close_with-closed.result.slots in let s = c.args.self.sized in
+    let back = back_same _ _ _ _ c.loop-b.out.items (ap slots_items (i.0 ∙ t.3)) (i.1 ∙ t.0) i.8 in
+    let whole = whole_same _ _ _ _ c.loop-b.out.items (ap slots_items (i.0 ∙ t.3)) (i.1 ∙ t.0) i.9 in
+    subst (λ k. TakesApart w.good w.fits w.grows w.posted w.busy k c.args.seat.place.id c.args.seat.place.me.0 c.loop-b.out.items (Some c.in-Pivot.pivot)) s.1 (
+      e.values.2.0,
+      e.values.2.1,
+      gives_home w.good w.fits w.grows w.posted w.busy _ _ _ _ _ e.values.2 c.loop-b.out.items (let had = i.6 in let low = i.5 in let last = c.loop-b-test.false in let count = e.counts.1 in let size = s.2 in omega arith) back whole,
+      gives_pivot w.good w.fits w.grows w.posted w.busy _ _ _ _ _ e.values.2 c.in-Pivot.pivot (c.word-at.ensures ∙ ap some c.if-at-ne0.false) (c.take-pivot.ensures.value ∙ ap some c.in-Pivot.is),
+    )
+
+pub returns-then-at-ne0-clause-home : goal.returns-then-at-ne0-clause-home
+returns-then-at-ne0-clause-home g c = let w = g.W.Ward in let i = c.loop-b.invariant in let e = c.close_with-closed.ensures in let t = c.take-pivot.ensures.others in let n = slots_counts c.close_with-closed.result.slots in let s = c.args.self.sized in
+    let back = back_same _ _ _ _ c.loop-b.out.items (ap slots_items (i.0 ∙ t.3)) (i.1 ∙ t.0) i.8 in
+    let whole = whole_same _ _ _ _ c.loop-b.out.items (ap slots_items (i.0 ∙ t.3)) (i.1 ∙ t.0) i.9 in
+    subst (λ k. TakesApart w.good w.fits w.grows w.posted w.busy k c.args.seat.place.id c.args.seat.place.me.0 c.loop-b.out.items None) s.1 (
+      e.values.2.0,
+      e.values.2.1,
+      gives_home w.good w.fits w.grows w.posted w.busy _ _ _ _ _ e.values.2 c.loop-b.out.items (let had = i.6 in let low = i.5 in let last = c.loop-b-test.false in let count = e.counts.1 in let size = s.2 in omega arith) back whole,
+      pivot_is_out w.good w.fits w.grows w.posted w.busy _ _ _ _ _ e.values.2 c.word-at.result c.word-at.ensures c.if-at-ne0.true,
+    )

@@ -16,3 +16,5 @@ invariant-loop-b g l =
     × (length l.out.items ≡ l.b)
     × (l.buffers ≤ vec_capacity l.out)
     × ((i : ℕ) (x : g.row.W-Value.Denot) → get_elem? l.out.items i ≡ some (Some x) → (get_elem? (slots_items l.closed.slots) (i + 1) ≡ some (Value x)) × (get_elem? (slots_items l.closed.words) (i + 2) ≡ some 0))
+    × ((i : ℕ) → i < length l.out.items → get_elem? (slots_items l.closed.words) (i + 2) ≡ some 0
+    → (x : g.row.W-Value.Denot) × (get_elem? l.out.items i ≡ some (Some x)) × (get_elem? (slots_items l.closed.slots) (i + 1) ≡ some (Value x)))
