@@ -19,6 +19,7 @@ use Rattle.drm_job.specs.Fault.{job_tests, IsJob}
 use Rattle.drm_job.proofs.Within.{none_first, none_at, none_when}
 use Rattle.drm_fence.specs.declared.phase.Phase.TheVariants.{Queued}
 use Rattle.drm_fence.specs.Fences.{Fences}
+use Rattle.drm_entity.specs.Rows.{EntityRows, pushed}
 use Rattle.drm_core.specs.declared.journal.JobRecord.{JobRecord}
 use Rattle.drm_core.specs.declared.table.Table.{Table}
 use Rattle.drm_core.specs.declared.event.Refusal.TheVariants.{Stopped, Full, NoFence}
@@ -28,13 +29,15 @@ use Rattle.drm_core.specs.Refusals.{arm_refusal}
 use Rattle.drm_core.specs.Ring.{is_stopped}
 use Rattle.drm_core.specs.Steady.{IsSteady}
 use Rattle.drm_core.specs.Waits.{IsDependency, DepsStand}
-use Rattle.drm_core.specs.Plain.{WaitsStand}
+use Rattle.drm_core.specs.Plain.{marks, WaitsStand, QueuesStand}
 use Rattle.drm_core.specs.Tables.{state_of, fence_of, IsWhole}
 use Rattle.drm_core.specs.Cores.{MeetsPlan, DepsCover, all_named, entity_at}
 use Rattle.drm_core.proofs.PickLawful.{get_push_cases}
 use Rattle.drm_core.proofs.PickDone.{spec_tests}
 use Rattle.drm_core.proofs.ArmLawful.{arm_steady, get_before_push}
 use Rattle.drm_core.proofs.DeviceSteps.{not_when}
+use Rattle.drm_core.proofs.TableFacts.{entity_row_there}
+use Rattle.drm_core.proofs.Queues.{row_at, marks_pushed, stands_pushed}
 use Rattle.drm_core.proofs.Notes.{Reaches, each_keeps, each_reaches, each_all}
 
 -- an entity of a job is below 64
@@ -176,22 +179,26 @@ waits_armed d job deps waits new stand of_job cover may = record {
 }
 
 -- the tables after the arming
-abbrev pub armed_tables : Table → Vec JobRecord Global → Vec (List (ℕ × ℕ)) Global → Fences → Table
-armed_tables t journal waits fences = record t { journal = journal; waits = waits; fences = fences }
+abbrev pub armed_tables : Table → Vec JobRecord Global → Vec (List (ℕ × ℕ)) Global → Fences → EntityRows → Table
+armed_tables t journal waits fences entities = record t { journal = journal; waits = waits; fences = fences; entities = entities }
 
-pub arm_done : (t : Table) (job : Draft) (deps : List (ℕ × ℕ)) (ring : ℕ) (journal : Vec JobRecord Global) (waits : Vec (List (ℕ × ℕ)) Global) (fences : Fences) → IsWhole t
+pub arm_done : (t : Table) (job : Draft) (deps : List (ℕ × ℕ)) (ring : ℕ) (journal : Vec JobRecord Global) (waits : Vec (List (ℕ × ℕ)) Global) (fences : Fences) (entities : EntityRows) → IsWhole t
     → IsJob t.spec job → DepsCover (state_of t) job deps → arm_refusal (state_of t) job ≡ None → ring ≡ ring_of (state_of t) job.entity
     → journal.items ≡ t.journal.items ++ record (new_record (state_of t) job) { ring = ring } ∷ []
     → waits.items ≡ t.waits.items ++ all_named t.journal.items deps job.after ∷ []
     → fences.list ≡ t.fences.list ++ record { phase = Queued; ran = 0 } ∷ [] → vec_capacity journal ≡ vec_capacity t.journal → vec_capacity waits ≡ vec_capacity t.waits
-    → fences.places ≡ t.fences.places
-    → (state_of (armed_tables t journal waits fences) ≡ armed_device (state_of t) job) × IsWhole (armed_tables t journal waits fences)
-arm_done t job deps ring journal waits fences w is_job cover may ring_is items waits_are list room waits_room places =
+    → fences.places ≡ t.fences.places → entities ≡ pushed t.entities job.entity (length t.journal.items)
+    → (state_of (armed_tables t journal waits fences entities) ≡ armed_device (state_of t) job) × IsWhole (armed_tables t journal waits fences entities)
+arm_done t job deps ring journal waits fences entities w is_job cover may ring_is items waits_are list room waits_room places queued =
     let d = state_of t in
     let new = new_record d job in
     let arms = may_arm d job may in
     let items_are : journal.items ≡ t.journal.items ++ new ∷ [] = items ∙ ap (λ n. t.journal.items ++ record new { ring = n } ∷ []) ring_is in
-    let state : state_of (armed_tables t journal waits fences) ≡ armed_device d job = ap (λ js. let s : DeviceState = record d { journal = js } in s) items_are in (
+    let row = row_at t.entities.rows job.entity (entity_row_there t job.entity w (few_entities t.spec job w.limits is_job).0) in
+    let marks_same : marks entities ≡ marks t.entities = ap marks queued ∙ marks_pushed t.entities job.entity (length t.journal.items) row.0 row.1 in
+    let state : state_of (armed_tables t journal waits fences entities) ≡ armed_device d job =
+    ap (λ es. let s : DeviceState = record d { journal = journal.items; entities = es } in s) marks_same
+    ∙ ap (λ js. let s : DeviceState = record d { journal = js } in s) items_are in (
       state,
       record {
         steady = subst IsSteady (sym state) (arm_steady d job w.steady is_job);
@@ -201,11 +208,15 @@ arm_done t job deps ring journal waits fences w is_job cover may ring_is items w
             ∙ (sym (map-append fence_of t.journal.items (new ∷ [])) ∙ ap (map fence_of) (sym items_are)));
         waits = subst (λ ws. WaitsStand journal.items ws) (sym waits_are)
             (subst (λ js. WaitsStand js (t.waits.items ++ all_named t.journal.items deps job.after ∷ [])) (sym items_are) (waits_armed d job deps t.waits.items new w.waits refl cover arms));
+        queues = subst (QueuesStand journal.items) (sym queued)
+            (subst (λ js. QueuesStand js (pushed t.entities job.entity (length t.journal.items))) (sym items_are)
+            (stands_pushed t.journal.items new t.entities job.entity row.0 row.1 refl refl w.queues));
         sizes = w.sizes;
         rooms = record {
           jobs = subst (λ n. t.spec.max_jobs ≤ n) (sym room) w.rooms.jobs;
           waits = subst (λ n. t.spec.max_jobs ≤ n) (sym waits_room) w.rooms.waits;
           places = places ∙ w.rooms.places;
+          queues = ap (λ (e : EntityRows). e.places) queued ∙ w.rooms.queues;
           pending = w.rooms.pending;
         };
       },

@@ -9,9 +9,8 @@ use Rattle.drm_types.specs.declared.spec.Priority.{Priority}
 use Rattle.drm_types.specs.Firsts.{first}
 use Rattle.drm_types.specs.Priorities.{rank_of}
 use Rattle.drm_core.specs.declared.journal.JobRecord.{JobRecord}
-use Rattle.drm_core.specs.declared.device.EntityState.{EntityState}
 use Rattle.drm_core.specs.declared.choice.Key.{Key}
-use Rattle.drm_core.specs.State.{DeviceState}
+use Rattle.drm_core.specs.State.{EntityState, DeviceState}
 use Rattle.drm_core.specs.Choice.{queue_of, is_head_of, may_begin, choice}
 use Rattle.drm_core.specs.Keys.{IsHeadKey, comes_before}
 use Rattle.drm_core.specs.Plain.{IsReady, IsCandidate, IsBest, better_key}

@@ -13,9 +13,8 @@ use Rattle.drm_fence.specs.declared.phase.Phase.{Phase}
 use Rattle.drm_fence.specs.declared.phase.Phase.TheVariants.{Queued, Scheduled, Ended}
 use Rattle.drm_fence.specs.Phases.{is_queued, has_ended}
 use Rattle.drm_core.specs.declared.journal.JobRecord.{JobRecord}
-use Rattle.drm_core.specs.declared.device.EntityState.{EntityState}
 use Rattle.drm_core.specs.declared.choice.Key.{Key}
-use Rattle.drm_core.specs.State.{DeviceState}
+use Rattle.drm_core.specs.State.{EntityState, DeviceState}
 use Rattle.drm_core.specs.Journal.{numbered, is_at}
 use Rattle.drm_core.specs.Order.{is_met, is_ready}
 use Rattle.drm_core.specs.Choice.{queue_of, is_head_of}

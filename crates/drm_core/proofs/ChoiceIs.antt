@@ -80,6 +80,7 @@ pub record IsChosen (d : DeviceState) (ring f : ℕ) (r : JobRecord) : Type 0 wh
   pub at : slice_get d.journal f ≡ Some r
   pub on_ring : r.ring ≡ ring
   pub queued : is_queued r.phase ≡ true
+  pub is_head : is_head_of r.job.entity d.journal f ≡ true
   pub is_first : (i : ℕ) (x : JobRecord) → i < f → slice_get d.journal i ≡ Some x → x.job.entity ≡ r.job.entity → is_queued x.phase ≡ false
   pub met : (i : ℕ) (x : JobRecord) → i < f → slice_get d.journal i ≡ Some x → comes_after r.job i x.job ≡ true → is_met r.ring x ≡ true
 
@@ -142,6 +143,7 @@ chosen_of d ring f priority c =
         at = at;
         on_ring = eqb-true n.0.1.ring ring one.0;
         queued = queue.0;
+        is_head = head;
         is_first = queue.1;
         met = λ i x lt at_i comes.
             all_of_filter

@@ -8,7 +8,8 @@ use Rattle.std.proofs.lemmas.Bool.{cases_Bool}
 use Rattle.drm_types.specs.Firsts.{first}
 use Rattle.drm_types.specs.declared.outcome.Outcome.{Outcome}
 use Rattle.drm_fence.specs.Fences.{Fences}
-use Rattle.drm_fence.specs.Phases.{has_ended}
+use Rattle.drm_fence.specs.declared.phase.Phase.TheVariants.{Ended}
+use Rattle.drm_fence.specs.Phases.{is_queued, has_ended}
 use Rattle.drm_core.specs.declared.journal.JobRecord.{JobRecord}
 use Rattle.drm_core.specs.declared.table.RingRow.{RingRow}
 use Rattle.drm_core.specs.declared.table.Table.{Table}
@@ -17,8 +18,10 @@ use Rattle.drm_core.specs.Journal.{is_at, is_complete}
 use Rattle.drm_core.specs.Ring.{head_of, ring_changed}
 use Rattle.drm_core.specs.Refusals.{finish_refusal}
 use Rattle.drm_core.specs.Outcomes.{final_outcome, ended_at, finish_outcome, finished_device}
+use Rattle.drm_core.specs.Plain.{QueuesStand}
 use Rattle.drm_core.specs.Tables.{state_of, fence_of, ring_of_row, popped_at, ending, IsWhole}
-use Rattle.drm_core.proofs.Records.{at_test}
+use Rattle.drm_core.proofs.Records.{at_test, changed_is}
+use Rattle.drm_core.proofs.Queues.{stands_set}
 use Rattle.drm_core.proofs.FinishLawful.{IsHead, head_is}
 use Rattle.drm_core.proofs.DeviceSteps.{IsKept, finish_kept}
 use Rattle.drm_core.proofs.TableFacts.{rings_tie, rooms_kept, row_pending, whole_kept}
@@ -84,6 +87,10 @@ finish_done t ring now f outcome r journal fences row new w there is may items t
     let d = state_of t in
     let rings = rings_tie t.rings.items ring row new (popped_at now) at row_is in
     let left : Left = (answer.Finished f outcome, state_of (finished_tables t ring journal fences new)) in
+    let ended : JobRecord = record r { phase = Ended outcome } in
+    let queues : QueuesStand journal.items t.entities =
+    subst (λ js. QueuesStand js t.entities) (sym (items ∙ changed_is t.journal.items f r (λ r. record r { phase = Ended outcome }) may.head.at))
+    (stands_set t.journal.items f r ended t.entities may.head.at refl (sym (ap is_queued may.head.phase)) w.queues) in
     let ends : finish_outcome d ring now ≡ left =
     finish_ends d ring now f r is may.head.at
     ∙ (ap (λ o. let q : Left = (answer.Finished f o, finished_device d ring now f o) in q) (sym may.ends)
@@ -93,6 +100,6 @@ finish_done t ring now f outcome r journal fences row new w there is may items t
       ends,
       whole_kept t (finished_tables t ring journal fences new) w
           (subst (λ (q : Left). IsKept d q.1) ends (finish_kept d ring now w.steady there (finish_may d ring f r is may.head.at may.complete)))
-          tied refl refl
-          (rooms_kept t (finished_tables t ring journal fences new) ring row new w.rooms refl refl at row_room room refl places),
+          tied refl queues refl
+          (rooms_kept t (finished_tables t ring journal fences new) ring row new w.rooms refl refl at row_room room refl places refl),
     )

@@ -9,8 +9,7 @@ use Rattle.drm_job.specs.declared.Draft.{Draft}
 use Rattle.drm_fence.specs.declared.phase.Phase.{Phase}
 use Rattle.drm_fence.specs.declared.phase.Phase.TheVariants.{Queued, Scheduled, Ended}
 use Rattle.drm_core.specs.declared.journal.JobRecord.{JobRecord}
-use Rattle.drm_core.specs.declared.device.EntityState.{EntityState}
-use Rattle.drm_core.specs.State.{DeviceState}
+use Rattle.drm_core.specs.State.{EntityState, DeviceState}
 use Rattle.drm_core.specs.Journal.{is_complete, changed_at}
 use Rattle.drm_fence.specs.Phases.{is_queued, is_scheduled, has_ended}
 use Rattle.drm_core.specs.Arming.{new_record, armed_device}

@@ -9,8 +9,7 @@ use Rattle.drm_serial.specs.Serial.{serial}
 use Rattle.drm_fence.specs.declared.phase.Phase.{Phase}
 use Rattle.drm_fence.specs.declared.phase.Phase.TheVariants.{Queued, Scheduled, Ended}
 use Rattle.drm_core.specs.declared.journal.JobRecord.{JobRecord}
-use Rattle.drm_core.specs.declared.device.EntityState.{EntityState}
-use Rattle.drm_core.specs.State.{RingState, DeviceState}
+use Rattle.drm_core.specs.State.{EntityState, RingState, DeviceState}
 use Rattle.drm_core.specs.Journal.{turns, is_complete, is_over, changed_at}
 use Rattle.drm_fence.specs.Phases.{is_scheduled, has_ended}
 use Rattle.drm_core.specs.Arming.{ring_of}

@@ -8,29 +8,27 @@ use Rattle.std.proofs.lemmas.Bool.{ltb-true, lt-ltb, cases_Bool}
 use Rattle.std.proofs.lemmas.Option.{slice_get_within}
 use Rattle.std.proofs.lemmas.List.{map-set}
 use Rattle.drm_types.specs.declared.spec.RingSpec.{RingSpec}
-use Rattle.drm_types.specs.Firsts.{when}
-use Rattle.drm_job.specs.declared.JobFault.TheVariants.{NoEntity}
-use Rattle.drm_job.specs.Fault.{job_tests, IsJob}
-use Rattle.drm_job.proofs.Within.{none_at, none_when}
+use Rattle.drm_entity.specs.Rows.{EntityRow, EntityRows, row_changed}
 use Rattle.drm_reset.specs.declared.verdict.Verdict.{Verdict}
 use Rattle.drm_reset.specs.declared.verdict.Verdict.TheVariants as verdict
-use Rattle.drm_core.specs.declared.device.EntityState.{EntityState}
 use Rattle.drm_core.specs.declared.event.Answer.TheVariants as answer
 use Rattle.drm_core.specs.declared.journal.JobRecord.{JobRecord}
 use Rattle.drm_core.specs.declared.table.RingRow.{RingRow}
 use Rattle.drm_core.specs.declared.table.Table.{Table}
 use Rattle.drm_core.specs.Journal.{is_at, is_complete, changed_at}
 use Rattle.drm_core.specs.Outcomes.{hung, hung_device, condemned, condemned_device, is_kernel, is_too_much, hang_outcome, timeout_at, timeout_outcome}
-use Rattle.drm_core.specs.Recovery.{verdict_at, blamed_by, guilty_in}
-use Rattle.drm_core.specs.Ring.{head_of, limit_of, age_of}
-use Rattle.drm_core.specs.State.{RingState, DeviceState}
+use Rattle.drm_core.specs.Recovery.{verdict_at, blamed_by}
+use Rattle.drm_core.specs.Plain.{marks, QueuesStand}
+use Rattle.drm_core.specs.Ring.{head_of, limit_of, age_of, entity_changed}
+use Rattle.drm_core.specs.State.{EntityState, RingState, DeviceState}
 use Rattle.drm_core.specs.Tables.{state_of, fence_of, ring_of_row, IsWhole}
 use Rattle.drm_core.proofs.CallsAre.{Left, at_record_there}
 use Rattle.drm_core.proofs.Candidates.{at_index}
 use Rattle.drm_core.proofs.DeviceSteps.{IsKept, timeout_kept}
 use Rattle.drm_core.proofs.FinishLawful.{IsHead, head_is, set_same}
 use Rattle.drm_core.proofs.Records.{at_test, changed_is, to_map}
-use Rattle.drm_core.proofs.TableFacts.{rings_tie, rooms_kept, row_found, whole_kept}
+use Rattle.drm_core.proofs.TableFacts.{entity_there, rings_tie, rooms_kept, row_found, whole_kept}
+use Rattle.drm_core.proofs.Queues.{row_at, marks_changed, stands_set, stands_map, stands_marked}
 
 -- the outcome of a timeout, by what it finds of the head
 abbrev pub by_verdict : DeviceState → ℕ → ℕ → ℕ → JobRecord → Verdict → Left
@@ -62,14 +60,6 @@ pub timeout_by : (t : Table) (ring now f : ℕ) (v : Verdict) → IsWhole t → 
 timeout_by t ring now f v w there is found =
     let h = head_is (state_of t) ring f w.steady.lawful there is in
     (h.0, h.1, timeout_finds (state_of t) ring now f h.0 is h.1.at ∙ ap (by_verdict (state_of t) ring now f h.0) found)
-
--- the job's entity is there
-pub entity_there : (t : Table) (f : ℕ) (r : JobRecord) → IsWhole t → slice_get t.journal.items f ≡ Some r → r.job.entity < length t.entities.items
-entity_there t f r w at =
-    let job : IsJob t.spec r.job = (w.steady.lawful.records f r at).job in
-    let within = none_when (nat_lt r.job.entity (length t.spec.entities)) NoEntity
-    (none_at (job_tests t.spec r.job) 0 (when (not (nat_lt r.job.entity (length t.spec.entities))) NoEntity) job refl) in
-    subst (λ n. r.job.entity < n) (sym w.steady.lawful.entity_count) (ltb-true r.job.entity (length t.spec.entities) within)
 
 -- a head that hangs: the journal where it is blamed, the row of its ring, and the ring's limits
 pub record IsBlamed (t : Table) (ring now f : ℕ) (r : JobRecord) (journal : Vec JobRecord Global) (row : RingRow) (limits : RingSpec) (karma : ℕ) : Type 0 where
@@ -114,7 +104,7 @@ abbrev pub blamed_tables : Table → ℕ → ℕ → Vec JobRecord Global → Ri
 blamed_tables t ring now journal row = record t { journal = journal; rings = with_item t.rings ring (record row { since = now }) }
 
 -- and after the entity is guilty too
-abbrev pub guilty_tables : Table → ℕ → ℕ → Vec JobRecord Global → RingRow → Vec EntityState Global → Table
+abbrev pub guilty_tables : Table → ℕ → ℕ → Vec JobRecord Global → RingRow → EntityRows → Table
 guilty_tables t ring now journal row entities = record t { journal = journal; rings = with_item t.rings ring (record row { since = now }); entities = entities }
 
 -- the device of the blamed tables
@@ -136,6 +126,11 @@ condemned_fences : (ring entity : ℕ) (js : List JobRecord) → map fence_of (m
 condemned_fences ring entity [] = refl
 condemned_fences ring entity (r ∷ rs) = ap (λ fs. fence_of r ∷ fs) (condemned_fences ring entity rs)
 
+-- so do the queues
+blamed_queues : {t : Table} {ring now f : ℕ} {r : JobRecord} {journal : Vec JobRecord Global} {row : RingRow} {limits : RingSpec} {karma : ℕ} → IsWhole t → IsBlamed t ring now f r journal row limits karma → QueuesStand journal.items t.entities
+blamed_queues {t} {ring} {now} {f} {r} w b =
+    subst (λ js. QueuesStand js t.entities) (sym b.items) (stands_set t.journal.items f r (hung (state_of t) r) t.entities b.head.at refl refl w.queues)
+
 -- the head goes on
 pub resumed_done : {t : Table} {ring now f : ℕ} {r : JobRecord} {journal : Vec JobRecord Global} {row : RingRow} {limits : RingSpec} {karma : ℕ} → IsWhole t → ring < length t.spec.rings → IsBlamed t ring now f r journal row limits karma → karma ≤ limits.hang_limit
     → (timeout_outcome (state_of t) ring now ≡ (answer.Resumed, state_of (blamed_tables t ring now journal row))) × IsWhole (blamed_tables t ring now journal row)
@@ -149,31 +144,40 @@ resumed_done {t} {ring} {now} {f} {r} {journal} {row} {limits} {karma} w there b
     let tied : t.fences.list ≡ map fence_of journal.items =
     w.fences ∙ sym (ap (map fence_of) b.items ∙ blamed_fences t.journal.items f r (hung d r) b.head.at refl) in (
       ends,
-      whole_kept t u w (subst (λ (q : Left). IsKept d q.1) ends (timeout_kept d ring now w.steady there)) tied refl refl
-          (rooms_kept t u ring row (record row { since = now }) w.rooms refl refl b.row_at refl b.room refl refl),
+      whole_kept t u w (subst (λ (q : Left). IsKept d q.1) ends (timeout_kept d ring now w.steady there)) tied refl (blamed_queues w b) refl
+          (rooms_kept t u ring row (record row { since = now }) w.rooms refl refl b.row_at refl b.room refl refl refl),
     )
 
 -- the entity is guilty
 pub guilty_done : {t : Table} {ring now f : ℕ} {r : JobRecord} {journal : Vec JobRecord Global} {row : RingRow} {limits : RingSpec} {karma : ℕ}
-    → (entity : ℕ) (last : Vec JobRecord Global) (entities : Vec EntityState Global) → IsWhole t → ring < length t.spec.rings → IsBlamed t ring now f r journal row limits karma
+    → (entity : ℕ) (last : Vec JobRecord Global) (entities : EntityRows) → IsWhole t → ring < length t.spec.rings → IsBlamed t ring now f r journal row limits karma
     → limits.hang_limit < karma → entity ≡ r.job.entity → last.items ≡ map (condemned ring entity) journal.items → vec_capacity last ≡ vec_capacity journal
-    → entities.items ≡ guilty_in t.entities.items entity
+    → entities ≡ row_changed t.entities entity (λ r. record r { is_guilty = true })
     → (timeout_outcome (state_of t) ring now ≡ (answer.Guilty entity, state_of (guilty_tables t ring now last row entities)))
     × IsWhole (guilty_tables t ring now last row entities)
 guilty_done {t} {ring} {now} {f} {r} {journal} {row} {limits} {karma} entity last entities w there b more of_entity items room guilty =
     let d = state_of t in
     let u = guilty_tables t ring now last row entities in
     let rings = map ring_of_row (set t.rings.items ring (record row { since = now })) in
+    let blame : EntityRow → EntityRow = λ r. record r { is_guilty = true } in
+    let mark : EntityState → EntityState = λ e. record e { is_guilty = true } in
+    let guilty_marks = entity_changed (marks t.entities) entity mark in
+    let entity_row = row_at t.entities.rows entity (subst (λ n. n < length t.entities.rows) (sym of_entity) (entity_there t f r w b.head.at)) in
+    let marked : marks entities ≡ guilty_marks = ap marks guilty ∙ marks_changed t.entities entity entity_row.0 blame mark entity_row.1 refl in
+    let queues : QueuesStand last.items entities =
+    subst (QueuesStand last.items) (sym guilty)
+    (stands_marked last.items t.entities entity entity_row.0 blame entity_row.1 refl
+    (subst (λ js. QueuesStand js t.entities) (sym items) (stands_map journal.items (condemned ring entity) t.entities (λ e x. refl) (blamed_queues w b)))) in
     let ends : timeout_outcome d ring now ≡ (answer.Guilty entity, state_of u) =
     b.hangs
     ∙ (ap (λ x. cond {A = Left} x (answer.Guilty r.job.entity, condemned_device (hung_device d ring now f) ring r.job.entity) (answer.Resumed, hung_device d ring now f)) (b.much ∙ lt-ltb limits.hang_limit karma more)
     ∙ (ap (λ e. let left : Left = (answer.Guilty e, condemned_device (hung_device d ring now f) ring e) in left) (sym of_entity)
     ∙ (ap (λ s. let left : Left = (answer.Guilty entity, condemned_device s ring entity) in left) (sym (blamed_state b))
-    ∙ (ap (λ js. let left : Left = (answer.Guilty entity, record d { journal = js; rings = rings; entities = guilty_in t.entities.items entity }) in left) (sym items)
-    ∙ ap (λ es. let left : Left = (answer.Guilty entity, record d { journal = last.items; rings = rings; entities = es }) in left) (sym guilty))))) in
+    ∙ (ap (λ js. let left : Left = (answer.Guilty entity, record d { journal = js; rings = rings; entities = guilty_marks }) in left) (sym items)
+    ∙ ap (λ es. let left : Left = (answer.Guilty entity, record d { journal = last.items; rings = rings; entities = es }) in left) (sym marked))))) in
     let tied : t.fences.list ≡ map fence_of last.items =
     w.fences ∙ sym (ap (map fence_of) items ∙ (condemned_fences ring entity journal.items ∙ (ap (map fence_of) b.items ∙ blamed_fences t.journal.items f r (hung d r) b.head.at refl))) in (
       ends,
-      whole_kept t u w (subst (λ (q : Left). IsKept d q.1) ends (timeout_kept d ring now w.steady there)) tied refl refl
-          (rooms_kept t u ring row (record row { since = now }) w.rooms refl refl b.row_at refl (room ∙ b.room) refl refl),
+      whole_kept t u w (subst (λ (q : Left). IsKept d q.1) ends (timeout_kept d ring now w.steady there)) tied refl queues refl
+          (rooms_kept t u ring row (record row { since = now }) w.rooms refl refl b.row_at refl (room ∙ b.room) refl refl (ap (λ (e : EntityRows). e.places) guilty)),
     )

@@ -1,12 +1,12 @@
 -- A pick of a choice that fits is the pick of its definition, and keeps the tables whole.
-use Rattle.std.proofs.Common.{◌≡◌, ℕ, zero, suc, ◌+◌, ◌<◌, ◌≤◌, Bool, true, false, not, List, [], ◌∷◌, length, get_or, cond, map, set, min, Some, None, Option, refl, sym, ap, subst, ◌∙◌, inl, inr, ◌⊎◌, arith, slice_get}
+use Rattle.std.proofs.Common.{◌≡◌, ℕ, zero, suc, ◌+◌, ◌<◌, ◌≤◌, Bool, true, false, not, ◌||◌, List, [], ◌∷◌, length, get_or, cond, map, set, min, Some, None, Option, refl, sym, ap, subst, ◌∙◌, inl, inr, ◌⊎◌, arith, slice_get}
 use Rattle.std.specs.declared.alloc.Global.{Global}
-use Rattle.std.specs.Prelude.{vec_capacity, vec_len, Vec, sum_by, position, nat_lt, nat_le, option_map, ◌||◌, ◌==◌}
+use Rattle.std.specs.Prelude.{vec_capacity, vec_len, Vec, sum_by, position, nat_lt, nat_le, option_map, ◌||◌, ◌==◌, IfSome, IfNone}
 use Rattle.std.specs.Option.{option_map_or}
 use Rattle.std.specs.Vec.{with_item}
 use Rattle.std.specs.List.{position_from}
 use Rattle.std.proofs.lemmas.Iterator.Adapters.{position_from-zero}
-use Rattle.std.proofs.lemmas.Option.{slice_get-get_or}
+use Rattle.std.proofs.lemmas.Option.{slice_get_within, slice_get-get_or}
 use Rattle.std.proofs.lemmas.List.Sums.{sum_by-cons}
 use Rattle.std.proofs.lemmas.Bool.{cases_Bool, and_parts, leb-true, ltb-false, ltb-true, lt-ltb, eqb-false}
 use Rattle.drm_types.specs.declared.spec.DeviceSpec.{DeviceSpec}
@@ -20,6 +20,7 @@ use Rattle.drm_job.specs.Fault.{job_tests, IsJob}
 use Rattle.drm_job.proofs.Within.{none_at}
 use Rattle.drm_fence.specs.declared.phase.Phase.TheVariants.{Scheduled}
 use Rattle.drm_fence.specs.Fences.{Fences}
+use Rattle.drm_entity.specs.Rows.{EntityRows, queue_at, popped}
 use Rattle.drm_core.specs.declared.journal.JobRecord.{JobRecord}
 use Rattle.drm_core.specs.declared.table.RingRow.{RingRow}
 use Rattle.drm_core.specs.declared.table.Table.{Table}
@@ -33,8 +34,11 @@ use Rattle.drm_core.specs.Tables.{state_of, fence_of, ring_of_row, put_in, IsWho
 use Rattle.drm_core.proofs.Records.{changed_is}
 use Rattle.drm_core.proofs.Pending.{contains_at}
 use Rattle.drm_core.proofs.DeviceSteps.{IsKept, pick_kept, not_when}
-use Rattle.drm_core.proofs.TableFacts.{rings_tie, rooms_kept, row_pending, whole_kept}
+use Rattle.drm_core.proofs.ChoiceIs.{IsChosen}
+use Rattle.drm_core.proofs.Candidates.{at_index, head_number}
+use Rattle.drm_core.proofs.TableFacts.{entity_there, rings_tie, rooms_kept, row_pending, whole_kept}
 use Rattle.drm_core.proofs.CallsAre.{Left, pick_may, pick_takes}
+use Rattle.drm_core.proofs.Queues.{head_numbered, stands_popped, IsPopped}
 
 -- a choice of which none is taken was not the first
 passed_over : {A : Type 0} (b : Bool) (a : A) (rest : Option A) → cond (not b) (Some a) rest ≡ None → (b ≡ true) × (rest ≡ None)
@@ -132,23 +136,52 @@ room_for_one t ring f r row w there at at_row fits =
     let size : vec_len row.pending ≡ length row.pending.items = row.pending.ok.0 in
     omega (arith, le, one, few, used, room, same, size)
 
--- the tables after the pick
-abbrev pub picked_tables : Table → ℕ → Vec JobRecord Global → Fences → RingRow → Table
-picked_tables t ring journal fences row = record t { journal = journal; fences = fences; rings = with_item t.rings ring row }
+-- what is known of the entity of the job that is taken next
+pub record IsTaken (t : Table) (f : ℕ) (r : JobRecord) (entity : ℕ) : Type 0 where
+  pub of_entity : r.job.entity ≡ entity
+  pub there : entity < length t.entities.rows
+  pub head : head_number t.journal.items entity ≡ Some f
 
-pub pick_done : (t : Table) (ring now f : ℕ) (r : JobRecord) (skipped : Bool) (journal : Vec JobRecord Global) (fences : Fences) (row new : RingRow) → IsWhole t
+pub is_taken : (t : Table) (ring f : ℕ) (r x : JobRecord) (entity : ℕ) → IsWhole t → IsChosen (state_of t) ring f r → x ≡ get_or t.journal.items f x → entity ≡ x.job.entity
+    → IsTaken t f r entity
+is_taken t ring f r x entity w chosen x_is entity_is =
+    let at_x = at_index t.journal.items f x x_is (slice_get_within t.journal.items f r chosen.at) in
+    let same : r ≡ x = cc (chosen.at, at_x) in
+    let of_entity : r.job.entity ≡ entity = ap (λ (z : JobRecord). z.job.entity) same ∙ sym entity_is in
+    record {
+      of_entity = of_entity;
+      there = subst (λ n. n < length t.entities.rows) of_entity (entity_there t f r w chosen.at);
+      head = subst (λ e. head_number t.journal.items e ≡ Some f) of_entity (head_numbered t.journal.items r.job.entity f chosen.is_head);
+    }
+
+-- the entities after it was given to its ring
+pub taken_popped : (t : Table) (ring f : ℕ) (r : JobRecord) (entity : ℕ) (skipped : Bool) (items : List JobRecord) (new : EntityRows) (result : Option ℕ) → IsWhole t
+    → IsChosen (state_of t) ring f r → IsTaken t f r entity
+    → items ≡ changed_at t.journal.items f (λ r. record r { phase = Scheduled; is_skipped = skipped || r.is_skipped })
+    → IfSome result (λ n. (rest : List ℕ) × (queue_at t.entities entity ≡ n ∷ rest) × (new ≡ popped t.entities entity rest))
+    → IfNone result ((queue_at t.entities entity ≡ []) × (new ≡ t.entities)) → IsPopped items t.entities new
+taken_popped t ring f r entity skipped items new result w chosen taken given some none =
+    let begin : JobRecord → JobRecord = λ r. record r { phase = Scheduled; is_skipped = skipped || r.is_skipped } in
+    subst (λ js. IsPopped js t.entities new) (sym (given ∙ changed_is t.journal.items f r begin chosen.at))
+    (stands_popped t.journal.items t.entities new entity f r (begin r) result chosen.at taken.of_entity chosen.queued refl taken.head taken.there some none w.queues)
+
+-- the tables after the pick
+abbrev pub picked_tables : Table → ℕ → Vec JobRecord Global → Fences → RingRow → EntityRows → Table
+picked_tables t ring journal fences row entities = record t { journal = journal; fences = fences; rings = with_item t.rings ring row; entities = entities }
+
+pub pick_done : (t : Table) (ring now f : ℕ) (r : JobRecord) (skipped : Bool) (journal : Vec JobRecord Global) (fences : Fences) (row new : RingRow) (entities : EntityRows) → IsWhole t
     → ring < length t.spec.rings → choice (state_of t) ring ≡ Some f → nat_lt (free_credits (state_of t) ring) (credits_of (state_of t) ring f) ≡ false
     → slice_get t.journal.items f ≡ Some r → skipped ≡ is_guilty (state_of t) r.job.entity
     → journal.items ≡ changed_at t.journal.items f (λ r. record r { phase = Scheduled; is_skipped = skipped || r.is_skipped })
     → fences.list ≡ map fence_of journal.items → vec_capacity journal ≡ vec_capacity t.journal → fences.places ≡ t.fences.places
-    → slice_get t.rings.items ring ≡ Some row → ring_of_row new ≡ put_in f now (ring_of_row row) → vec_capacity new.pending ≡ vec_capacity row.pending
+    → slice_get t.rings.items ring ≡ Some row → ring_of_row new ≡ put_in f now (ring_of_row row) → vec_capacity new.pending ≡ vec_capacity row.pending → IsPopped journal.items t.entities entities
     → (pick_refusal (state_of t) ring ≡ None)
-    × (pick_outcome (state_of t) ring now ≡ (answer.Picked f skipped, state_of (picked_tables t ring journal fences new)))
-    × IsWhole (picked_tables t ring journal fences new)
-pick_done t ring now f r skipped journal fences row new w there is fits at guilt items tied room places at_row row_is row_room =
+    × (pick_outcome (state_of t) ring now ≡ (answer.Picked f skipped, state_of (picked_tables t ring journal fences new entities)))
+    × IsWhole (picked_tables t ring journal fences new entities)
+pick_done t ring now f r skipped journal fences row new entities w there is fits at guilt items tied room places at_row row_is row_room left_queue =
     let d = state_of t in
     let rings = rings_tie t.rings.items ring row new (put_in f now) at_row row_is in
-    let left : Left = (answer.Picked f skipped, state_of (picked_tables t ring journal fences new)) in
+    let left : Left = (answer.Picked f skipped, state_of (picked_tables t ring journal fences new entities)) in
     let given : journal.items ≡ (picked_device d ring now f).journal =
     items ∙ (changed_is t.journal.items f r (λ r. record r { phase = Scheduled; is_skipped = skipped || r.is_skipped }) at
     ∙ (ap (λ b. set t.journal.items f (record r { phase = Scheduled; is_skipped = b || r.is_skipped })) guilt
@@ -157,14 +190,15 @@ pick_done t ring now f r skipped journal fences row new w there is fits at guilt
     pick_takes d ring now f r is at
     ∙ (ap (λ b. let q : Left = (answer.Picked f b, picked_device d ring now f) in q) (sym guilt)
     ∙ (ap (λ j. let q : Left = (answer.Picked f skipped, record d { journal = j; rings = ring_changed d.rings ring (put_in f now) }) in q) (sym given)
-    ∙ ap (λ rs. let q : Left = (answer.Picked f skipped, record d { journal = journal.items; rings = rs }) in q) (sym rings))) in
+    ∙ (ap (λ rs. let q : Left = (answer.Picked f skipped, record d { journal = journal.items; rings = rs }) in q) (sym rings)
+    ∙ ap (λ es. let q : Left = (answer.Picked f skipped, record d { journal = journal.items; rings = map ring_of_row (set t.rings.items ring new); entities = es }) in q) (sym left_queue.marks_same)))) in
     let may = pick_may d ring f is fits in (
       may,
       takes,
-      whole_kept t (picked_tables t ring journal fences new) w
+      whole_kept t (picked_tables t ring journal fences new entities) w
           (subst (λ (q : Left). IsKept d q.1) takes (pick_kept d ring now w.steady there may))
-          tied refl refl
-          (rooms_kept t (picked_tables t ring journal fences new) ring row new w.rooms refl refl at_row row_room room refl places),
+          tied refl left_queue.stand refl
+          (rooms_kept t (picked_tables t ring journal fences new entities) ring row new w.rooms refl refl at_row row_room room refl places left_queue.places),
     )
 
 -- numbers as tests

@@ -1,7 +1,7 @@
 -- A cancellation and a reap of the tables are those of their definitions, and keep the tables whole.
 use Rattle.std.proofs.Common.{◌≡◌, ℕ, zero, suc, ◌+◌, ◌<◌, ◌≤◌, Bool, true, false, not, cond, ◌&&◌, ◌||◌, ◌==◌, List, [], ◌∷◌, take, length, map, get_or, Some, None, Option, refl, sym, ap, subst, ◌∙◌, arith, slice_get}
 use Rattle.std.specs.declared.alloc.Global.{Global}
-use Rattle.std.specs.Prelude.{filter, option_map, is_none, vec_capacity, Vec}
+use Rattle.std.specs.Prelude.{filter, option_map, is_none, vec_capacity, Vec, IfSome, IfNone}
 use Rattle.std.specs.Option.{option_map_or}
 use Rattle.std.specs.List.{list_all, enumerate_from}
 use Rattle.std.proofs.lemmas.Bool.{and_parts, eqb-true}
@@ -10,18 +10,21 @@ use Rattle.std.proofs.lemmas.List.Folds.{list_all-append}
 use Rattle.drm_types.specs.Firsts.{when, first, first_of}
 use Rattle.drm_types.specs.declared.outcome.Outcome.TheVariants as outcome
 use Rattle.drm_fence.specs.Fences.{Fences}
+use Rattle.drm_fence.specs.declared.phase.Phase.TheVariants.{Ended}
 use Rattle.drm_fence.specs.Phases.{is_queued, has_ended}
-use Rattle.drm_core.specs.declared.device.EntityState.{EntityState}
+use Rattle.drm_entity.specs.Rows.{EntityRow, EntityRows, queue_at, row_changed, popped}
 use Rattle.drm_core.specs.declared.event.Answer.TheVariants as answer
 use Rattle.drm_core.specs.declared.event.Refusal.TheVariants.{Nothing, Waits}
 use Rattle.drm_core.specs.declared.journal.JobRecord.{JobRecord}
 use Rattle.drm_core.specs.declared.table.Table.{Table}
+use Rattle.drm_core.specs.State.{EntityState}
 use Rattle.drm_core.specs.Choice.{queue_of}
 use Rattle.drm_core.specs.Journal.{numbered, is_at}
 use Rattle.drm_core.specs.Order.{dependencies}
-use Rattle.drm_core.specs.Outcomes.{ended_at, reap_outcome}
+use Rattle.drm_core.specs.Outcomes.{ended_at, cancelled_device, reap_outcome}
 use Rattle.drm_core.specs.Refusals.{must_still_wait, reap_refusal}
-use Rattle.drm_core.specs.Ring.{is_stopped, entity_changed}
+use Rattle.drm_core.specs.Plain.{marks, QueuesStand}
+use Rattle.drm_core.specs.Ring.{is_stopped}
 use Rattle.drm_core.specs.Stopping.{may_end_after}
 use Rattle.drm_core.specs.Tables.{state_of, fence_of, IsWhole}
 use Rattle.drm_core.proofs.CallsAre.{Left}
@@ -30,45 +33,31 @@ use Rattle.drm_core.proofs.ChoiceIs.{first-filter, numbered_get, is_queued_of}
 use Rattle.drm_core.proofs.DeviceSteps.{IsKept, cancel_kept, reap_kept}
 use Rattle.drm_core.proofs.LatestStands.{latest_stand, ended_goes_down}
 use Rattle.drm_core.proofs.Pairs.{find_first}
-use Rattle.drm_core.proofs.Records.{at_test}
-use Rattle.drm_core.proofs.TableFacts.{whole_kept}
+use Rattle.drm_core.proofs.Records.{at_test, changed_is}
+use Rattle.drm_core.proofs.TableFacts.{entity_row_there, whole_kept}
+use Rattle.drm_core.proofs.Queues.{IsFront, front_is, row_at, marks_changed, stands_marked, stands_popped, IsPopped}
 
 -- tables of which an entity was stopped stay whole
-pub stopped_whole : (t : Table) (entity : ℕ) (entities : Vec EntityState Global) → IsWhole t
-    → entities.items ≡ entity_changed t.entities.items entity (λ e. record e { is_stopped = true }) → IsWhole (record t { entities = entities })
-stopped_whole t entity entities w is =
-    whole_kept t (record t { entities = entities }) w
-    (subst (λ es. IsKept (state_of t) (record (state_of t) { entities = es })) (sym is) (cancel_kept (state_of t) entity w.steady))
-    w.fences refl refl
-    (record { jobs = w.rooms.jobs; waits = w.rooms.waits; places = w.rooms.places; pending = w.rooms.pending })
-
--- the first in the queue of an entity
-pub record IsFront (journal : List JobRecord) (entity number : ℕ) (r : JobRecord) : Type 0 where
-  pub first : first (queue_of entity journal) ≡ Some (number, r)
-  pub at : slice_get journal number ≡ Some r
-  pub of_entity : r.job.entity ≡ entity
-  pub queued : is_queued r.phase ≡ true
-
-pub front_is : (journal : List JobRecord) (entity number : ℕ) → head_number journal entity ≡ Some number → (r : JobRecord) × IsFront journal entity number r
-front_is journal entity number is = by_first (first (queue_of entity journal)) refl is
-  where
-    by_first : (o : Option (ℕ × JobRecord)) → first (queue_of entity journal) ≡ o → option_map (λ (n : ℕ × JobRecord). n.0) o ≡ Some number
-        → (r : JobRecord) × IsFront journal entity number r
-    by_first None none some = absurd (cc (some))
-    by_first (Some n) is_n some =
-        let same : n.0 ≡ number = cc (some) in
-        let found = find_first (is_queued_of entity) (numbered journal) n (sym (first-filter (is_queued_of entity) (numbered journal)) ∙ is_n) in
-        let there = numbered_get journal 0 found.0 n found.1 in
-        let place : found.0 ≡ number = omega (arith, there.0, same) in
-        let passes = and_parts (n.1.job.entity == entity) (is_queued n.1.phase) found.2 in (
-          n.1,
-          record {
-            first = is_n ∙ ap (λ m. let front : Option (ℕ × JobRecord) = Some (m, n.1) in front) same;
-            at = subst (λ m. slice_get journal m ≡ Some n.1) place there.1;
-            of_entity = eqb-true n.1.job.entity entity passes.0;
-            queued = passes.1;
-          },
-        )
+pub stopped_done : (t : Table) (entity : ℕ) (entities : EntityRows) → IsWhole t → entity < length t.spec.entities
+    → entities ≡ row_changed t.entities entity (λ r. record r { is_stopped = true })
+    → (state_of (record t { entities = entities }) ≡ cancelled_device (state_of t) entity) × IsWhole (record t { entities = entities })
+stopped_done t entity entities w there is =
+    let stop : EntityRow → EntityRow = λ r. record r { is_stopped = true } in
+    let mark : EntityState → EntityState = λ e. record e { is_stopped = true } in
+    let row = row_at t.entities.rows entity (entity_row_there t entity w there) in
+    let state : state_of (record t { entities = entities }) ≡ cancelled_device (state_of t) entity =
+    ap (λ es. record (state_of t) { entities = es }) (ap marks is ∙ marks_changed t.entities entity row.0 stop mark row.1 refl) in (
+      state,
+      whole_kept t (record t { entities = entities }) w (subst (IsKept (state_of t)) (sym state) (cancel_kept (state_of t) entity w.steady)) w.fences refl
+          (subst (QueuesStand t.journal.items) (sym is) (stands_marked t.journal.items t.entities entity row.0 stop row.1 refl w.queues)) refl
+          (record {
+            jobs = w.rooms.jobs;
+            waits = w.rooms.waits;
+            places = w.rooms.places;
+            queues = ap (λ (e : EntityRows). e.places) is ∙ w.rooms.queues;
+            pending = w.rooms.pending;
+          }),
+    )
 
 -- all that pass one test pass the other too
 all_of : (p q : JobRecord → Bool) (journal : List JobRecord) (k number : ℕ)
@@ -121,26 +110,40 @@ front_goes_on journal entity number is =
     let front = front_is journal entity number is in
     at_test journal number front.0 (λ r. not (has_ended r.phase)) front.1.at ∙ ap not (queued_goes_on front.0.phase front.1.queued)
 
+-- the entities after the front of a queue has ended
+pub front_popped : (t : Table) (entity number : ℕ) (items : List JobRecord) (new : EntityRows) (result : Option ℕ) → IsWhole t → entity < length t.spec.entities
+    → head_number t.journal.items entity ≡ Some number → items ≡ ended_at t.journal.items number outcome.Stopped
+    → IfSome result (λ n. (rest : List ℕ) × (queue_at t.entities entity ≡ n ∷ rest) × (new ≡ popped t.entities entity rest))
+    → IfNone result ((queue_at t.entities entity ≡ []) × (new ≡ t.entities)) → IsPopped items t.entities new
+front_popped t entity number items new result w there is ended some none =
+    let js = t.journal.items in
+    let front = front_is js entity number is in
+    let end : JobRecord → JobRecord = λ r. record r { phase = Ended outcome.Stopped } in
+    subst (λ js. IsPopped js t.entities new) (sym (ended ∙ changed_is js number front.0 end front.1.at))
+    (stands_popped js t.entities new entity number front.0 (end front.0) result front.1.at front.1.of_entity front.1.queued refl is (entity_row_there t entity w there) some none w.queues)
+
 -- a reap that is not refused
-pub reap_done : (t : Table) (entity number : ℕ) (journal : Vec JobRecord Global) (fences : Fences) → IsWhole t
+pub reap_done : (t : Table) (entity number : ℕ) (journal : Vec JobRecord Global) (fences : Fences) (entities : EntityRows) → IsWhole t
     → head_number t.journal.items entity ≡ Some number → reap_refusal (state_of t) entity ≡ None
     → journal.items ≡ ended_at t.journal.items number outcome.Stopped → fences.list ≡ map fence_of journal.items
-    → vec_capacity journal ≡ vec_capacity t.journal → fences.places ≡ t.fences.places
-    → (reap_outcome (state_of t) entity ≡ (answer.Reaped number, state_of (record t { journal = journal; fences = fences })))
-    × IsWhole (record t { journal = journal; fences = fences })
-reap_done t entity number journal fences w is may items tied room places =
+    → vec_capacity journal ≡ vec_capacity t.journal → fences.places ≡ t.fences.places → IsPopped journal.items t.entities entities
+    → (reap_outcome (state_of t) entity ≡ (answer.Reaped number, state_of (record t { journal = journal; fences = fences; entities = entities })))
+    × IsWhole (record t { journal = journal; fences = fences; entities = entities })
+reap_done t entity number journal fences entities w is may items tied room places left_queue =
     let d = state_of t in
-    let u : Table = record t { journal = journal; fences = fences } in
+    let u : Table = record t { journal = journal; fences = fences; entities = entities } in
     let front = front_is t.journal.items entity number is in
     let ends : reap_outcome d entity ≡ (answer.Reaped number, state_of u) =
     ap (λ o. option_map_or {U = Left} (λ (n : ℕ × JobRecord). (answer.Reaped n.0, record d { journal = ended_at d.journal n.0 outcome.Stopped })) o (answer.Ok, d)) front.1.first
-    ∙ ap (λ j. let left : Left = (answer.Reaped number, record d { journal = j }) in left) (sym items) in (
+    ∙ (ap (λ j. let left : Left = (answer.Reaped number, record d { journal = j }) in left) (sym items)
+    ∙ ap (λ es. let left : Left = (answer.Reaped number, record d { journal = journal.items; entities = es }) in left) (sym left_queue.marks_same)) in (
       ends,
-      whole_kept t u w (subst (λ (q : Left). IsKept d q.1) ends (reap_kept d entity w.steady may)) tied refl refl
+      whole_kept t u w (subst (λ (q : Left). IsKept d q.1) ends (reap_kept d entity w.steady may)) tied refl left_queue.stand refl
           (record {
             jobs = subst (λ n. t.spec.max_jobs ≤ n) (sym room) w.rooms.jobs;
             waits = w.rooms.waits;
             places = places ∙ w.rooms.places;
+            queues = left_queue.places ∙ w.rooms.queues;
             pending = w.rooms.pending;
           }),
     )

@@ -1,8 +1,8 @@
 -- What is known of the jobs in a device's tables, and how the tables stay whole when they change.
-use Rattle.std.proofs.Common.{◌≡◌, ℕ, ◌<◌, ◌≤◌, Bool, true, false, ◌||◌, List, [], length, get_or, set, map, Some, None, Option, refl, sym, ap, subst, ◌∙◌, inl, inr, arith, slice_get}
+use Rattle.std.proofs.Common.{◌≡◌, ℕ, ◌<◌, ◌≤◌, Bool, true, false, not, ◌||◌, List, [], length, get_or, set, map, Some, None, Option, refl, sym, ap, subst, ◌∙◌, inl, inr, arith, slice_get}
 use Rattle.std.specs.Prelude.{IsTrue, nat_le, nat_lt, vec_capacity, vec_len, Contains, Vec}
 use Rattle.std.specs.Option.{option_map_or}
-use Rattle.std.proofs.lemmas.Bool.{leb-false, ltb-false}
+use Rattle.std.proofs.lemmas.Bool.{leb-false, ltb-false, ltb-true}
 use Rattle.std.proofs.lemmas.Option.{slice_get_within, slice_get-get_or}
 use Rattle.std.proofs.lemmas.List.{map-set, length-map}
 use Rattle.std.proofs.lemmas.List.Elements.{All-contains, All-weaker}
@@ -15,9 +15,9 @@ use Rattle.drm_packet.specs.declared.Packet.{Packet}
 use Rattle.drm_packet.specs.Touches.{is_in_range}
 use Rattle.drm_job.specs.declared.Draft.{Draft}
 use Rattle.drm_job.specs.declared.DraftList.TheVariants.{Packets}
-use Rattle.drm_job.specs.declared.JobFault.TheVariants.{TooMany}
+use Rattle.drm_job.specs.declared.JobFault.TheVariants.{NoEntity, TooMany}
 use Rattle.drm_job.specs.Fault.{job_tests, IsJob}
-use Rattle.drm_job.proofs.Within.{none_at}
+use Rattle.drm_job.proofs.Within.{none_at, none_when}
 use Rattle.drm_job.proofs.InRange.{runs_in}
 use Rattle.drm_fence.specs.declared.timeline.FenceState.{FenceState}
 use Rattle.drm_fence.specs.declared.phase.Phase.{Phase}
@@ -33,7 +33,7 @@ use Rattle.drm_core.specs.Ring.{current_of, pending_of, credit_limit_of, ring_ch
 use Rattle.drm_core.specs.Grows.{Grows, RecordGrows, GoesOn, Each}
 use Rattle.drm_core.specs.Order.{comes_after}
 use Rattle.drm_core.specs.Waits.{DepsStand, IsDependency}
-use Rattle.drm_core.specs.Plain.{WaitsStand}
+use Rattle.drm_core.specs.Plain.{marks_of, WaitsStand, QueuesStand}
 use Rattle.drm_core.specs.Tables.{state_of, fence_of, ring_of_row, IsWhole, HasRooms}
 use Rattle.drm_core.proofs.Records.{to_map}
 use Rattle.drm_core.proofs.Pairs.{get_set_cases}
@@ -53,6 +53,20 @@ pub row_there : (t : Table) (ring : ℕ) → IsWhole t → ring < length t.spec.
 row_there t ring w there =
     let count : length t.rings.items ≡ length t.spec.rings = sym (length-map t.rings.items ring_of_row) ∙ w.steady.lawful.ring_count in
     omega (arith, there, count)
+
+-- so has an entity
+pub entity_row_there : (t : Table) (entity : ℕ) → IsWhole t → entity < length t.spec.entities → entity < length t.entities.rows
+entity_row_there t entity w there =
+    let count : length t.entities.rows ≡ length t.spec.entities = sym (length-map t.entities.rows marks_of) ∙ w.steady.lawful.entity_count in
+    omega (arith, there, count)
+
+-- the job's entity is there
+pub entity_there : (t : Table) (f : ℕ) (r : JobRecord) → IsWhole t → slice_get t.journal.items f ≡ Some r → r.job.entity < length t.entities.rows
+entity_there t f r w at =
+    let job : IsJob t.spec r.job = (w.steady.lawful.records f r at).job in
+    let within = none_when (nat_lt r.job.entity (length t.spec.entities)) NoEntity
+    (none_at (job_tests t.spec r.job) 0 (when (not (nat_lt r.job.entity (length t.spec.entities))) NoEntity) job refl) in
+    entity_row_there t r.job.entity w (ltb-true r.job.entity (length t.spec.entities) within)
 
 -- a job has at most 64 packets
 pub few_packets : (spec : DeviceSpec) (job : Draft) → IsJob spec job → length job.packets ≤ 64
@@ -145,8 +159,8 @@ waits_kept old new waits stand grows count = record {
 
 -- tables stay whole when their device is kept and their parts go on with it
 pub whole_kept : (t u : Table) → IsWhole t → IsKept (state_of t) (state_of u) → u.fences.list ≡ map fence_of u.journal.items → u.waits.items ≡ t.waits.items
-    → sizes_of u.memory ≡ sizes_of t.memory → HasRooms u → IsWhole u
-whole_kept t u w kept fences waits sizes rooms =
+    → QueuesStand u.journal.items u.entities → sizes_of u.memory ≡ sizes_of t.memory → HasRooms u → IsWhole u
+whole_kept t u w kept fences waits queues sizes rooms =
     let spec : u.spec ≡ t.spec = kept.grows.spec in
     record {
       steady = kept.steady;
@@ -154,6 +168,7 @@ whole_kept t u w kept fences waits sizes rooms =
       count = subst (λ n. n ≤ u.spec.max_jobs) (sym kept.count) (subst (λ (s : DeviceSpec). length t.journal.items ≤ s.max_jobs) (sym spec) w.count);
       fences = fences;
       waits = subst (λ ws. WaitsStand u.journal.items ws) (sym waits) (waits_kept (state_of t) (state_of u) t.waits.items w.waits kept.grows kept.count);
+      queues = queues;
       sizes = sizes ∙ (w.sizes ∙ ap (λ (s : DeviceSpec). sizes_of s.buffers) (sym spec));
       rooms = rooms;
     }
@@ -192,11 +207,12 @@ row_found t ring row w there is = at_index t.rings.items ring row is (row_there 
 -- room stays where one row changed and kept its own
 pub rooms_kept : (t u : Table) (ring : ℕ) (row new : RingRow) → HasRooms t → u.spec ≡ t.spec → u.rings.items ≡ set t.rings.items ring new → slice_get t.rings.items ring ≡ Some row
     → vec_capacity new.pending ≡ vec_capacity row.pending → vec_capacity u.journal ≡ vec_capacity t.journal → vec_capacity u.waits ≡ vec_capacity t.waits
-    → u.fences.places ≡ t.fences.places → HasRooms u
-rooms_kept t u ring row new rooms spec rings at room jobs waits places = record {
+    → u.fences.places ≡ t.fences.places → u.entities.places ≡ t.entities.places → HasRooms u
+rooms_kept t u ring row new rooms spec rings at room jobs waits places queues = record {
   jobs = subst (λ n. u.spec.max_jobs ≤ n) (sym jobs) (subst (λ (s : DeviceSpec). s.max_jobs ≤ vec_capacity t.journal) (sym spec) rooms.jobs);
   waits = subst (λ n. u.spec.max_jobs ≤ n) (sym waits) (subst (λ (s : DeviceSpec). s.max_jobs ≤ vec_capacity t.waits) (sym spec) rooms.waits);
   places = places ∙ (rooms.places ∙ ap (λ (s : DeviceSpec). s.max_jobs) (sym spec));
+  queues = queues ∙ (rooms.queues ∙ ap (λ (s : DeviceSpec). s.max_jobs) (sym spec));
   pending = λ k r at_k.
       elim (get_set_cases t.rings.items ring k row new r at (ap (λ rs. slice_get rs k) (sym rings) ∙ at_k)) [
         | inl here ↦

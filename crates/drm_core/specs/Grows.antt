@@ -3,8 +3,7 @@ use Rattle.std.specs.Prelude.{◌≡◌, ℕ, ◌≤◌, IsTrue, ◌⊎◌, List
 use Rattle.drm_fence.specs.declared.phase.Phase.{Phase}
 use Rattle.drm_fence.specs.declared.phase.Phase.TheVariants.{Queued, Scheduled, Ended}
 use Rattle.drm_core.specs.declared.journal.JobRecord.{JobRecord}
-use Rattle.drm_core.specs.declared.device.EntityState.{EntityState}
-use Rattle.drm_core.specs.State.{DeviceState}
+use Rattle.drm_core.specs.State.{EntityState, DeviceState}
 use Rattle.drm_fence.specs.Phases.{has_ended}
 
 -- a phase does not go back, and an outcome stays

@@ -1,18 +1,34 @@
 -- How a device over plain tables finds the job that a ring takes next.
-use Rattle.std.specs.Prelude.{◌≡◌, ℕ, ◌<◌, Bool, true, false, List, [], length, Option, Some, None, slice_get, IsTrue, IsFalse, if◌then◌else◌}
+use Rattle.std.specs.Prelude.{◌≡◌, ℕ, ◌<◌, Bool, true, false, List, [], length, map, Option, Some, None, slice_get, IsTrue, IsFalse, if◌then◌else◌}
 use Rattle.drm_types.specs.declared.spec.DeviceSpec.{DeviceSpec}
 use Rattle.drm_fence.specs.Phases.{has_ended}
+use Rattle.drm_entity.specs.Rows.{EntityRow, EntityRows, queue_at}
 use Rattle.drm_core.specs.declared.journal.JobRecord.{JobRecord}
-use Rattle.drm_core.specs.declared.device.EntityState.{EntityState}
 use Rattle.drm_core.specs.declared.choice.Key.{Key}
-use Rattle.drm_core.specs.State.{DeviceState}
+use Rattle.drm_core.specs.State.{EntityState, DeviceState}
 use Rattle.drm_core.specs.Order.{is_ready}
+use Rattle.drm_core.specs.Choice.{queue_of}
 use Rattle.drm_core.specs.Keys.{IsHeadKey, comes_before}
 use Rattle.drm_core.specs.Waits.{DepsStand}
 
 -- the part of a device that decides which job a ring takes next
 abbrev pub tables : DeviceSpec → List JobRecord → List EntityState → DeviceState
 tables spec journal entities = record { spec = spec; memory = []; journal = journal; rings = []; entities = entities }
+
+-- what is kept of the entities beside their queues
+abbrev pub marks_of : EntityRow → EntityState
+marks_of r = record { is_stopped = r.is_stopped; is_guilty = r.is_guilty }
+
+abbrev pub marks : EntityRows → List EntityState
+marks entities = map marks_of entities.rows
+
+-- the numbers of the entity's queued jobs
+abbrev pub queued_of : ℕ → List JobRecord → List ℕ
+queued_of entity journal = map (λ n. n.0) (queue_of entity journal)
+
+-- the queues of the entities are those of the jobs
+abbrev pub QueuesStand : List JobRecord → EntityRows → Type 0
+QueuesStand journal entities = (entity : ℕ) → entity < length entities.rows → queue_at entities entity ≡ queued_of entity journal
 
 -- the dependencies that are kept for each job that has not ended
 pub record WaitsStand (journal : List JobRecord) (waits : List (List (ℕ × ℕ))) : Type 0 where

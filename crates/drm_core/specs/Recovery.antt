@@ -1,14 +1,13 @@
 -- What a timeout finds of the head of a ring, and what a hang changes.
-use Rattle.std.specs.Prelude.{ℕ, Bool, true, List, Some, if◌then◌else◌, slice_get}
+use Rattle.std.specs.Prelude.{ℕ, Bool, Some, if◌then◌else◌, slice_get}
 use Rattle.std.specs.Option.{option_map_or}
 use Rattle.drm_reset.specs.Blame.{one_more}
 use Rattle.drm_reset.specs.Judging.{verdict_of}
 use Rattle.drm_reset.specs.declared.verdict.Verdict.{Verdict}
-use Rattle.drm_core.specs.declared.device.EntityState.{EntityState}
 use Rattle.drm_core.specs.declared.journal.JobRecord.{JobRecord}
 use Rattle.drm_core.specs.State.{DeviceState}
 use Rattle.drm_core.specs.Journal.{is_at, is_complete}
-use Rattle.drm_core.specs.Ring.{limit_of, entity_changed}
+use Rattle.drm_core.specs.Ring.{limit_of}
 
 -- what a timeout finds of this job as the head of the ring
 abbrev pub verdict_at : DeviceState → ℕ → ℕ → ℕ → Verdict
@@ -24,7 +23,3 @@ verdict_at device ring number now =
 -- the record after one more hang of a job whose entity is of KERNEL priority, or is not
 abbrev pub blamed_by : Bool → JobRecord → JobRecord
 blamed_by kernel r = record r { resets = one_more r.resets; karma = if kernel then r.karma else one_more r.karma }
-
--- the entities, of which one is guilty
-abbrev pub guilty_in : List EntityState → ℕ → List EntityState
-guilty_in entities entity = entity_changed entities entity (λ e. record e { is_guilty = true })

@@ -2,8 +2,7 @@
 use Rattle.std.specs.Prelude.{ℕ, ◌-◌, Bool, false, not, min, List, [], Option, find, sum_by, slice_get, slice_set}
 use Rattle.std.specs.Option.{option_map_or}
 use Rattle.drm_types.specs.declared.spec.RingSpec.{RingSpec}
-use Rattle.drm_core.specs.declared.device.EntityState.{EntityState}
-use Rattle.drm_core.specs.State.{RingState, DeviceState}
+use Rattle.drm_core.specs.State.{EntityState, RingState, DeviceState}
 use Rattle.drm_core.specs.Journal.{is_at, is_complete}
 use Rattle.drm_types.specs.Firsts.{first}
 

@@ -4,12 +4,17 @@ use Rattle.drm_types.specs.declared.spec.DeviceSpec.{DeviceSpec}
 use Rattle.drm_job.specs.declared.Draft.{Draft}
 use Rattle.drm_resv.specs.Reservation.{Reservation}
 use Rattle.drm_core.specs.declared.journal.JobRecord.{JobRecord}
-use Rattle.drm_core.specs.declared.device.EntityState.{EntityState}
 
 -- a ring: the numbers of its pending jobs in order, and the moment from which its head's age counts
 pub record RingState : Type 0 where
   pub pending : List ℕ
   pub since : ℕ
+
+-- what is kept of an entity beside its jobs: a stopped one takes no jobs, and its queued jobs are not picked; the jobs
+-- of a guilty one are skipped
+pub record EntityState : Type 0 where
+  pub is_stopped : Bool
+  pub is_guilty : Bool
 
 -- the journal has the records of all armed jobs in arming order
 pub record DeviceState : Type 0 where

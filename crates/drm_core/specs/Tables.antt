@@ -12,7 +12,7 @@ use Rattle.drm_core.specs.Outcomes.{final_outcome}
 use Rattle.drm_types.specs.declared.outcome.Outcome.{Outcome}
 use Rattle.drm_core.specs.Ring.{credit_limit_of}
 use Rattle.drm_core.specs.Steady.{IsSteady}
-use Rattle.drm_core.specs.Plain.{WaitsStand}
+use Rattle.drm_core.specs.Plain.{marks, WaitsStand, QueuesStand}
 
 abbrev pub ring_of_row : RingRow → RingState
 ring_of_row row = record { pending = row.pending.items; since = row.since }
@@ -27,7 +27,7 @@ state_of t = record {
   memory = t.memory;
   journal = t.journal.items;
   rings = map ring_of_row t.rings.items;
-  entities = t.entities.items;
+  entities = marks t.entities;
 }
 
 -- the ring with one more pending job, from now on where it is the first
@@ -45,20 +45,23 @@ popped_at now s = record { pending = drop 1 s.pending; since = if length s.pendi
 abbrev pub ending : JobRecord → Option Outcome
 ending r = if is_complete r then Some (final_outcome r) else None
 
--- the room that was taken when the device was opened: for all jobs, and for the pending jobs of each ring
+-- the room that was taken when the device was opened: for all jobs, in their queues too, and for the pending jobs of each
+-- ring
 pub record HasRooms (t : Table) : Type 0 where
   pub jobs : t.spec.max_jobs ≤ vec_capacity t.journal
   pub waits : t.spec.max_jobs ≤ vec_capacity t.waits
   pub places : t.fences.places ≡ t.spec.max_jobs
+  pub queues : t.entities.places ≡ t.spec.max_jobs
   pub pending : (ring : ℕ) (row : RingRow) → slice_get t.rings.items ring ≡ Some row → credit_limit_of (state_of t) ring ≤ vec_capacity row.pending
 
--- the tables of a steady device: its fences are those of its jobs, each job that has not ended has its dependencies,
--- and there is room for what may come
+-- the tables of a steady device: its fences and its queues are those of its jobs, each job that has not ended has its
+-- dependencies, and there is room for what may come
 pub record IsWhole (t : Table) : Type 0 where
   pub steady : IsSteady (state_of t)
   pub limits : spec_fault t.spec ≡ None
   pub count : length t.journal.items ≤ t.spec.max_jobs
   pub fences : t.fences.list ≡ map fence_of t.journal.items
   pub waits : WaitsStand t.journal.items t.waits.items
+  pub queues : QueuesStand t.journal.items t.entities
   pub sizes : sizes_of t.memory ≡ sizes_of t.spec.buffers
   pub rooms : HasRooms t

@@ -3,12 +3,10 @@ ghost use Rattle.std.specs.Option.{option_map_or};
 ghost use Rattle.drm_job.specs.Fault.{IsJob};
 ghost use Rattle.drm_core.specs.Arming.{armed_device, ring_of};
 ghost use Rattle.drm_core.specs.Refusals.{arm_refusal as arm_refusal_of};
-ghost use Rattle.drm_core.specs.Ring.{is_stopped};
 ghost use Rattle.drm_core.specs.Tables.{state_of, IsWhole};
 ghost use Rattle.drm_core.specs.Cores.{DepsCover, all_named, entity_at};
 
 use crate::cores::Plan;
-use crate::device::EntityState;
 use crate::event::Refusal;
 use crate::journal::JobRecord;
 use crate::table::Table;
@@ -16,15 +14,6 @@ use drm_fence::Phase;
 use drm_job::Job;
 use drm_resv::Deps;
 use drm_types::{EntityId, FenceId};
-
-fn marked_stopped(entities: &[EntityState], entity: EntityId) -> bool
-    ensures { result ≡ option_map_or (λ e. e.is_stopped) (slice_get entities.now entity) false }
-{
-    match entities.get(entity as usize) {
-        Some(state) => state.is_stopped,
-        None => false,
-    }
-}
 
 // The first of these fences that was not armed yet.
 fn first_unarmed(after: &[FenceId], armed: u32) -> Option<FenceId>
@@ -59,7 +48,7 @@ impl Table {
         requires { IsWhole self.now }
         ensures { result ≡ arm_refusal_of (state_of self.now) job.now }
     {
-        if marked_stopped(&self.entities, job.entity()) {
+        if self.is_stopped(job.entity()) {
             return Some(Refusal::Stopped);
         }
         let armed = self.journal.len() as u32;
@@ -85,7 +74,9 @@ impl Table {
     {
         let Plan { job, mut deps } = plan;
         note_named(&self.journal, job.after(), &mut deps);
-        let ring = self.spec.entities.as_slice()[job.entity() as usize].ring;
+        let entity = job.entity();
+        let ring = self.spec.entities.as_slice()[entity as usize].ring;
+        self.entities.push(entity, self.journal.len() as u32);
         self.waits.push_reserved(deps);
         self.journal.push_reserved(JobRecord {
             job,

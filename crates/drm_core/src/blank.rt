@@ -1,4 +1,4 @@
-ghost use Rattle.std.specs.Prelude.{◌≡◌, false, [], None, IfOk, map, replicate};
+ghost use Rattle.std.specs.Prelude.{◌≡◌, [], None, IfOk, map, replicate};
 ghost use Rattle.drm_types.specs.Limits.{spec_fault};
 ghost use Rattle.drm_core.specs.State.{opened_device, opened};
 ghost use Rattle.drm_core.specs.Tables.{ring_of_row, state_of, IsWhole};
@@ -6,9 +6,9 @@ ghost use Rattle.drm_core.specs.Cores.{core_state, IsCore};
 ghost use Rattle.drm_core.specs.Building.{HaveRoomFor};
 
 use crate::cores::{ContextRow, CoreTable};
-use crate::device::EntityState;
 use crate::table::{RingRow, Table};
 use drm_buffer::Memory;
+use drm_entity::Entities;
 use drm_fence::Timeline;
 use drm_resv::Resv;
 use drm_types::{CtxId, DeviceSpec, RingSpec};
@@ -25,17 +25,6 @@ fn blank_rings(alloc: Global, specs: &[RingSpec]) -> Result<Vec<RingRow>, AllocE
         rows.push(RingRow { pending, since: 0 })?;
     }
     Ok(rows)
-}
-
-// Entities that run.
-fn blank_entities(alloc: Global, count: usize) -> Result<Vec<EntityState>, AllocError>
-    ensures { IfOk result (λ rows. rows.items ≡ replicate count (record { is_stopped = false; is_guilty = false })) }
-{
-    let running = EntityState {
-        is_stopped: false,
-        is_guilty: false,
-    };
-    Ok(vec![in alloc; running; count]?)
 }
 
 // Reservations of buffers that nobody has used.
@@ -80,7 +69,7 @@ impl Table {
         let waits = Vec::with_capacity(alloc, max_jobs)?;
         let fences = Timeline::new(alloc, spec.max_jobs)?;
         let rings = blank_rings(alloc, spec.rings.as_slice())?;
-        let entities = blank_entities(alloc, spec.entities.len())?;
+        let entities = Entities::new(alloc, &spec)?;
         Ok(Table {
             spec,
             memory,

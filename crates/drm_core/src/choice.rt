@@ -1,17 +1,16 @@
-ghost use Rattle.std.specs.Prelude.{◌≡◌, ℕ, ◌<◌, ◌≤◌, ◌^◌, length, map, Some, None, Option, option_map, position, IfSome, IsTrue, ◌&&◌, ◌==◌};
+ghost use Rattle.std.specs.Prelude.{◌≡◌, ◌<◌, ◌≤◌, length, option_map};
 ghost use Rattle.std.specs.List.{list_all};
-ghost use Rattle.drm_types.specs.Firsts.{first};
 ghost use Rattle.drm_fence.specs.Phases.{is_queued as is_queued_phase};
 ghost use Rattle.drm_core.specs.Journal.{is_at};
 ghost use Rattle.drm_core.specs.Order.{is_met as is_met_on};
-ghost use Rattle.drm_core.specs.Choice.{queue_of, choice};
+ghost use Rattle.drm_core.specs.Choice.{choice};
 ghost use Rattle.drm_core.specs.Keys.{comes_before as comes_before_key};
 ghost use Rattle.drm_core.specs.State.{DeviceState};
 ghost use Rattle.drm_core.specs.Steady.{IsSteady};
-ghost use Rattle.drm_core.specs.Plain.{tables, WaitsStand, IsCandidate, better_key};
+ghost use Rattle.drm_core.specs.Plain.{tables, marks, WaitsStand, QueuesStand, IsCandidate, better_key};
 
-use crate::device::EntityState;
 use crate::journal::JobRecord;
+use drm_entity::Entities;
 use drm_fence::Phase;
 use drm_resv::Deps;
 use drm_types::{DeviceSpec, EntityId, FenceId, Priority, RingId};
@@ -64,46 +63,26 @@ fn are_met(journal: &[JobRecord], deps: &Deps, ring: RingId) -> bool
         .all(|dep| is_met(journal, dep.1, ring))
 }
 
-// The place of the first queued job of the entity.
-fn first_queued(journal: &[JobRecord], entity: EntityId) -> Option<usize>
-    ensures place { result ≡ position (λ r. (r.job.entity == entity) && is_queued_phase r.phase) journal.now }
-    ensures within { IfSome result (λ i. i < length journal.now) }
-{
-    journal.iter().position(|record| record.job.entity() == entity && is_queued(record.phase))
-}
-
-/// The head of the entity's queue: its first job that was not given to a ring.
-pub(crate) fn head_of_queue(journal: &[JobRecord], entity: EntityId) -> Option<FenceId>
-    requires { length journal.now < 2 ^ 32 }
-    ensures head { result ≡ option_map (λ n. n.0) (first (queue_of entity journal.now)) }
-    ensures within { IfSome result (λ f. f < length journal.now) }
-{
-    match first_queued(journal, entity) {
-        Some(place) => Some(place as u32),
-        None => None,
-    }
-}
-
 // The entity's head with its key, where it may begin on the ring and is ready.
 fn candidate(
     spec: &DeviceSpec,
     journal: &[JobRecord],
     waits: &[Deps],
-    entities: &[EntityState],
+    entities: &Entities,
     ring: RingId,
     entity: EntityId,
 ) -> Option<Key>
-    requires fits { length journal.now < 2 ^ 32 }
     requires there { entity < length spec.now.entities }
-    requires marked { length entities.now ≡ length spec.now.entities }
-    requires steady { (d : DeviceState) × IsSteady d × (tables d.spec d.journal d.entities ≡ tables spec.now journal.now entities.now) }
+    requires marked { length entities.now.rows ≡ length spec.now.entities }
+    requires steady { (d : DeviceState) × IsSteady d × (tables d.spec d.journal d.entities ≡ tables spec.now journal.now (marks entities.now)) }
     requires waits { WaitsStand journal.now waits.now }
-    ensures { IsCandidate (tables spec.now journal.now entities.now) ring entity result }
+    requires queues { QueuesStand journal.now entities.now }
+    ensures { IsCandidate (tables spec.now journal.now (marks entities.now)) ring entity result }
 {
-    if entities[entity as usize].is_stopped {
+    if entities.is_stopped(entity) {
         return None;
     }
-    let age = head_of_queue(journal, entity)?;
+    let age = entities.head(entity)?;
     let head = &journal[age as usize];
     if head.ring != ring {
         return None;
@@ -121,15 +100,15 @@ pub(crate) fn choose(
     spec: &DeviceSpec,
     journal: &[JobRecord],
     waits: &[Deps],
-    entities: &[EntityState],
+    entities: &Entities,
     ring: RingId,
 ) -> Option<FenceId>
-    requires fits { length journal.now < 2 ^ 32 }
     requires few { length spec.now.entities ≤ 64 }
-    requires marked { length entities.now ≡ length spec.now.entities }
-    requires steady { (d : DeviceState) × IsSteady d × (tables d.spec d.journal d.entities ≡ tables spec.now journal.now entities.now) }
+    requires marked { length entities.now.rows ≡ length spec.now.entities }
+    requires steady { (d : DeviceState) × IsSteady d × (tables d.spec d.journal d.entities ≡ tables spec.now journal.now (marks entities.now)) }
     requires waits { WaitsStand journal.now waits.now }
-    ensures { result ≡ choice (tables spec.now journal.now entities.now) ring }
+    requires queues { QueuesStand journal.now entities.now }
+    ensures { result ≡ choice (tables spec.now journal.now (marks entities.now)) ring }
 {
     let mut best: Option<Key> = None;
     for entity in 0..entities.len() {

@@ -11,7 +11,6 @@ mod arming;
 mod blank;
 mod choice;
 mod cores;
-mod device;
 mod device_calls;
 mod device_events;
 mod event;
@@ -34,7 +33,6 @@ mod tests;
 
 pub use answer::{Expired, Finished, Picked, Stepped};
 pub use cores::{Held, Plan};
-pub use device::EntityState;
 pub use device_calls::Device;
 pub use drm_fence::Phase;
 pub use event::{Answer, Event, Refusal};

@@ -6,12 +6,11 @@ ghost use Rattle.drm_reset.specs.declared.verdict.Verdict.TheVariants.{Hang};
 ghost use Rattle.drm_core.specs.Answers.{timed_out};
 ghost use Rattle.drm_core.specs.Journal.{changed_at};
 ghost use Rattle.drm_core.specs.Outcomes.{condemned, is_kernel as is_kernel_entity, timeout_outcome};
-ghost use Rattle.drm_core.specs.Recovery.{blamed_by, guilty_in, verdict_at};
+ghost use Rattle.drm_core.specs.Recovery.{blamed_by, verdict_at};
 ghost use Rattle.drm_core.specs.Ring.{head_of};
 ghost use Rattle.drm_core.specs.Tables.{state_of, IsWhole};
 
 use crate::answer::Expired;
-use crate::device::EntityState;
 use crate::journal::JobRecord;
 use crate::table::{self, Table};
 use drm_fence::Phase;
@@ -69,14 +68,6 @@ fn blame(journal: &mut Vec<JobRecord>, number: FenceId, kernel: bool) -> u16
     record.karma
 }
 
-// The entity is guilty from now on.
-fn mark_guilty(entities: &mut Vec<EntityState>, entity: EntityId)
-    requires { entity < vec_len entities.old }
-    ensures { entities.new.items ≡ guilty_in entities.old.items entity }
-{
-    entities[entity as usize].is_guilty = true;
-}
-
 impl Table {
     /// Whether the entity's priority is KERNEL.
     fn is_kernel(&self, entity: EntityId) -> bool
@@ -120,7 +111,7 @@ impl Table {
             return Expired::Resumed;
         }
         condemn(&mut self.journal, ring, entity);
-        mark_guilty(&mut self.entities, entity);
+        self.entities.set_guilty(entity);
         Expired::Guilty { entity }
     }
 

@@ -112,8 +112,10 @@ impl Table {
         if need > free {
             return Err(Refusal::NoCredit { need, free });
         }
-        let skipped = self.is_guilty(number);
+        let entity = self.journal[number as usize].job.entity();
+        let skipped = self.entities.is_guilty(entity);
         schedule_job(&mut self.journal, &mut self.fences, number, skipped);
+        self.entities.pop(entity);
         self.rings[ring as usize].put(number, now);
         Ok(Picked {
             fence: number,

@@ -1,29 +1,20 @@
-ghost use Rattle.std.specs.Prelude.{◌≡◌, ◌<◌, ◌||◌, ◌==◌, not, length, OnOk, IfOk, IfErr, Some, None, true, vec_len};
+ghost use Rattle.std.specs.Prelude.{◌≡◌, ◌<◌, ◌||◌, ◌==◌, not, length, OnOk, IfOk, IfErr, Some, None};
 ghost use Rattle.std.specs.List.{list_all};
 ghost use Rattle.drm_fence.specs.Phases.{has_ended};
 ghost use Rattle.drm_core.specs.declared.event.Answer.TheVariants as answer;
 ghost use Rattle.drm_core.specs.Journal.{is_at};
-ghost use Rattle.drm_core.specs.Ring.{is_stopped, entity_changed};
+ghost use Rattle.drm_core.specs.Ring.{is_stopped};
 ghost use Rattle.drm_core.specs.Outcomes.{cancelled_device, reap_outcome};
 ghost use Rattle.drm_core.specs.Refusals.{cancel_refusal, reap_refusal};
 ghost use Rattle.drm_core.specs.Stopping.{may_end_after};
 ghost use Rattle.drm_core.specs.Tables.{state_of, IsWhole};
 
-use crate::device::EntityState;
 use crate::event::Refusal;
 use crate::journal::JobRecord;
 use crate::table::Table;
-use crate::{choice, running};
+use crate::running;
 use drm_resv::Deps;
 use drm_types::{EntityId, FenceId, Outcome};
-
-// The entity takes no jobs any more.
-fn stop(entities: &mut Vec<EntityState>, entity: EntityId)
-    requires { entity < vec_len entities.old }
-    ensures { entities.new.items ≡ entity_changed entities.old.items entity (λ e. record e { is_stopped = true }) }
-{
-    entities[entity as usize].is_stopped = true;
-}
 
 // Whether the job is there and has its outcome.
 fn has_outcome(journal: &[JobRecord], fence: FenceId) -> bool
@@ -64,10 +55,7 @@ impl Table {
     pub(crate) fn is_stopped(&self, entity: EntityId) -> bool
         ensures { result ≡ is_stopped (state_of self.now) entity }
     {
-        match self.entities.get(entity as usize) {
-            Some(state) => state.is_stopped,
-            None => false,
-        }
+        (entity as usize) < self.entities.len() && self.entities.is_stopped(entity)
     }
 
     /// Stops the entity (`drm_sched_entity_kill`). Its queued jobs stay, and end one after another as they are reaped.
@@ -81,7 +69,7 @@ impl Table {
         if self.is_stopped(entity) {
             return Err(Refusal::AlreadyStopped);
         }
-        stop(&mut self.entities, entity);
+        self.entities.stop(entity);
         Ok(())
     }
 
@@ -97,7 +85,7 @@ impl Table {
         if !self.is_stopped(entity) {
             return Err(Refusal::Nothing);
         }
-        let Some(number) = choice::head_of_queue(&self.journal, entity) else {
+        let Some(number) = self.entities.head(entity) else {
             return Err(Refusal::Nothing);
         };
         if !may_end(&self.journal, &self.waits[number as usize], number, entity) {
@@ -109,6 +97,7 @@ impl Table {
             number,
             Outcome::Stopped,
         );
+        self.entities.pop(entity);
         Ok(number)
     }
 }

@@ -2,15 +2,15 @@ ghost use Rattle.std.specs.Prelude.{◌≡◌, ℕ, ◌<◌, ◌≤◌, not, len
 ghost use Rattle.std.specs.Option.{option_map_or};
 ghost use Rattle.drm_types.specs.Firsts.{first};
 ghost use Rattle.drm_core.specs.Journal.{is_at, is_complete as is_complete_record};
-ghost use Rattle.drm_core.specs.Ring.{current_of, head_of, credits_of, used_credits, credit_limit_of, is_guilty as entity_is_guilty};
+ghost use Rattle.drm_core.specs.Ring.{current_of, head_of, credits_of, used_credits, credit_limit_of};
 ghost use Rattle.drm_core.specs.Tables.{state_of};
 
-use crate::device::EntityState;
 use crate::journal::JobRecord;
 use drm_buffer::Memory;
+use drm_entity::Entities;
 use drm_fence::Timeline;
 use drm_resv::Deps;
-use drm_types::{DeviceSpec, EntityId, FenceId, Moment, RingId, RingSpec};
+use drm_types::{DeviceSpec, FenceId, Moment, RingId, RingSpec};
 
 /// A ring: the numbers of its pending jobs in order, and the moment from which its head's age counts.
 #[derive(Drop)]
@@ -29,16 +29,8 @@ pub struct Table {
     pub waits: Vec<Deps>,
     pub fences: Timeline,
     pub rings: Vec<RingRow>,
-    pub entities: Vec<EntityState>,
-}
-
-fn marked_guilty(entities: &[EntityState], entity: EntityId) -> bool
-    ensures { result ≡ option_map_or (λ e. e.is_guilty) (slice_get entities.now entity) false }
-{
-    match entities.get(entity as usize) {
-        Some(state) => state.is_guilty,
-        None => false,
-    }
+    /// The queued jobs of each entity, and its marks.
+    pub entities: Entities,
 }
 
 /// Whether the ring is done with the job: all its packets ran, or it is skipped.
@@ -118,16 +110,6 @@ impl RingRow {
 }
 
 impl Table {
-    /// Whether the job is there and its entity is guilty.
-    pub(crate) fn is_guilty(&self, fence: FenceId) -> bool
-        ensures { result ≡ is_at self.now.journal.items fence (λ r. entity_is_guilty (state_of self.now) r.job.entity) }
-    {
-        match self.journal.get(fence as usize) {
-            Some(record) => marked_guilty(&self.entities, record.job.entity()),
-            None => false,
-        }
-    }
-
     pub(crate) fn ring_spec(&self, ring: RingId) -> RingSpec
         requires { ring < length self.now.spec.rings }
         ensures { slice_get self.now.spec.rings ring ≡ Some result }

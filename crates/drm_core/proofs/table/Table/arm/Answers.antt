@@ -1,8 +1,10 @@
-use Rattle.std.proofs.Common.{◌≡◌, ◌∙◌, ap, subst, length, slice_get, Some, ◌∷◌, ◌++◌, []}
+use Rattle.std.proofs.Common.{◌≡◌, ◌∙◌, sym, ap, subst, length, slice_get, Some, ◌∷◌, ◌++◌, []}
 use Rattle.std.proofs.lemmas.List.{length-map}
+use Rattle.drm_entity.specs.Rows.{IsFresh, pushed}
 use Rattle.drm_core.specs.Tables.{state_of, fence_of}
 use Rattle.drm_core.specs.Cores.{all_named}
 use Rattle.drm_core.proofs.ArmDone.{few_entities, arm_done, ring_found}
+use Rattle.drm_core.proofs.Queues.{is_fresh}
 use Rattle.drm_core.proofs.table.Table.arm.Goals as goal
 
 pub note_named-requires : goal.note_named-requires
@@ -12,6 +14,11 @@ note_named-requires c r f at =
     let at_items : slice_get t.journal.items f ≡ Some r = subst (λ js. slice_get js f ≡ Some r) c.deref.ensures.value at in
     (few_entities t.spec r.job w.limits (w.steady.lawful.records f r at_items).job).1
 
+pub push-requires-clause-fresh : goal.push-requires-clause-fresh
+push-requires-clause-fresh c =
+    let t = c.args.self.now in
+    subst (IsFresh t.entities) (sym (c.len.ensures ∙ t.journal.ok.0)) (is_fresh t.journal.items t.entities c.requires.whole.queues)
+
 pub returns-clause-armed : goal.returns-clause-armed
 returns-clause-armed c =
     let t = c.args.self.now in
@@ -19,11 +26,13 @@ returns-clause-armed c =
     let job = c.args.plan.job in
     let w = c.requires.whole in
     let may = c.requires.may in
-    let ring = ring_found d c.as_slice.result.now c.entity.result job.entity _ c.as_slice.ensures c.entity.ensures (few_entities t.spec job w.limits c.requires.job).0 in
+    let ring = ring_found d c.as_slice.result.now c.entity-entity.result job.entity _ c.as_slice.ensures c.entity-entity.ensures (few_entities t.spec job w.limits c.requires.job).0 in
     let deps : c.note_named.new.deps ≡ all_named t.journal.items c.args.plan.deps job.after =
     c.note_named.ensures ∙ (ap (λ js. all_named js c.args.plan.deps c.after.result.now) c.deref.ensures.value ∙ ap (all_named t.journal.items c.args.plan.deps) c.after.ensures) in
-    let done = arm_done t job c.args.plan.deps _ c.push_reserved-2.new.self c.push_reserved.new.self c.arm.new.self w c.requires.job c.requires.covers may ring
-    c.push_reserved-2.ensures.items (c.push_reserved.ensures.items ∙ ap (λ ds. t.waits.items ++ ds ∷ []) deps) c.arm.ensures.armed c.push_reserved-2.ensures.capacity c.push_reserved.ensures.capacity c.arm.ensures.places in
+    let queued : c.push.new.self ≡ pushed t.entities job.entity (length t.journal.items) =
+    c.push.ensures ∙ (ap (λ e. pushed t.entities e c.len.result) c.entity-entity.ensures ∙ ap (pushed t.entities job.entity) (c.len.ensures ∙ t.journal.ok.0)) in
+    let done = arm_done t job c.args.plan.deps _ c.push_reserved-2.new.self c.push_reserved.new.self c.arm.new.self c.push.new.self w c.requires.job c.requires.covers may ring
+    c.push_reserved-2.ensures.items (c.push_reserved.ensures.items ∙ ap (λ ds. t.waits.items ++ ds ∷ []) deps) c.arm.ensures.armed c.push_reserved-2.ensures.capacity c.push_reserved.ensures.capacity c.arm.ensures.places queued in
     done.0
 
 pub returns-clause-number : goal.returns-clause-number
@@ -38,9 +47,11 @@ returns-clause-whole c =
     let job = c.args.plan.job in
     let w = c.requires.whole in
     let may = c.requires.may in
-    let ring = ring_found d c.as_slice.result.now c.entity.result job.entity _ c.as_slice.ensures c.entity.ensures (few_entities t.spec job w.limits c.requires.job).0 in
+    let ring = ring_found d c.as_slice.result.now c.entity-entity.result job.entity _ c.as_slice.ensures c.entity-entity.ensures (few_entities t.spec job w.limits c.requires.job).0 in
     let deps : c.note_named.new.deps ≡ all_named t.journal.items c.args.plan.deps job.after =
     c.note_named.ensures ∙ (ap (λ js. all_named js c.args.plan.deps c.after.result.now) c.deref.ensures.value ∙ ap (all_named t.journal.items c.args.plan.deps) c.after.ensures) in
-    let done = arm_done t job c.args.plan.deps _ c.push_reserved-2.new.self c.push_reserved.new.self c.arm.new.self w c.requires.job c.requires.covers may ring
-    c.push_reserved-2.ensures.items (c.push_reserved.ensures.items ∙ ap (λ ds. t.waits.items ++ ds ∷ []) deps) c.arm.ensures.armed c.push_reserved-2.ensures.capacity c.push_reserved.ensures.capacity c.arm.ensures.places in
+    let queued : c.push.new.self ≡ pushed t.entities job.entity (length t.journal.items) =
+    c.push.ensures ∙ (ap (λ e. pushed t.entities e c.len.result) c.entity-entity.ensures ∙ ap (pushed t.entities job.entity) (c.len.ensures ∙ t.journal.ok.0)) in
+    let done = arm_done t job c.args.plan.deps _ c.push_reserved-2.new.self c.push_reserved.new.self c.arm.new.self c.push.new.self w c.requires.job c.requires.covers may ring
+    c.push_reserved-2.ensures.items (c.push_reserved.ensures.items ∙ ap (λ ds. t.waits.items ++ ds ∷ []) deps) c.arm.ensures.armed c.push_reserved-2.ensures.capacity c.push_reserved.ensures.capacity c.arm.ensures.places queued in
     done.1

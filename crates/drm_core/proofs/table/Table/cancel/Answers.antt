@@ -1,5 +1,14 @@
-use Rattle.drm_core.proofs.Reaping.{stopped_whole}
+use Rattle.std.proofs.Common.{ap, sym, ◌∙◌}
+use Rattle.drm_types.specs.Firsts.{when}
+use Rattle.drm_core.specs.declared.event.Refusal.TheVariants.{AlreadyStopped}
+use Rattle.drm_core.proofs.Reaping.{stopped_done}
 use Rattle.drm_core.proofs.table.Table.cancel.Goals as goal
 
+pub returns-clause-stopped : goal.returns-clause-stopped
+returns-clause-stopped c = (
+  ap (λ b. when b AlreadyStopped) (sym c.is_stopped.ensures ∙ c.if-is_stopped.false),
+  (stopped_done c.args.self.now c.args.entity c.stop.new.self c.requires.whole c.requires.there c.stop.ensures).0,
+)
+
 pub returns-clause-whole : goal.returns-clause-whole
-returns-clause-whole c = stopped_whole c.args.self.now c.args.entity c.stop.new.entities c.requires.whole c.stop.ensures
+returns-clause-whole c = (stopped_done c.args.self.now c.args.entity c.stop.new.self c.requires.whole c.requires.there c.stop.ensures).1

@@ -1,8 +1,8 @@
 use Rattle.std.proofs.Common.{◌<◌, sym, subst, length}
 use Rattle.drm_core.specs.Tables.{state_of}
 use Rattle.drm_core.proofs.FinishLawful.{head_is}
-use Rattle.drm_core.proofs.Hanging.{is_blamed, resumed_done, guilty_done, entity_there}
-use Rattle.drm_core.proofs.TableFacts.{vec_holds}
+use Rattle.drm_core.proofs.Hanging.{is_blamed, resumed_done, guilty_done}
+use Rattle.drm_core.proofs.TableFacts.{entity_there, vec_holds}
 use Rattle.drm_core.proofs.table.Table.hang.Goals as goal
 
 pub index-requires : goal.index-requires
@@ -33,14 +33,13 @@ returns-then-karma-ring_spec-clause-whole c =
     c.blame-karma.ensures.journal c.blame-karma.ensures.room c.index_mut.ensures.value c.blame-karma.ensures.karma c.ring_spec.ensures in
     (resumed_done c.requires.whole c.requires.there b c.if-karma-ring_spec.true).1
 
-pub mark_guilty-requires : goal.mark_guilty-requires
-mark_guilty-requires c =
+pub set_guilty-requires : goal.set_guilty-requires
+set_guilty-requires c =
     let t = c.args.self.now in
     let b = is_blamed t c.args.ring c.args.now c.args.number c.index.result.now c.entity-entity.result c.is_kernel-kernel.result c.blame-karma.new.journal c.index_mut.result.now c.ring_spec.result
     c.blame-karma.result c.requires.whole c.requires.there c.requires.head c.requires.hangs c.index.ensures c.entity-entity.ensures c.is_kernel-kernel.ensures
     c.blame-karma.ensures.journal c.blame-karma.ensures.room c.index_mut.ensures.value c.blame-karma.ensures.karma c.ring_spec.ensures in
-    subst (λ n. c.entity-entity.result < n) (sym t.entities.ok.0)
-    (subst (λ e. e < length t.entities.items) (sym c.entity-entity.ensures) (entity_there t c.args.number c.index.result.now c.requires.whole b.head.at))
+    (subst (λ e. e < length t.entities.rows) (sym c.entity-entity.ensures) (entity_there t c.args.number c.index.result.now c.requires.whole b.head.at))
 
 pub returns-clause-expired : goal.returns-clause-expired
 returns-clause-expired c =
@@ -48,8 +47,8 @@ returns-clause-expired c =
     let b = is_blamed t c.args.ring c.args.now c.args.number c.index.result.now c.entity-entity.result c.is_kernel-kernel.result c.blame-karma.new.journal c.index_mut.result.now c.ring_spec.result
     c.blame-karma.result c.requires.whole c.requires.there c.requires.head c.requires.hangs c.index.ensures c.entity-entity.ensures c.is_kernel-kernel.ensures
     c.blame-karma.ensures.journal c.blame-karma.ensures.room c.index_mut.ensures.value c.blame-karma.ensures.karma c.ring_spec.ensures in
-    (guilty_done c.entity-entity.result c.condemn.new.journal c.mark_guilty.new.entities c.requires.whole c.requires.there b c.if-karma-ring_spec.false c.entity-entity.ensures
-    c.condemn.ensures.journal c.condemn.ensures.room c.mark_guilty.ensures).0
+    (guilty_done c.entity-entity.result c.condemn.new.journal c.set_guilty.new.self c.requires.whole c.requires.there b c.if-karma-ring_spec.false c.entity-entity.ensures
+    c.condemn.ensures.journal c.condemn.ensures.room c.set_guilty.ensures).0
 
 pub returns-clause-whole : goal.returns-clause-whole
 returns-clause-whole c =
@@ -57,5 +56,5 @@ returns-clause-whole c =
     let b = is_blamed t c.args.ring c.args.now c.args.number c.index.result.now c.entity-entity.result c.is_kernel-kernel.result c.blame-karma.new.journal c.index_mut.result.now c.ring_spec.result
     c.blame-karma.result c.requires.whole c.requires.there c.requires.head c.requires.hangs c.index.ensures c.entity-entity.ensures c.is_kernel-kernel.ensures
     c.blame-karma.ensures.journal c.blame-karma.ensures.room c.index_mut.ensures.value c.blame-karma.ensures.karma c.ring_spec.ensures in
-    (guilty_done c.entity-entity.result c.condemn.new.journal c.mark_guilty.new.entities c.requires.whole c.requires.there b c.if-karma-ring_spec.false c.entity-entity.ensures
-    c.condemn.ensures.journal c.condemn.ensures.room c.mark_guilty.ensures).1
+    (guilty_done c.entity-entity.result c.condemn.new.journal c.set_guilty.new.self c.requires.whole c.requires.there b c.if-karma-ring_spec.false c.entity-entity.ensures
+    c.condemn.ensures.journal c.condemn.ensures.room c.set_guilty.ensures).1

@@ -1,5 +1,6 @@
-use Rattle.std.proofs.Common.{ap, ◌∙◌, subst, map, [], replicate, false, arith}
+use Rattle.std.proofs.Common.{ap, ◌∙◌, subst, map, [], arith}
 use Rattle.drm_types.specs.declared.spec.RingSpec.{RingSpec}
+use Rattle.drm_entity.specs.Rows.{EntityRows}
 use Rattle.drm_core.specs.declared.table.Table.{Table}
 use Rattle.drm_core.specs.Building.{HaveRoomFor}
 use Rattle.drm_core.proofs.Blanks.{blank_device, blank_whole}
@@ -10,17 +11,18 @@ returns-clause-opened c =
     let t : Table = record { spec = c.args.spec; memory = c.in_ok-memory.memory; journal = c.in_ok-journal.journal; waits = c.in_ok-waits.waits; fences = c.in_ok-fences.fences; rings = c.in_ok-rings.rings; entities = c.in_ok-entities.entities } in
     blank_device t c.in_ok-memory.ensures c.in_ok-journal.ensures.items
     (c.in_ok-rings.ensures.rows ∙ ap (map (λ (ring : RingSpec). record { pending = []; since = 0 })) c.as_slice.ensures)
-    (c.in_ok-entities.ensures ∙ ap (λ n. replicate n (record { is_stopped = false; is_guilty = false })) c.len.ensures)
+    c.in_ok-entities.ensures
 
 pub returns-clause-whole : goal.returns-clause-whole
 returns-clause-whole c =
     let t : Table = record { spec = c.args.spec; memory = c.in_ok-memory.memory; journal = c.in_ok-journal.journal; waits = c.in_ok-waits.waits; fences = c.in_ok-fences.fences; rings = c.in_ok-rings.rings; entities = c.in_ok-entities.entities } in
     let opened = blank_device t c.in_ok-memory.ensures c.in_ok-journal.ensures.items
     (c.in_ok-rings.ensures.rows ∙ ap (map (λ (ring : RingSpec). record { pending = []; since = 0 })) c.as_slice.ensures)
-    (c.in_ok-entities.ensures ∙ ap (λ n. replicate n (record { is_stopped = false; is_guilty = false })) c.len.ensures) in
-    blank_whole t opened c.requires.limits c.in_ok-fences.ensures.1 c.in_ok-waits.ensures.items (record {
+    c.in_ok-entities.ensures in
+    blank_whole t opened c.requires.limits c.in_ok-fences.ensures.1 c.in_ok-waits.ensures.items c.in_ok-entities.ensures (record {
       jobs = omega (arith, c.in_ok-journal.ensures.exact);
       waits = omega (arith, c.in_ok-waits.ensures.exact);
       places = c.in_ok-fences.ensures.0;
+      queues = ap (λ (e : EntityRows). e.places) c.in_ok-entities.ensures;
       pending = subst (λ specs. HaveRoomFor specs c.in_ok-rings.rings.items) c.as_slice.ensures c.in_ok-rings.ensures.room;
     })
