@@ -37,7 +37,8 @@ use Rattle.drm_core.proofs.PickDone.{spec_tests}
 use Rattle.drm_core.proofs.ArmLawful.{arm_steady, get_before_push}
 use Rattle.drm_core.proofs.DeviceSteps.{not_when}
 use Rattle.drm_core.proofs.TableFacts.{entity_row_there}
-use Rattle.drm_core.proofs.Queues.{row_at, marks_pushed, stands_pushed}
+use Rattle.drm_core.proofs.Queues.{marks_pushed, stands_pushed}
+use Rattle.drm_core.proofs.Records.{stands_within}
 use Rattle.drm_core.proofs.Notes.{Reaches, each_keeps, each_reaches, each_all}
 
 -- an entity of a job is below 64
@@ -83,12 +84,6 @@ may_arm d job may =
     not_found None is = refl
     not_found (Some f) is = absurd (cc (is))
 
--- a number that is below the length has a record
-record_below : (journal : List JobRecord) (f : ℕ) → f < length journal → (x : JobRecord) × (slice_get journal f ≡ Some x)
-record_below [] f lt = absurd (omega (arith, lt))
-record_below (x ∷ xs) zero lt = (x, refl)
-record_below (x ∷ xs) (suc f) lt = record_below xs f (omega (arith, lt))
-
 -- a name among the explicit fences
 named_at : (after : List ℕ) (i : ℕ) → list_any (λ f. f == i) after ≡ true → (k : ℕ) × (slice_get after k ≡ Some i)
 named_at [] i is = absurd (let never : false ≡ true = is in cc (never))
@@ -121,7 +116,7 @@ new_stands d job deps new cover may = record {
       (All-weaker (MeetsPlan d.journal job) (IsDependency (d.journal ++ new ∷ []) (length d.journal) job) (λ e is.
       (is.0, get_before_push d.journal new e.1 is.0 is.1, is.2, slice_get_within d.journal e.1 is.0 is.1, or_left (conflicts is.0.job job) (list_any (λ f. f == e.1) job.after) is.3)) deps cover.of_jobs)
       (λ k f at.
-      let x = record_below d.journal f (may.named k f at) in (
+      let x = stands_within d.journal f (may.named k f at) in (
         x.0,
         get_before_push d.journal new f x.0 x.1,
         sym (ap (λ o. option_map_or (λ (r : JobRecord). r.job.entity) o 0) x.1),
@@ -194,7 +189,7 @@ arm_done t job deps ring journal waits fences entities w is_job cover may ring_i
     let new = new_record d job in
     let arms = may_arm d job may in
     let items_are : journal.items ≡ t.journal.items ++ new ∷ [] = items ∙ ap (λ n. t.journal.items ++ record new { ring = n } ∷ []) ring_is in
-    let row = row_at t.entities.rows job.entity (entity_row_there t job.entity w (few_entities t.spec job w.limits is_job).0) in
+    let row = stands_within t.entities.rows job.entity (entity_row_there t job.entity w (few_entities t.spec job w.limits is_job).0) in
     let marks_same : marks entities ≡ marks t.entities = ap marks queued ∙ marks_pushed t.entities job.entity (length t.journal.items) row.0 row.1 in
     let state : state_of (armed_tables t journal waits fences entities) ≡ armed_device d job =
     ap (λ es. let s : DeviceState = record d { journal = journal.items; entities = es } in s) marks_same

@@ -1,5 +1,5 @@
 -- A timeout of the tables is that of its definition, and keeps the tables whole.
-use Rattle.std.proofs.Common.{◌≡◌, ℕ, ◌-◌, ◌<◌, ◌≤◌, Bool, true, false, not, cond, List, [], ◌∷◌, length, map, get_or, set, Some, refl, sym, ap, subst, ◌∙◌, inl, inr, arith, slice_get}
+use Rattle.std.proofs.Common.{◌≡◌, ℕ, ◌-◌, ◌<◌, ◌≤◌, Bool, true, false, cond, List, [], ◌∷◌, length, map, get_or, set, Some, refl, sym, ap, subst, ◌∙◌, inl, inr, arith, slice_get}
 use Rattle.std.specs.declared.alloc.Global.{Global}
 use Rattle.std.specs.Prelude.{nat_lt, vec_capacity, Vec}
 use Rattle.std.specs.Option.{option_map_or}
@@ -26,9 +26,9 @@ use Rattle.drm_core.proofs.CallsAre.{Left, at_record_there}
 use Rattle.drm_core.proofs.Candidates.{at_index}
 use Rattle.drm_core.proofs.DeviceSteps.{IsKept, timeout_kept}
 use Rattle.drm_core.proofs.FinishLawful.{IsHead, head_is, set_same}
-use Rattle.drm_core.proofs.Records.{at_test, changed_is, to_map}
+use Rattle.drm_core.proofs.Records.{stands_within, at_test, changed_is, to_map}
 use Rattle.drm_core.proofs.TableFacts.{entity_there, rings_tie, rooms_kept, row_found, whole_kept}
-use Rattle.drm_core.proofs.Queues.{row_at, marks_changed, stands_set, stands_map, stands_marked}
+use Rattle.drm_core.proofs.Queues.{marks_changed, stands_set, stands_map, stands_marked}
 
 -- the outcome of a timeout, by what it finds of the head
 abbrev pub by_verdict : DeviceState → ℕ → ℕ → ℕ → JobRecord → Verdict → Left
@@ -162,7 +162,7 @@ guilty_done {t} {ring} {now} {f} {r} {journal} {row} {limits} {karma} entity las
     let blame : EntityRow → EntityRow = λ r. record r { is_guilty = true } in
     let mark : EntityState → EntityState = λ e. record e { is_guilty = true } in
     let guilty_marks = entity_changed (marks t.entities) entity mark in
-    let entity_row = row_at t.entities.rows entity (subst (λ n. n < length t.entities.rows) (sym of_entity) (entity_there t f r w b.head.at)) in
+    let entity_row = stands_within t.entities.rows entity (subst (λ n. n < length t.entities.rows) (sym of_entity) (entity_there t f r w b.head.at)) in
     let marked : marks entities ≡ guilty_marks = ap marks guilty ∙ marks_changed t.entities entity entity_row.0 blame mark entity_row.1 refl in
     let queues : QueuesStand last.items entities =
     subst (QueuesStand last.items) (sym guilty)

@@ -40,7 +40,8 @@ use Rattle.drm_core.proofs.Readback.{writers_ended}
 use Rattle.drm_core.proofs.HeadlineGiven.{run_holders_begun, opened_holders_begun, read_given}
 use Rattle.drm_core.proofs.HeadlineReads.{run_plans_held, opened_plans_held, may_read_on}
 use Rattle.drm_core.proofs.Places.{run_places_kept, no_places}
-use Rattle.drm_core.proofs.HeadlineSteps.{is_refusal, cases_step, stands_within, ended_stays, refused_keeps, step_leaves_bytes}
+use Rattle.drm_core.proofs.Records.{stands_within}
+use Rattle.drm_core.proofs.HeadlineSteps.{is_refusal, cases_step, ended_stays, refused_keeps, step_leaves_bytes}
 
 -- where a run leads is steady, and of the same description
 pub run_is_steady : (s : CoreState) (spec : DeviceSpec) (events : List Event) (answers : List Answer) (new : CoreState) → IsSteadyCore s → s.device.spec ≡ spec

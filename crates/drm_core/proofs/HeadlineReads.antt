@@ -37,7 +37,7 @@ use Rattle.drm_core.specs.Run.{Run}
 use Rattle.drm_core.specs.Steady.{PlansHeld}
 use Rattle.drm_core.specs.Step.{Step}
 use Rattle.drm_core.specs.Headline.{is_writer, MayRead, GivesUp}
-use Rattle.drm_core.proofs.Records.{to_map}
+use Rattle.drm_core.proofs.Records.{stands_within, to_map}
 use Rattle.drm_core.proofs.Pairs.{get_set_other}
 use Rattle.drm_core.proofs.Pending.{contains_at, place_of}
 use Rattle.drm_core.proofs.PickLawful.{get_push_cases}
@@ -46,7 +46,7 @@ use Rattle.drm_core.proofs.DeviceSteps.{changed_count}
 use Rattle.drm_core.proofs.CoreSteps.{plan_in}
 use Rattle.drm_core.proofs.Opening.{no_plans}
 use Rattle.drm_core.proofs.CoreArmed.{used_declared}
-use Rattle.drm_core.proofs.HeadlineSteps.{cases_step, stands_within, ended_stays, at_cond, at_option, at_any_record, at_timeout}
+use Rattle.drm_core.proofs.HeadlineSteps.{cases_step, ended_stays, at_cond, at_option, at_any_record, at_timeout}
 
 -- ---- who holds a buffer
 

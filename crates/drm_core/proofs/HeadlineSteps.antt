@@ -1,5 +1,5 @@
 -- What a step tells: it was refused and changed nothing, or was not and had its outcome.
-use Rattle.std.proofs.Common.{◌≡◌, ℕ, zero, suc, ◌<◌, Bool, true, false, cond, List, [], ◌∷◌, Some, None, Option, refl, sym, ap, subst, ◌∙◌, inl, inr, ◌⊎◌, arith, slice_get}
+use Rattle.std.proofs.Common.{◌≡◌, ℕ, ◌<◌, Bool, true, false, cond, List, [], ◌∷◌, Some, None, Option, refl, sym, ap, subst, ◌∙◌, inl, inr, ◌⊎◌, slice_get}
 use Rattle.std.specs.Option.{option_map_or}
 use Rattle.std.specs.Prelude.{option_map, nat_lt, length}
 use Rattle.std.proofs.lemmas.Bool.{cases_eq, ltb-true, both_ways}
@@ -76,12 +76,6 @@ cases_step s e a n (inl is) = by_refusal (first_of (early_refusal s e ∷ late_r
           answers = ap (λ (p : Answer × CoreState). p.0) same;
           leaves = ap (λ (p : Answer × CoreState). p.1) same;
         })
-
--- what stands at a place within the list
-pub stands_within : {X : Type 0} (xs : List X) (i : ℕ) → i < length xs → (x : X) × (slice_get xs i ≡ Some x)
-stands_within [] i lt = absurd (omega (arith, lt))
-stands_within (x ∷ xs) zero lt = (x, refl)
-stands_within (x ∷ xs) (suc i) lt = stands_within xs i (omega (arith, lt))
 
 -- an outcome stays
 pub ended_stays : (p q : Phase) → GoesOn p q → has_ended p ≡ true → q ≡ p

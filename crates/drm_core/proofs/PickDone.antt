@@ -11,6 +11,7 @@ use Rattle.std.proofs.lemmas.List.Sums.{sum_by-cons}
 use Rattle.std.proofs.lemmas.Bool.{cases_Bool, and_parts, leb-true, ltb-false, ltb-true, lt-ltb, eqb-false}
 use Rattle.drm_types.specs.declared.spec.DeviceSpec.{DeviceSpec}
 use Rattle.drm_types.specs.declared.spec.RingSpec.{RingSpec}
+use Rattle.drm_types.specs.declared.spec.EntitySpec.{EntitySpec}
 use Rattle.drm_types.specs.declared.spec.BadSpec.{BadSpec}
 use Rattle.drm_types.specs.Firsts.{when}
 use Rattle.drm_types.specs.Limits.{spec_fault, whole, each, is_between}
@@ -67,6 +68,13 @@ spec_tests spec =
     ∷ whole 8 (is_between 1 65535 spec.max_jobs)
     ∷ []
 
+no_place : (f : ℕ → BadSpec) (o : Option ℕ) → option_map f o ≡ None → o ≡ None
+no_place f None is = refl
+no_place f (Some i) is = absurd (cc (is))
+
+position_from-zero-none : {X : Type 0} (p : X → Bool) (xs : List X) → position p xs ≡ None → position_from p 0 xs ≡ None
+position_from-zero-none p xs is = sym (position_from-zero p xs) ∙ is
+
 -- a ring of a device has a credit at least
 pub some_limit : (spec : DeviceSpec) (ring : ℕ) → spec_fault spec ≡ None → ring < length spec.rings → 0 < option_map_or (λ (r : RingSpec). r.credit_limit) (slice_get spec.rings ring) 0
 some_limit spec ring none there =
@@ -80,13 +88,16 @@ some_limit spec ring none there =
     (none_at (spec_tests spec) 3 (each 3 (λ ring. is_between 1 65535 ring.credit_limit) spec.rings) none refl))) at in
     let least = leb-true 1 r.credit_limit (and_parts (nat_le 1 r.credit_limit) (nat_le r.credit_limit 65535) passes).0 in
     subst (λ o. 0 < option_map_or (λ (x : RingSpec). x.credit_limit) o 0) (sym at) least
-  where
-    no_place : (f : ℕ → BadSpec) (o : Option ℕ) → option_map f o ≡ None → o ≡ None
-    no_place f None is = refl
-    no_place f (Some i) is = absurd (cc (is))
 
-    position_from-zero-none : {X : Type 0} (p : X → Bool) (xs : List X) → position p xs ≡ None → position_from p 0 xs ≡ None
-    position_from-zero-none p xs is = sym (position_from-zero p xs) ∙ is
+-- the ring of an entity is there
+pub ring_there : (spec : DeviceSpec) (entity : ℕ) (e : EntitySpec) → spec_fault spec ≡ None → slice_get spec.entities entity ≡ Some e → e.ring < length spec.rings
+ring_there spec entity e none at =
+    let is_there : EntitySpec → Bool = λ x. nat_lt x.ring (length spec.rings) in
+    ltb-true e.ring (length spec.rings)
+    (none_bad is_there 0 spec.entities entity e
+    (position_from-zero-none (λ x. not (is_there x)) spec.entities
+    (no_place (λ i. record { part = 7; index = i }) (position (λ x. not (is_there x)) spec.entities)
+    (none_at (spec_tests spec) 7 (each 7 is_there spec.entities) none refl))) at)
 
 -- a job counts a credit at least
 pub some_credits : (spec : DeviceSpec) (job : Draft) → IsJob spec job → 0 < job.credits

@@ -27,7 +27,8 @@ use Rattle.drm_core.proofs.ArmDone.{each_fails}
 use Rattle.drm_core.proofs.CoreSteps.{step_is_kept}
 use Rattle.drm_core.proofs.DeviceSteps.{not_when}
 use Rattle.drm_core.proofs.HeadlineReads.{Arms, CountsOn, counts_on}
-use Rattle.drm_core.proofs.HeadlineSteps.{HadOutcome, cases_step, stands_within}
+use Rattle.drm_core.proofs.Records.{stands_within}
+use Rattle.drm_core.proofs.HeadlineSteps.{HadOutcome, cases_step}
 use Rattle.drm_core.proofs.Pending.{place_of}
 use Rattle.drm_core.proofs.PickLawful.{get_push_cases}
 

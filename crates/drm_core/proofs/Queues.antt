@@ -16,7 +16,7 @@ use Rattle.drm_core.specs.Journal.{numbered}
 use Rattle.drm_core.specs.Choice.{queue_of, is_head_of}
 use Rattle.drm_core.specs.Plain.{marks_of, marks, queued_of, QueuesStand}
 use Rattle.drm_core.proofs.ChoiceIs.{first-filter, numbered_get, is_queued_of}
-use Rattle.drm_core.proofs.Records.{to_map}
+use Rattle.drm_core.proofs.Records.{to_map, stands_within}
 use Rattle.drm_core.proofs.Pairs.{find_first, get_set_same, get_set_other}
 use Rattle.drm_core.proofs.Pending.{place_of}
 use Rattle.drm_core.proofs.Candidates.{head_number}
@@ -199,17 +199,11 @@ marks_changed e entity row change mark at same =
     ∙ (ap (set (marks e) entity) same
     ∙ sym (ap (λ o. option_map_or (λ s. set (marks e) entity (mark s)) o (marks e)) (to_map marks_of e.rows entity row at))))
 
--- the row of an entity that is there
-pub row_at : (rows : List EntityRow) (entity : ℕ) → entity < length rows → (row : EntityRow) × (slice_get rows entity ≡ Some row)
-row_at [] entity lt = absurd (omega (arith, lt))
-row_at (x ∷ xs) zero lt = (x, refl)
-row_at (x ∷ xs) (suc entity) lt = row_at xs entity (omega (arith, lt))
-
 -- a mark that was read is that of the state
 pub guilty_is : (e : EntityRows) (entity : ℕ) (marked : Bool) → entity < length e.rows → IfSome (slice_get e.rows entity) (λ r. marked ≡ r.is_guilty)
     → marked ≡ option_map_or (λ (s : EntityState). s.is_guilty) (slice_get (marks e) entity) false
 guilty_is e entity marked lt is =
-    let row = row_at e.rows entity lt in
+    let row = stands_within e.rows entity lt in
     subst (λ o. IfSome o (λ r. marked ≡ r.is_guilty)) row.1 is
     ∙ sym (ap (λ o. option_map_or (λ (s : EntityState). s.is_guilty) o false) (to_map marks_of e.rows entity row.0 row.1))
 
@@ -306,7 +300,7 @@ pub stands_popped : (journal : List JobRecord) (e new : EntityRows) (entity n : 
 stands_popped journal e new entity n r left None at of_entity queued gone head lt some none stand =
     let is : None ≡ Some n = sym (ap first none.0) ∙ (head_is_first journal e entity stand lt ∙ head) in absurd (cc (is))
 stands_popped journal e new entity n r left (Some number) at of_entity queued gone head lt some none stand =
-    let row = row_at e.rows entity lt in
+    let row = stands_within e.rows entity lt in
     let rest : List ℕ = some.0 in
     let change : EntityRow → EntityRow = λ r. record r { queue = rest } in
     let place : n ≡ 0 + n = omega arith in

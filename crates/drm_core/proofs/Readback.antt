@@ -17,7 +17,8 @@ use Rattle.drm_fence.specs.declared.phase.Phase.TheVariants.{Queued, Scheduled, 
 use Rattle.drm_fence.specs.Phases.{has_ended, outcome_of}
 use Rattle.drm_core.specs.Headline.{is_writer, HaveEnded}
 use Rattle.drm_core.specs.Reservation.{usage_at, is_signaled, stands_for, IsOfJob, Fits}
-use Rattle.drm_core.specs.Refusals.{least, busy_fence}
+use Rattle.drm_resv.specs.Active.{least}
+use Rattle.drm_core.specs.Refusals.{busy_fence}
 use Rattle.drm_core.specs.Lawful.{EachTwo, KeepsEntityOrder}
 use Rattle.drm_core.proofs.Records.{at_test}
 use Rattle.drm_core.proofs.Pending.{place_of}

@@ -1,5 +1,5 @@
 -- Records of a journal, and their turns.
-use Rattle.std.proofs.Common.{◌≡◌, ℕ, zero, suc, Bool, false, List, [], ◌∷◌, map, set, Some, refl, ap, ◌∙◌, slice_get}
+use Rattle.std.proofs.Common.{◌≡◌, ℕ, zero, suc, ◌<◌, Bool, false, List, [], ◌∷◌, length, map, set, Some, refl, ap, ◌∙◌, arith, slice_get}
 use Rattle.std.specs.Option.{option_map_or}
 use Rattle.std.proofs.lemmas.List.{map-set}
 use Rattle.drm_serial.specs.Serial.{Turn}
@@ -22,6 +22,12 @@ pub to_map : {X Y : Type 0} (v : X → Y) (xs : List X) (k : ℕ) (x : X) → sl
 to_map v [] k x is = absurd (cc (is))
 to_map v (y ∷ xs) zero x is = let same : y ≡ x = cc (is) in ap (λ z. Some (v z)) same
 to_map v (y ∷ xs) (suc k) x is = to_map v xs k x is
+
+-- what stands at a place within the list
+pub stands_within : {X : Type 0} (xs : List X) (i : ℕ) → i < length xs → (x : X) × (slice_get xs i ≡ Some x)
+stands_within [] i lt = absurd (omega (arith, lt))
+stands_within (x ∷ xs) zero lt = (x, refl)
+stands_within (x ∷ xs) (suc i) lt = stands_within xs i (omega (arith, lt))
 
 -- a change of a record that is there
 pub changed_is : (journal : List JobRecord) (f : ℕ) (r : JobRecord) (change : JobRecord → JobRecord) → slice_get journal f ≡ Some r

@@ -1,5 +1,5 @@
 -- Why an event is refused: of the causes, in their order, the first that applies.
-use Rattle.std.specs.Prelude.{ℕ, ◌^◌, Bool, true, false, not, ◌||◌, ◌==◌, nat_lt, nat_le, min, is_none, List, [], ◌∷◌, ◌++◌, length, map, take, Option, Some, None, find, option_map, slice_get}
+use Rattle.std.specs.Prelude.{ℕ, ◌^◌, Bool, true, false, not, ◌||◌, ◌==◌, nat_lt, nat_le, is_none, List, [], ◌∷◌, ◌++◌, length, take, Option, Some, None, find, option_map, slice_get}
 use Rattle.std.specs.Option.{option_map_or}
 use Rattle.std.specs.List.{filter}
 use Rattle.drm_types.specs.Firsts.{when, first_of}
@@ -16,16 +16,11 @@ use Rattle.drm_resv.specs.Reservation.{Reservation}
 use Rattle.drm_core.specs.Journal.{numbered, is_at, is_complete}
 use Rattle.drm_core.specs.Order.{dependencies, have_ended}
 use Rattle.drm_core.specs.Reservation.{is_signaled}
-use Rattle.drm_resv.specs.Entries.{entries_of}
+use Rattle.drm_resv.specs.Active.{least_active}
 use Rattle.drm_core.specs.Choice.{queue_of, choice}
 use Rattle.drm_types.specs.Firsts.{first}
 use Rattle.drm_core.specs.Ring.{credits_of, free_credits, head_of, current_of, is_stopped}
 use Rattle.drm_core.specs.Context.{context_of, is_held, holds, holds_all, least_held}
-
--- the least number of a list
-abbrev pub least : List ℕ → Option ℕ
-least [] = None
-least (x ∷ xs) = Some (option_map_or (λ y. min x y) (least xs) x)
 
 -- an arming: the entity is stopped, the device is full, or a named fence is not armed
 abbrev pub arm_refusal : DeviceState → Draft → Option Refusal
@@ -72,8 +67,7 @@ reap_refusal device entity =
 
 -- the least fence among the entries of WRITE and stronger that have no outcome
 abbrev pub busy_fence : List JobRecord → Reservation → Option ℕ
-busy_fence journal resv =
-    least (map (λ e. e.fence) (filter (λ e. not (is_signaled journal e.fence)) (entries_of usage.Write resv.entries)))
+busy_fence journal resv = least_active (is_signaled journal) usage.Write resv.entries
 
 abbrev pub read_refusal : DeviceState → Option Reservation → Option Refusal
 read_refusal device resv = option_map_or (λ r. option_map Busy (busy_fence device.journal r)) resv None

@@ -75,7 +75,7 @@ impl Table {
         let Plan { job, mut deps } = plan;
         note_named(&self.journal, job.after(), &mut deps);
         let entity = job.entity();
-        let ring = self.spec.entities.as_slice()[entity as usize].ring;
+        let ring = self.ring_of(entity);
         self.entities.push(entity, self.journal.len() as u32);
         self.waits.push_reserved(deps);
         self.journal.push_reserved(JobRecord {

@@ -1,7 +1,4 @@
-ghost use Rattle.std.specs.Prelude.{◌≡◌, ◌⊎◌, ◌<◌, ◌&&◌, not, length, map};
-ghost use Rattle.drm_types.specs.declared.access.Usage.TheVariants as usage;
-ghost use Rattle.drm_types.specs.Usages.{is_as_strong};
-ghost use Rattle.drm_fence.specs.Fences.{has_ended_at};
+ghost use Rattle.std.specs.Prelude.{◌≡◌, ◌⊎◌, ◌<◌, length, map};
 ghost use Rattle.drm_buffer.specs.Memory.{bytes_of};
 ghost use Rattle.drm_core.specs.declared.event.Answer.TheVariants as answer;
 ghost use Rattle.drm_core.specs.declared.event.Refusal.TheVariants as refusal;
@@ -14,17 +11,9 @@ ghost use Rattle.drm_core.specs.Cores.{core_state, IsCore};
 use crate::cores::CoreTable;
 use crate::event::{Answer, Refusal};
 use crate::table::Table;
-use drm_fence::Timeline;
-use drm_resv::{Entry, Resv};
+use drm_resv::Resv;
 use drm_types::{BufferId, CtxId, FenceId, Sequence, Usage};
 use std::alloc::Global;
-
-// Whether the entry is of WRITE or stronger, and has no outcome.
-fn is_busy(entry: &Entry, fences: &Timeline) -> bool
-    ensures { result ≡ (is_as_strong entry.now.usage usage.Write && not (has_ended_at fences.now.list entry.now.fence)) }
-{
-    entry.usage.is_as_strong_as(Usage::Write) && !fences.has_ended(entry.fence)
-}
 
 impl Table {
     /// The least fence without an outcome among the reservation's entries of WRITE and stronger: a read of the
@@ -33,11 +22,7 @@ impl Table {
         requires { self.now.fences.list ≡ map fence_of self.now.journal.items }
         ensures { result ≡ busy_fence self.now.journal.items resv.now.kept }
     {
-        resv.fences()
-            .iter()
-            .filter(|entry| is_busy(entry, &self.fences))
-            .map(|entry| entry.fence)
-            .min()
+        resv.least_active(Usage::Write, &self.fences)
     }
 
     // The bytes of the buffer, copied.

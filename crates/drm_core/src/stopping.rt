@@ -1,4 +1,4 @@
-ghost use Rattle.std.specs.Prelude.{◌≡◌, ◌<◌, ◌||◌, ◌==◌, not, length, OnOk, IfOk, IfErr, Some, None};
+ghost use Rattle.std.specs.Prelude.{◌≡◌, ◌<◌, ◌==◌, not, length, OnOk, IfOk, IfErr, Some, None};
 ghost use Rattle.std.specs.List.{list_all};
 ghost use Rattle.drm_fence.specs.Phases.{has_ended};
 ghost use Rattle.drm_core.specs.declared.event.Answer.TheVariants as answer;
@@ -11,8 +11,8 @@ ghost use Rattle.drm_core.specs.Tables.{state_of, IsWhole};
 
 use crate::event::Refusal;
 use crate::journal::JobRecord;
-use crate::table::Table;
 use crate::running;
+use crate::table::Table;
 use drm_resv::Deps;
 use drm_types::{EntityId, FenceId, Outcome};
 
@@ -35,19 +35,28 @@ fn have_outcomes(journal: &[JobRecord], deps: &Deps) -> bool
         .all(|dep| has_outcome(journal, dep.1))
 }
 
-// Whether all these jobs have outcomes, as far as they are of the entity.
-fn jobs_have_outcomes(records: &[JobRecord], entity: EntityId) -> bool
-    ensures { result ≡ list_all (λ r. not (r.job.entity == entity) || has_ended r.phase) records.now }
+// Whether the job is there and of the entity.
+fn is_of(journal: &[JobRecord], fence: FenceId, entity: EntityId) -> bool
+    ensures { result ≡ is_at journal.now fence (λ r. r.job.entity == entity) }
 {
-    records.iter().all(|record| record.job.entity() != entity || record.phase.is_ended())
+    match journal.get(fence as usize) {
+        Some(record) => record.job.entity() == entity,
+        None => false,
+    }
 }
 
-// Whether the jobs that this one waits for, and the earlier ones of its entity, all have outcomes.
-fn may_end(journal: &[JobRecord], deps: &Deps, number: FenceId, entity: EntityId) -> bool
-    requires { number < length journal.now }
-    ensures { result ≡ may_end_after journal.now deps.now number entity }
+// Whether none of these jobs is of the entity.
+fn none_is_of(journal: &[JobRecord], pending: &[FenceId], entity: EntityId) -> bool
+    ensures { result ≡ list_all (λ f. not (is_at journal.now f (λ r. r.job.entity == entity))) pending.now }
 {
-    have_outcomes(journal, deps) && jobs_have_outcomes(&journal[..number as usize], entity)
+    pending.iter().all(|fence| !is_of(journal, *fence, entity))
+}
+
+// Whether the jobs that the entity's first queued one waits for all have outcomes, and none of the entity is pending.
+fn may_end(journal: &[JobRecord], deps: &Deps, pending: &[FenceId], entity: EntityId) -> bool
+    ensures { result ≡ may_end_after journal.now deps.now pending.now entity }
+{
+    have_outcomes(journal, deps) && none_is_of(journal, pending, entity)
 }
 
 impl Table {
@@ -88,7 +97,14 @@ impl Table {
         let Some(number) = self.entities.head(entity) else {
             return Err(Refusal::Nothing);
         };
-        if !may_end(&self.journal, &self.waits[number as usize], number, entity) {
+        let ring = self.ring_of(entity);
+        let deps = &self.waits[number as usize];
+        if !may_end(
+            &self.journal,
+            deps,
+            &self.rings[ring as usize].pending,
+            entity,
+        ) {
             return Err(Refusal::Waits);
         }
         running::end_job(

@@ -1,6 +1,7 @@
 ghost use Rattle.std.specs.Prelude.{◌≡◌, ℕ, ◌<◌, ◌≤◌, not, length, find, min, sum_by, Some, false, IsTrue, slice_get, vec_len, vec_capacity};
 ghost use Rattle.std.specs.Option.{option_map_or};
 ghost use Rattle.drm_types.specs.Firsts.{first};
+ghost use Rattle.drm_core.specs.Arming.{ring_of};
 ghost use Rattle.drm_core.specs.Journal.{is_at, is_complete as is_complete_record};
 ghost use Rattle.drm_core.specs.Ring.{current_of, head_of, credits_of, used_credits, credit_limit_of};
 ghost use Rattle.drm_core.specs.Tables.{state_of};
@@ -10,7 +11,7 @@ use drm_buffer::Memory;
 use drm_entity::Entities;
 use drm_fence::Timeline;
 use drm_resv::Deps;
-use drm_types::{DeviceSpec, FenceId, Moment, RingId, RingSpec};
+use drm_types::{DeviceSpec, EntityId, FenceId, Moment, RingId, RingSpec};
 
 /// A ring: the numbers of its pending jobs in order, and the moment from which its head's age counts.
 #[derive(Drop)]
@@ -110,6 +111,14 @@ impl RingRow {
 }
 
 impl Table {
+    /// The ring that the entity's jobs run on.
+    pub(crate) fn ring_of(&self, entity: EntityId) -> RingId
+        requires { entity < length self.now.spec.entities }
+        ensures { result ≡ ring_of (state_of self.now) entity }
+    {
+        self.spec.entities.as_slice()[entity as usize].ring
+    }
+
     pub(crate) fn ring_spec(&self, ring: RingId) -> RingSpec
         requires { ring < length self.now.spec.rings }
         ensures { slice_get self.now.spec.rings ring ≡ Some result }

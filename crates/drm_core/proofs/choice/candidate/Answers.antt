@@ -2,9 +2,9 @@ use Rattle.std.proofs.Common.{◌≡◌, ◌<◌, ◌∙◌, sym, ap, subst, len
 use Rattle.std.specs.Prelude.{IfSome}
 use Rattle.std.proofs.lemmas.Option.{slice_get-get_or}
 use Rattle.drm_core.specs.Plain.{marks_of, marks}
-use Rattle.drm_core.proofs.Records.{to_map}
+use Rattle.drm_core.proofs.Records.{to_map, stands_within}
 use Rattle.drm_core.proofs.Candidates.{IsLook, other_ring, not_ready, is_candidate, ready_by_waits, at_index}
-use Rattle.drm_core.proofs.Queues.{head_there, row_at}
+use Rattle.drm_core.proofs.Queues.{head_there}
 use Rattle.drm_core.proofs.choice.candidate.Goals as goal
 
 pub bounds-journal-age : goal.bounds-journal-age
@@ -58,7 +58,7 @@ returns c =
       at = at_index j age head c.index-journal-age.is head_is.1;
     } in
     let lt : age < length c.args.waits.now = subst (λ n. age < n) (sym c.requires.waits.count) head_is.1 in
-    let row = row_at c.args.entities.now.rows c.args.entity there in
+    let row = stands_within c.args.entities.now.rows c.args.entity there in
     let named : c.args.entity < length c.as_slice.result.now = subst (λ es. c.args.entity < length es) (sym c.as_slice.ensures) c.requires.there in
     is_candidate c.args.spec.now j (marks c.args.entities.now) c.args.ring c.args.entity age head _ _ look c.if-head-ring.false
     (ap (λ es. slice_get es c.args.entity) (sym c.as_slice.ensures) ∙ slice_get-get_or c.as_slice.result.now c.args.entity _ named)

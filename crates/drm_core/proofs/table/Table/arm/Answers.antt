@@ -1,9 +1,10 @@
 use Rattle.std.proofs.Common.{◌≡◌, ◌∙◌, sym, ap, subst, length, slice_get, Some, ◌∷◌, ◌++◌, []}
 use Rattle.std.proofs.lemmas.List.{length-map}
 use Rattle.drm_entity.specs.Rows.{IsFresh, pushed}
+use Rattle.drm_core.specs.Arming.{ring_of}
 use Rattle.drm_core.specs.Tables.{state_of, fence_of}
 use Rattle.drm_core.specs.Cores.{all_named}
-use Rattle.drm_core.proofs.ArmDone.{few_entities, arm_done, ring_found}
+use Rattle.drm_core.proofs.ArmDone.{few_entities, arm_done}
 use Rattle.drm_core.proofs.Queues.{is_fresh}
 use Rattle.drm_core.proofs.table.Table.arm.Goals as goal
 
@@ -26,7 +27,7 @@ returns-clause-armed c =
     let job = c.args.plan.job in
     let w = c.requires.whole in
     let may = c.requires.may in
-    let ring = ring_found d c.as_slice.result.now c.entity-entity.result job.entity _ c.as_slice.ensures c.entity-entity.ensures (few_entities t.spec job w.limits c.requires.job).0 in
+    let ring = c.ring_of-ring.ensures ∙ ap (ring_of d) c.entity-entity.ensures in
     let deps : c.note_named.new.deps ≡ all_named t.journal.items c.args.plan.deps job.after =
     c.note_named.ensures ∙ (ap (λ js. all_named js c.args.plan.deps c.after.result.now) c.deref.ensures.value ∙ ap (all_named t.journal.items c.args.plan.deps) c.after.ensures) in
     let queued : c.push.new.self ≡ pushed t.entities job.entity (length t.journal.items) =
@@ -47,7 +48,7 @@ returns-clause-whole c =
     let job = c.args.plan.job in
     let w = c.requires.whole in
     let may = c.requires.may in
-    let ring = ring_found d c.as_slice.result.now c.entity-entity.result job.entity _ c.as_slice.ensures c.entity-entity.ensures (few_entities t.spec job w.limits c.requires.job).0 in
+    let ring = c.ring_of-ring.ensures ∙ ap (ring_of d) c.entity-entity.ensures in
     let deps : c.note_named.new.deps ≡ all_named t.journal.items c.args.plan.deps job.after =
     c.note_named.ensures ∙ (ap (λ js. all_named js c.args.plan.deps c.after.result.now) c.deref.ensures.value ∙ ap (all_named t.journal.items c.args.plan.deps) c.after.ensures) in
     let queued : c.push.new.self ≡ pushed t.entities job.entity (length t.journal.items) =

@@ -1,32 +1,33 @@
-use Rattle.std.proofs.Common.{◌<◌, ◌∙◌, refl, sym, ap, subst, length}
+use Rattle.std.proofs.Common.{◌<◌, ◌∙◌, refl, sym, ap, subst}
 use Rattle.drm_core.specs.Stopping.{may_end_after}
-use Rattle.drm_core.proofs.Reaping.{reap_refused, front_goes_on, front_popped, reap_done}
+use Rattle.drm_core.proofs.Reaping.{entity_ring_there, reap_refused, front_goes_on, front_popped, reap_done}
 use Rattle.drm_core.proofs.Queues.{head_there}
-use Rattle.drm_core.proofs.TableFacts.{entity_row_there}
+use Rattle.drm_core.proofs.TableFacts.{row_there, entity_row_there}
 use Rattle.drm_core.proofs.table.Table.reap.Goals as goal
 
 pub index-requires : goal.index-requires
 index-requires c =
     let t = c.args.self.now in
     let w = c.requires.whole in
-    let head = head_there t.journal.items t.entities c.args.entity c.in-Some.number w.queues (entity_row_there t c.args.entity w c.requires.there) c.in-Some.ensures in
-    subst (λ n. c.in-Some.number < n) (sym (t.waits.ok.0 ∙ w.waits.count)) head.1
+    subst (λ n. c.ring_of-ring.result < n) (sym t.rings.ok.0) (row_there t c.ring_of-ring.result w (entity_ring_there t c.args.entity c.ring_of-ring.result w c.requires.there c.ring_of-ring.ensures))
 
-pub may_end-requires : goal.may_end-requires
-may_end-requires c =
+pub index-deps-requires : goal.index-deps-requires
+index-deps-requires c =
     let t = c.args.self.now in
     let w = c.requires.whole in
     let head = head_there t.journal.items t.entities c.args.entity c.in-Some.number w.queues (entity_row_there t c.args.entity w c.requires.there) c.in-Some.ensures in
-    subst (λ js. c.in-Some.number < length js) (sym c.deref.ensures.value) head.1
+    subst (λ n. c.in-Some.number < n) (sym (t.waits.ok.0 ∙ w.waits.count)) head.1
 
 pub returns-then-not-may_end-clause-refused : goal.returns-then-not-may_end-clause-refused
 returns-then-not-may_end-clause-refused c =
     let t = c.args.self.now in
     let w = c.requires.whole in
     let head = head_there t.journal.items t.entities c.args.entity c.in-Some.number w.queues (entity_row_there t c.args.entity w c.requires.there) c.in-Some.ensures in
-    let waits = reap_refused t c.args.entity c.in-Some.number c.index.result.now _ w (sym c.is_stopped.ensures ∙ c.if-not-is_stopped.false) head.0 c.index.ensures
-    (ap (λ js. may_end_after js c.index.result.now c.in-Some.number c.args.entity) (sym c.deref.ensures.value) ∙ (sym c.may_end.ensures ∙ c.if-not-may_end.true)) in
-    (waits, refl)
+    let there = entity_ring_there t c.args.entity c.ring_of-ring.result w c.requires.there c.ring_of-ring.ensures in
+    let may = reap_refused t c.args.entity c.in-Some.number c.ring_of-ring.result c.index.result.now c.index-deps.result.now _ w (sym c.is_stopped.ensures ∙ c.if-not-is_stopped.false) head.0 there c.ring_of-ring.ensures c.index.ensures c.index-deps.ensures
+    (ap (λ js. may_end_after js c.index-deps.result.now c.index.result.now.pending.items c.args.entity) (sym c.deref.ensures.value)
+    ∙ (ap (λ ns. may_end_after c.deref.result.now c.index-deps.result.now ns c.args.entity) (sym c.deref-2.ensures.value) ∙ (sym c.may_end.ensures ∙ c.if-not-may_end.true))) in
+    (may, refl)
 
 pub end_job-requires-clause-going : goal.end_job-requires-clause-going
 end_job-requires-clause-going c =
@@ -40,8 +41,10 @@ returns-clause-reaped c =
     let t = c.args.self.now in
     let w = c.requires.whole in
     let head = head_there t.journal.items t.entities c.args.entity c.in-Some.number w.queues (entity_row_there t c.args.entity w c.requires.there) c.in-Some.ensures in
-    let may = reap_refused t c.args.entity c.in-Some.number c.index.result.now _ w (sym c.is_stopped.ensures ∙ c.if-not-is_stopped.false) head.0 c.index.ensures
-    (ap (λ js. may_end_after js c.index.result.now c.in-Some.number c.args.entity) (sym c.deref.ensures.value) ∙ (sym c.may_end.ensures ∙ c.if-not-may_end.false)) in
+    let there = entity_ring_there t c.args.entity c.ring_of-ring.result w c.requires.there c.ring_of-ring.ensures in
+    let may = reap_refused t c.args.entity c.in-Some.number c.ring_of-ring.result c.index.result.now c.index-deps.result.now _ w (sym c.is_stopped.ensures ∙ c.if-not-is_stopped.false) head.0 there c.ring_of-ring.ensures c.index.ensures c.index-deps.ensures
+    (ap (λ js. may_end_after js c.index-deps.result.now c.index.result.now.pending.items c.args.entity) (sym c.deref.ensures.value)
+    ∙ (ap (λ ns. may_end_after c.deref.result.now c.index-deps.result.now ns c.args.entity) (sym c.deref-2.ensures.value) ∙ (sym c.may_end.ensures ∙ c.if-not-may_end.false))) in
     let left = front_popped t c.args.entity c.in-Some.number c.end_job.new.journal.items c.pop.new.self c.pop.result w c.requires.there head.0 c.end_job.ensures.journal c.pop.ensures.some c.pop.ensures.none in
     let done = reap_done t c.args.entity c.in-Some.number c.end_job.new.journal c.end_job.new.fences c.pop.new.self w head.0 may
     c.end_job.ensures.journal c.end_job.ensures.tied c.end_job.ensures.room c.end_job.ensures.places left in
@@ -52,8 +55,10 @@ returns-clause-whole c =
     let t = c.args.self.now in
     let w = c.requires.whole in
     let head = head_there t.journal.items t.entities c.args.entity c.in-Some.number w.queues (entity_row_there t c.args.entity w c.requires.there) c.in-Some.ensures in
-    let may = reap_refused t c.args.entity c.in-Some.number c.index.result.now _ w (sym c.is_stopped.ensures ∙ c.if-not-is_stopped.false) head.0 c.index.ensures
-    (ap (λ js. may_end_after js c.index.result.now c.in-Some.number c.args.entity) (sym c.deref.ensures.value) ∙ (sym c.may_end.ensures ∙ c.if-not-may_end.false)) in
+    let there = entity_ring_there t c.args.entity c.ring_of-ring.result w c.requires.there c.ring_of-ring.ensures in
+    let may = reap_refused t c.args.entity c.in-Some.number c.ring_of-ring.result c.index.result.now c.index-deps.result.now _ w (sym c.is_stopped.ensures ∙ c.if-not-is_stopped.false) head.0 there c.ring_of-ring.ensures c.index.ensures c.index-deps.ensures
+    (ap (λ js. may_end_after js c.index-deps.result.now c.index.result.now.pending.items c.args.entity) (sym c.deref.ensures.value)
+    ∙ (ap (λ ns. may_end_after c.deref.result.now c.index-deps.result.now ns c.args.entity) (sym c.deref-2.ensures.value) ∙ (sym c.may_end.ensures ∙ c.if-not-may_end.false))) in
     let left = front_popped t c.args.entity c.in-Some.number c.end_job.new.journal.items c.pop.new.self c.pop.result w c.requires.there head.0 c.end_job.ensures.journal c.pop.ensures.some c.pop.ensures.none in
     let done = reap_done t c.args.entity c.in-Some.number c.end_job.new.journal c.end_job.new.fences c.pop.new.self w head.0 may
     c.end_job.ensures.journal c.end_job.ensures.tied c.end_job.ensures.room c.end_job.ensures.places left in
