@@ -34,20 +34,20 @@ step_finds d ring f r p is at next =
     ∙ ap (λ o. option_map_or (stepped_by d f) o (answer.Ok, d)) next
 
 pub step_stalls : (d : DeviceState) (ring f : ℕ) (r : JobRecord) (p : Packet) → current_of d ring ≡ Some f → slice_get d.journal f ≡ Some r
-    → slice_get r.job.packets r.ran ≡ Some p → must_stall p r.resets ≡ true → step_outcome d ring ≡ (answer.Stalled f, d)
+    → slice_get r.job.packets r.ran ≡ Some p → must_stall p r.karma.resets ≡ true → step_outcome d ring ≡ (answer.Stalled f, d)
 step_stalls d ring f r p is at next stall =
     step_finds d ring f r p is at next
     ∙ ap (λ b. cond {A = Left} b (answer.Stalled f, d) (answer.Ran f (option_map_or (λ r. r.ran) (slice_get d.journal f) 0), ran_device d f p))
-    (at_test d.journal f r (λ r. must_stall p r.resets) at ∙ stall)
+    (at_test d.journal f r (λ r. must_stall p r.karma.resets) at ∙ stall)
 
 -- the device after a step that ran
 pub step_runs : (d : DeviceState) (ring f : ℕ) (r : JobRecord) (p : Packet) (memory : List (List ℕ)) → current_of d ring ≡ Some f → slice_get d.journal f ≡ Some r
-    → slice_get r.job.packets r.ran ≡ Some p → must_stall p r.resets ≡ false → memory ≡ effect p d.memory
+    → slice_get r.job.packets r.ran ≡ Some p → must_stall p r.karma.resets ≡ false → memory ≡ effect p d.memory
     → step_outcome d ring ≡ (answer.Ran f r.ran, record d { memory = memory; journal = set d.journal f (record r { ran = r.ran + 1 }) })
 step_runs d ring f r p memory is at next going ran =
     step_finds d ring f r p is at next
     ∙ (ap (λ b. cond {A = Left} b (answer.Stalled f, d) (answer.Ran f (option_map_or (λ r. r.ran) (slice_get d.journal f) 0), ran_device d f p))
-    (at_test d.journal f r (λ r. must_stall p r.resets) at ∙ going)
+    (at_test d.journal f r (λ r. must_stall p r.karma.resets) at ∙ going)
     ∙ (ap (λ o. let left : Left = (answer.Ran f (option_map_or (λ (r : JobRecord). r.ran) o 0), ran_device d f p) in left) at
     ∙ (ap (λ j. let left : Left = (answer.Ran f r.ran, record d { memory = effect p d.memory; journal = j }) in left)
     (changed_is d.journal f r (λ r. record r { ran = r.ran + 1 }) at)

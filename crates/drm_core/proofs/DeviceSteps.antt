@@ -82,7 +82,7 @@ step_kept d ring steady here = by_current (current_of d ring) refl
         let c = current_is d ring f steady.lawful here is in
         let same : c.0 ≡ r = cc (c.1.at, at) in
         let now = subst (λ z. IsCurrent d ring f z) same c.1 in
-        elim (is_at d.journal f (λ r. must_stall p r.resets)) as (λ b. IsKept d
+        elim (is_at d.journal f (λ r. must_stall p r.karma.resets)) as (λ b. IsKept d
         (cond {A = Answer × DeviceState} b (answer.Stalled f, d) (answer.Ran f (option_map_or (λ r. r.ran) (slice_get d.journal f) 0), ran_device d f p)).1) [
           | true ↦ kept_itself d steady
           | false ↦ record { steady = ran_steady d ring f r p steady here now next; grows = ran_grows d f r p now.at now.phase now.going; count = changed_count d.journal f one_more_ran }

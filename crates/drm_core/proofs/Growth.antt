@@ -14,8 +14,10 @@ use Rattle.drm_core.specs.Journal.{is_complete, changed_at}
 use Rattle.drm_fence.specs.Phases.{is_queued, is_scheduled, has_ended}
 use Rattle.drm_core.specs.Arming.{new_record, armed_device}
 use Rattle.drm_core.specs.Ring.{is_guilty, entity_changed}
-use Rattle.drm_core.specs.Outcomes.{picked_device, ran_device, is_kernel, hung, hung_device, condemned, condemned_device, cancelled_device}
-use Rattle.drm_reset.specs.Blame.{one_more}
+use Rattle.drm_core.specs.Outcomes.{picked_device, ran_device, hung, hung_device, condemned, condemned_device, cancelled_device}
+use Rattle.drm_types.specs.declared.spec.EntitySpec.{EntitySpec}
+use Rattle.drm_types.specs.Priorities.{rank_of}
+use Rattle.drm_reset.specs.Blame.{one_more, blamed}
 use Rattle.drm_core.specs.Grows.{GoesOn, RecordGrows, EntityGrows, Each, Grows}
 use Rattle.drm_core.proofs.Records.{to_map, changed_is}
 use Rattle.drm_core.proofs.Pairs.{get_set_same, get_set_other}
@@ -140,8 +142,17 @@ hang_grows d ring now f r at = grows_at d (hung_device d ring now f) f r (hung d
   ring = refl;
   phase = goes_on_itself r.phase;
   ran = omega arith;
-  resets = one_more_grows r.resets;
-  karma = elim (is_kernel d r.job.entity) as (λ b. r.karma ≤ cond b r.karma (one_more r.karma)) [ true ↦ omega arith | false ↦ one_more_grows r.karma ];
+  resets = elim (slice_get d.spec.entities r.job.entity) as (λ o. r.karma.resets ≤ (option_map_or (λ (e : EntitySpec). blamed e.priority r.karma) o r.karma).resets) [
+    | None ↦ omega arith
+    | Some e ↦ one_more_grows r.karma.resets
+  ];
+  karma = elim (slice_get d.spec.entities r.job.entity) as (λ o. r.karma.karma ≤ (option_map_or (λ (e : EntitySpec). blamed e.priority r.karma) o r.karma).karma) [
+    | None ↦ omega arith
+    | Some e ↦ elim (rank_of e.priority == 0) as (λ b. r.karma.karma ≤ cond b r.karma.karma (one_more r.karma.karma)) [
+      | true ↦ omega arith
+      | false ↦ one_more_grows r.karma.karma
+    ]
+  ];
   skipped = λ s. s;
   kept = λ k. refl;
 }) refl refl refl

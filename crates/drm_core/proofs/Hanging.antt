@@ -1,13 +1,15 @@
 -- A timeout of the tables is that of its definition, and keeps the tables whole.
-use Rattle.std.proofs.Common.{◌≡◌, ℕ, ◌-◌, ◌<◌, ◌≤◌, Bool, true, false, cond, List, [], ◌∷◌, length, map, get_or, set, Some, refl, sym, ap, subst, ◌∙◌, inl, inr, arith, slice_get}
+use Rattle.std.proofs.Common.{◌≡◌, ℕ, ◌-◌, ◌<◌, Bool, true, false, cond, List, [], ◌∷◌, length, map, get_or, set, None, Some, Option, refl, sym, ap, subst, ◌∙◌, slice_get}
 use Rattle.std.specs.declared.alloc.Global.{Global}
-use Rattle.std.specs.Prelude.{nat_lt, vec_capacity, Vec}
+use Rattle.std.specs.Prelude.{nat_lt, option_map, vec_capacity, Vec}
 use Rattle.std.specs.Option.{option_map_or}
 use Rattle.std.specs.Vec.{with_item}
-use Rattle.std.proofs.lemmas.Bool.{ltb-true, lt-ltb, cases_Bool}
 use Rattle.std.proofs.lemmas.Option.{slice_get_within}
 use Rattle.std.proofs.lemmas.List.{map-set}
 use Rattle.drm_types.specs.declared.spec.RingSpec.{RingSpec}
+use Rattle.drm_types.specs.declared.spec.EntitySpec.{EntitySpec}
+use Rattle.drm_types.specs.declared.spec.Priority.{Priority}
+use Rattle.drm_reset.specs.Blame.{blamed}
 use Rattle.drm_entity.specs.Rows.{EntityRow, EntityRows, row_changed}
 use Rattle.drm_reset.specs.declared.verdict.Verdict.{Verdict}
 use Rattle.drm_reset.specs.declared.verdict.Verdict.TheVariants as verdict
@@ -16,7 +18,7 @@ use Rattle.drm_core.specs.declared.journal.JobRecord.{JobRecord}
 use Rattle.drm_core.specs.declared.table.RingRow.{RingRow}
 use Rattle.drm_core.specs.declared.table.Table.{Table}
 use Rattle.drm_core.specs.Journal.{is_at, is_complete, changed_at}
-use Rattle.drm_core.specs.Outcomes.{hung, hung_device, condemned, condemned_device, is_kernel, is_too_much, hang_outcome, timeout_at, timeout_outcome}
+use Rattle.drm_core.specs.Outcomes.{hung, hung_device, condemned, condemned_device, is_too_much, hang_outcome, timeout_at, timeout_outcome}
 use Rattle.drm_core.specs.Recovery.{verdict_at, blamed_by}
 use Rattle.drm_core.specs.Plain.{marks, QueuesStand}
 use Rattle.drm_core.specs.Ring.{head_of, limit_of, age_of, entity_changed}
@@ -27,6 +29,7 @@ use Rattle.drm_core.proofs.Candidates.{at_index}
 use Rattle.drm_core.proofs.DeviceSteps.{IsKept, timeout_kept}
 use Rattle.drm_core.proofs.FinishLawful.{IsHead, head_is, set_same}
 use Rattle.drm_core.proofs.Records.{stands_within, at_test, changed_is, to_map}
+use Rattle.drm_core.proofs.Pairs.{get_set_same}
 use Rattle.drm_core.proofs.TableFacts.{entity_there, rings_tie, rooms_kept, row_found, whole_kept}
 use Rattle.drm_core.proofs.Queues.{marks_changed, stands_set, stands_map, stands_marked}
 
@@ -61,43 +64,45 @@ timeout_by t ring now f v w there is found =
     let h = head_is (state_of t) ring f w.steady.lawful there is in
     (h.0, h.1, timeout_finds (state_of t) ring now f h.0 is h.1.at ∙ ap (by_verdict (state_of t) ring now f h.0) found)
 
--- a head that hangs: the journal where it is blamed, the row of its ring, and the ring's limits
-pub record IsBlamed (t : Table) (ring now f : ℕ) (r : JobRecord) (journal : Vec JobRecord Global) (row : RingRow) (limits : RingSpec) (karma : ℕ) : Type 0 where
+-- a head that hangs: the journal where it is blamed, the row of its ring, and whether that is too much
+pub record IsBlamed (t : Table) (ring now f : ℕ) (r : JobRecord) (journal : Vec JobRecord Global) (row : RingRow) (guilty : Bool) : Type 0 where
   pub head : IsHead (state_of t) ring f r
   pub hangs : timeout_outcome (state_of t) ring now ≡ hang_outcome (state_of t) ring now f r
   pub items : journal.items ≡ set t.journal.items f (hung (state_of t) r)
   pub room : vec_capacity journal ≡ vec_capacity t.journal
   pub row_at : slice_get t.rings.items ring ≡ Some row
-  pub much : is_too_much (state_of t) ring r ≡ nat_lt limits.hang_limit karma
+  pub much : is_too_much (state_of t) ring r ≡ guilty
 
-pub is_blamed : (t : Table) (ring now f : ℕ) (r : JobRecord) (entity : ℕ) (kernel : Bool) (journal : Vec JobRecord Global) (row : RingRow) (limits : RingSpec) (karma : ℕ) → IsWhole t
+pub is_blamed : (t : Table) (ring now f : ℕ) (r : JobRecord) (entity : ℕ) (priority : Priority) (journal : Vec JobRecord Global) (row : RingRow) (limits : RingSpec) (guilty : Bool) → IsWhole t
     → ring < length t.spec.rings → head_of (state_of t) ring ≡ Some f → verdict_at (state_of t) ring f now ≡ verdict.Hang → r ≡ get_or t.journal.items f r → entity ≡ r.job.entity
-    → kernel ≡ is_kernel (state_of t) entity → journal.items ≡ changed_at t.journal.items f (blamed_by kernel) → vec_capacity journal ≡ vec_capacity t.journal
-    → row ≡ get_or t.rings.items ring row → karma ≡ option_map_or (λ r. (blamed_by kernel r).karma) (slice_get t.journal.items f) 0
-    → slice_get t.spec.rings ring ≡ Some limits → IsBlamed t ring now f r journal row limits karma
-is_blamed t ring now f r entity kernel journal row limits karma w there is hangs r_is of_entity kernel_is items room row_is karma_is limits_at =
+    → option_map (λ (e : EntitySpec). e.priority) (slice_get t.spec.entities entity) ≡ Some priority → journal.items ≡ changed_at t.journal.items f (blamed_by priority)
+    → vec_capacity journal ≡ vec_capacity t.journal → row ≡ get_or t.rings.items ring row
+    → guilty ≡ is_at journal.items f (λ r. nat_lt limits.hang_limit r.karma.karma) → slice_get t.spec.rings ring ≡ Some limits → IsBlamed t ring now f r journal row guilty
+is_blamed t ring now f r entity priority journal row limits guilty w there is hangs r_is of_entity priority_is items room row_is guilty_is limits_at =
     let d = state_of t in
     let h = timeout_by t ring now f verdict.Hang w there is hangs in
     let at = at_index t.journal.items f r r_is (slice_get_within t.journal.items f h.0 h.1.at) in
     let same : h.0 ≡ r = cc (h.1.at, at) in
-    let kernel_of : kernel ≡ is_kernel d r.job.entity = kernel_is ∙ ap (is_kernel d) of_entity in
-    let karma_of : karma ≡ (hung d r).karma = karma_is ∙ (ap (λ o. option_map_or (λ r. (blamed_by kernel r).karma) o 0) at ∙ ap (λ k. (blamed_by k r).karma) kernel_of) in
+    let hung_is : hung d r ≡ blamed_by priority r =
+    by_entity (slice_get t.spec.entities r.job.entity) (ap (λ n. option_map (λ (e : EntitySpec). e.priority) (slice_get t.spec.entities n)) (sym of_entity) ∙ priority_is) in
+    let items_are : journal.items ≡ set t.journal.items f (hung d r) =
+    items ∙ (changed_is t.journal.items f r (blamed_by priority) at ∙ ap (set t.journal.items f) (sym hung_is)) in
+    let test : JobRecord → Bool = λ r. nat_lt limits.hang_limit r.karma.karma in
+    let told : guilty ≡ test (hung d r) =
+    guilty_is ∙ (ap (λ js. is_at js f test) items_are ∙ at_test (set t.journal.items f (hung d r)) f (hung d r) test (get_set_same t.journal.items f r (hung d r) at)) in
     record {
       head = subst (IsHead d ring f) same h.1;
       hangs = subst (λ z. timeout_outcome d ring now ≡ hang_outcome d ring now f z) same h.2;
-      items = items ∙ (changed_is t.journal.items f r (blamed_by kernel) at ∙ ap (λ k. set t.journal.items f (blamed_by k r)) kernel_of);
+      items = items_are;
       room = room;
       row_at = row_found t ring row w there row_is;
-      much = ap (λ o. nat_lt (option_map_or (λ (l : RingSpec). l.hang_limit) o 0) (hung d r).karma) limits_at ∙ ap (nat_lt limits.hang_limit) (sym karma_of);
+      much = ap (λ o. nat_lt (option_map_or (λ (l : RingSpec). l.hang_limit) o 0) (hung d r).karma.karma) limits_at ∙ sym told;
     }
-
--- a number that is at most another is not above it
-not_above : (a b : ℕ) → b ≤ a → nat_lt a b ≡ false
-not_above a b le =
-    elim (cases_Bool (nat_lt a b)) [
-      | inl less ↦ absurd (omega (arith, ltb-true a b less, le))
-      | inr is ↦ is
-    ]
+  where
+    by_entity : (o : Option EntitySpec) → option_map (λ (e : EntitySpec). e.priority) o ≡ Some priority
+        → (let s : JobRecord = record r { karma = option_map_or (λ (e : EntitySpec). blamed e.priority r.karma) o r.karma } in s) ≡ blamed_by priority r
+    by_entity None none = absurd (cc (none))
+    by_entity (Some e) some = let same : e.priority ≡ priority = cc (some) in ap (λ p. blamed_by p r) same
 
 -- the tables after the blame
 abbrev pub blamed_tables : Table → ℕ → ℕ → Vec JobRecord Global → RingRow → Table
@@ -108,7 +113,7 @@ abbrev pub guilty_tables : Table → ℕ → ℕ → Vec JobRecord Global → Ri
 guilty_tables t ring now journal row entities = record t { journal = journal; rings = with_item t.rings ring (record row { since = now }); entities = entities }
 
 -- the device of the blamed tables
-blamed_state : {t : Table} {ring now f : ℕ} {r : JobRecord} {journal : Vec JobRecord Global} {row : RingRow} {limits : RingSpec} {karma : ℕ} → IsBlamed t ring now f r journal row limits karma → state_of (blamed_tables t ring now journal row) ≡ hung_device (state_of t) ring now f
+blamed_state : {t : Table} {ring now f : ℕ} {r : JobRecord} {journal : Vec JobRecord Global} {row : RingRow} {guilty : Bool} → IsBlamed t ring now f r journal row guilty → state_of (blamed_tables t ring now journal row) ≡ hung_device (state_of t) ring now f
 blamed_state {t} {ring} {now} {f} {r} {journal} {row} b =
     let d = state_of t in
     let change : RingState → RingState = λ s. record s { since = now } in
@@ -127,19 +132,19 @@ condemned_fences ring entity [] = refl
 condemned_fences ring entity (r ∷ rs) = ap (λ fs. fence_of r ∷ fs) (condemned_fences ring entity rs)
 
 -- so do the queues
-blamed_queues : {t : Table} {ring now f : ℕ} {r : JobRecord} {journal : Vec JobRecord Global} {row : RingRow} {limits : RingSpec} {karma : ℕ} → IsWhole t → IsBlamed t ring now f r journal row limits karma → QueuesStand journal.items t.entities
+blamed_queues : {t : Table} {ring now f : ℕ} {r : JobRecord} {journal : Vec JobRecord Global} {row : RingRow} {guilty : Bool} → IsWhole t → IsBlamed t ring now f r journal row guilty → QueuesStand journal.items t.entities
 blamed_queues {t} {ring} {now} {f} {r} w b =
     subst (λ js. QueuesStand js t.entities) (sym b.items) (stands_set t.journal.items f r (hung (state_of t) r) t.entities b.head.at refl refl w.queues)
 
 -- the head goes on
-pub resumed_done : {t : Table} {ring now f : ℕ} {r : JobRecord} {journal : Vec JobRecord Global} {row : RingRow} {limits : RingSpec} {karma : ℕ} → IsWhole t → ring < length t.spec.rings → IsBlamed t ring now f r journal row limits karma → karma ≤ limits.hang_limit
+pub resumed_done : {t : Table} {ring now f : ℕ} {r : JobRecord} {journal : Vec JobRecord Global} {row : RingRow} {guilty : Bool} → IsWhole t → ring < length t.spec.rings → IsBlamed t ring now f r journal row guilty → guilty ≡ false
     → (timeout_outcome (state_of t) ring now ≡ (answer.Resumed, state_of (blamed_tables t ring now journal row))) × IsWhole (blamed_tables t ring now journal row)
-resumed_done {t} {ring} {now} {f} {r} {journal} {row} {limits} {karma} w there b little =
+resumed_done {t} {ring} {now} {f} {r} {journal} {row} w there b little =
     let d = state_of t in
     let u = blamed_tables t ring now journal row in
     let ends : timeout_outcome d ring now ≡ (answer.Resumed, state_of u) =
     b.hangs
-    ∙ (ap (λ x. cond {A = Left} x (answer.Guilty r.job.entity, condemned_device (hung_device d ring now f) ring r.job.entity) (answer.Resumed, hung_device d ring now f)) (b.much ∙ not_above limits.hang_limit karma little)
+    ∙ (ap (λ x. cond {A = Left} x (answer.Guilty r.job.entity, condemned_device (hung_device d ring now f) ring r.job.entity) (answer.Resumed, hung_device d ring now f)) (b.much ∙ little)
     ∙ ap (λ s. let left : Left = (answer.Resumed, s) in left) (sym (blamed_state b))) in
     let tied : t.fences.list ≡ map fence_of journal.items =
     w.fences ∙ sym (ap (map fence_of) b.items ∙ blamed_fences t.journal.items f r (hung d r) b.head.at refl) in (
@@ -149,13 +154,13 @@ resumed_done {t} {ring} {now} {f} {r} {journal} {row} {limits} {karma} w there b
     )
 
 -- the entity is guilty
-pub guilty_done : {t : Table} {ring now f : ℕ} {r : JobRecord} {journal : Vec JobRecord Global} {row : RingRow} {limits : RingSpec} {karma : ℕ}
-    → (entity : ℕ) (last : Vec JobRecord Global) (entities : EntityRows) → IsWhole t → ring < length t.spec.rings → IsBlamed t ring now f r journal row limits karma
-    → limits.hang_limit < karma → entity ≡ r.job.entity → last.items ≡ map (condemned ring entity) journal.items → vec_capacity last ≡ vec_capacity journal
+pub guilty_done : {t : Table} {ring now f : ℕ} {r : JobRecord} {journal : Vec JobRecord Global} {row : RingRow} {guilty : Bool}
+    → (entity : ℕ) (last : Vec JobRecord Global) (entities : EntityRows) → IsWhole t → ring < length t.spec.rings → IsBlamed t ring now f r journal row guilty
+    → guilty ≡ true → entity ≡ r.job.entity → last.items ≡ map (condemned ring entity) journal.items → vec_capacity last ≡ vec_capacity journal
     → entities ≡ row_changed t.entities entity (λ r. record r { is_guilty = true })
     → (timeout_outcome (state_of t) ring now ≡ (answer.Guilty entity, state_of (guilty_tables t ring now last row entities)))
     × IsWhole (guilty_tables t ring now last row entities)
-guilty_done {t} {ring} {now} {f} {r} {journal} {row} {limits} {karma} entity last entities w there b more of_entity items room guilty =
+guilty_done {t} {ring} {now} {f} {r} {journal} {row} entity last entities w there b more of_entity items room marked_by =
     let d = state_of t in
     let u = guilty_tables t ring now last row entities in
     let rings = map ring_of_row (set t.rings.items ring (record row { since = now })) in
@@ -163,14 +168,14 @@ guilty_done {t} {ring} {now} {f} {r} {journal} {row} {limits} {karma} entity las
     let mark : EntityState → EntityState = λ e. record e { is_guilty = true } in
     let guilty_marks = entity_changed (marks t.entities) entity mark in
     let entity_row = stands_within t.entities.rows entity (subst (λ n. n < length t.entities.rows) (sym of_entity) (entity_there t f r w b.head.at)) in
-    let marked : marks entities ≡ guilty_marks = ap marks guilty ∙ marks_changed t.entities entity entity_row.0 blame mark entity_row.1 refl in
+    let marked : marks entities ≡ guilty_marks = ap marks marked_by ∙ marks_changed t.entities entity entity_row.0 blame mark entity_row.1 refl in
     let queues : QueuesStand last.items entities =
-    subst (QueuesStand last.items) (sym guilty)
+    subst (QueuesStand last.items) (sym marked_by)
     (stands_marked last.items t.entities entity entity_row.0 blame entity_row.1 refl
     (subst (λ js. QueuesStand js t.entities) (sym items) (stands_map journal.items (condemned ring entity) t.entities (λ e x. refl) (blamed_queues w b)))) in
     let ends : timeout_outcome d ring now ≡ (answer.Guilty entity, state_of u) =
     b.hangs
-    ∙ (ap (λ x. cond {A = Left} x (answer.Guilty r.job.entity, condemned_device (hung_device d ring now f) ring r.job.entity) (answer.Resumed, hung_device d ring now f)) (b.much ∙ lt-ltb limits.hang_limit karma more)
+    ∙ (ap (λ x. cond {A = Left} x (answer.Guilty r.job.entity, condemned_device (hung_device d ring now f) ring r.job.entity) (answer.Resumed, hung_device d ring now f)) (b.much ∙ more)
     ∙ (ap (λ e. let left : Left = (answer.Guilty e, condemned_device (hung_device d ring now f) ring e) in left) (sym of_entity)
     ∙ (ap (λ s. let left : Left = (answer.Guilty entity, condemned_device s ring entity) in left) (sym (blamed_state b))
     ∙ (ap (λ js. let left : Left = (answer.Guilty entity, record d { journal = js; rings = rings; entities = guilty_marks }) in left) (sym items)
@@ -179,5 +184,5 @@ guilty_done {t} {ring} {now} {f} {r} {journal} {row} {limits} {karma} entity las
     w.fences ∙ sym (ap (map fence_of) items ∙ (condemned_fences ring entity journal.items ∙ (ap (map fence_of) b.items ∙ blamed_fences t.journal.items f r (hung d r) b.head.at refl))) in (
       ends,
       whole_kept t u w (subst (λ (q : Left). IsKept d q.1) ends (timeout_kept d ring now w.steady there)) tied refl queues refl
-          (rooms_kept t u ring row (record row { since = now }) w.rooms refl refl b.row_at refl (room ∙ b.room) refl refl (ap (λ (e : EntityRows). e.places) guilty)),
+          (rooms_kept t u ring row (record row { since = now }) w.rooms refl refl b.row_at refl (room ∙ b.room) refl refl (ap (λ (e : EntityRows). e.places) marked_by)),
     )

@@ -285,7 +285,7 @@ counts_on s (event.Pick ring now) =
 counts_on s (event.Step ring) =
     inl (at_any_record (KeepsCount s.device) s.device _ (answer.Ok, s.device) (current_of s.device ring) refl
     (λ f r. at_option (KeepsCount s.device) (stepped_by s.device f) (slice_get r.job.packets r.ran) (answer.Ok, s.device) refl
-    (λ p. at_cond (KeepsCount s.device) (is_at s.device.journal f (λ r. must_stall p r.resets)) (answer.Stalled f, s.device)
+    (λ p. at_cond (KeepsCount s.device) (is_at s.device.journal f (λ r. must_stall p r.karma.resets)) (answer.Stalled f, s.device)
     (answer.Ran f (option_map_or (λ r. r.ran) (slice_get s.device.journal f) 0), ran_device s.device f p) refl (changed_count s.device.journal f _))))
 counts_on s (event.Finish ring now) =
     inl (at_any_record (KeepsCount s.device) s.device _ (answer.Ok, s.device) (head_of s.device ring) refl (λ f r. changed_count s.device.journal f _))

@@ -129,7 +129,7 @@ outcome_given s (event.Pick ring now) =
 outcome_given s (event.Step ring) =
     at_any_record (λ p. is_refusal p.0 ≡ false) s.device _ (answer.Ok, s.device) (current_of s.device ring) refl
     (λ f r. at_option (λ (p : Answer × DeviceState). is_refusal p.0 ≡ false) (stepped_by s.device f) (slice_get r.job.packets r.ran) (answer.Ok, s.device) refl
-    (λ p. at_cond (λ (p : Answer × DeviceState). is_refusal p.0 ≡ false) (is_at s.device.journal f (λ r. must_stall p r.resets)) _ _ refl refl))
+    (λ p. at_cond (λ (p : Answer × DeviceState). is_refusal p.0 ≡ false) (is_at s.device.journal f (λ r. must_stall p r.karma.resets)) _ _ refl refl))
 outcome_given s (event.Finish ring now) =
     at_any_record (λ p. is_refusal p.0 ≡ false) s.device _ (answer.Ok, s.device) (head_of s.device ring) refl (λ f r. refl)
 outcome_given s (event.Timeout ring now) =
@@ -180,7 +180,7 @@ step_leaves d ring b law here writers = by_current (current_of d ring) refl
         → LeavesBytes d b (option_map_or (stepped_by d f) o (answer.Ok, d))
     by_packet f r now None none = refl
     by_packet f r now (Some p) next =
-        at_cond (LeavesBytes d b) (is_at d.journal f (λ r. must_stall p r.resets)) (answer.Stalled f, d)
+        at_cond (LeavesBytes d b) (is_at d.journal f (λ r. must_stall p r.karma.resets)) (answer.Stalled f, d)
         (answer.Ran f (option_map_or (λ r. r.ran) (slice_get d.journal f) 0), ran_device d f p) refl
         (packet_leaves r.job p d.memory b (within_at r.job r.ran p (stays_within d.spec r.job (law.records f r now.at).job) next)
         (λ is. both_ways (has_ended r.phase) (ap has_ended now.phase) (writers f r now.at is)))

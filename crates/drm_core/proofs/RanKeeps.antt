@@ -70,7 +70,7 @@ step_keeps d ring law here =
           λ o. elim o as (λ o. slice_get r.0.job.packets r.0.ran ≡ o → IsSerial (option_map_or (stepped_by d f) o (answer.Ok, d)).1) [
             | None ↦ λ none. law.memory
             | Some p ↦ λ next.
-                elim (is_at d.journal f (λ r. must_stall p r.resets)) as (λ b. IsSerial (cond {A = Answer × DeviceState} b (answer.Stalled f, d) (answer.Ran f (option_map_or (λ r. r.ran) (slice_get d.journal f) 0), ran_device d f p)).1) [
+                elim (is_at d.journal f (λ r. must_stall p r.karma.resets)) as (λ b. IsSerial (cond {A = Answer × DeviceState} b (answer.Stalled f, d) (answer.Ran f (option_map_or (λ r. r.ran) (slice_get d.journal f) 0), ran_device d f p)).1) [
                   | true ↦ law.memory
                   | false ↦ ran_keeps d f r.0 p law r.1 is_open next
                 ]

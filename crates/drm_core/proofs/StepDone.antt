@@ -23,7 +23,7 @@ abbrev pub ran_tables : Table → ℕ → JobRecord → ℕ → List (List ℕ) 
 ran_tables t f x ran memory fences = record t { memory = memory; journal = with_item t.journal f (record x { ran = ran + 1 }); fences = fences }
 
 pub step_done : (t : Table) (ring f : ℕ) (x y : JobRecord) (p : Packet) (memory : List (List ℕ)) (fences : Fences) → IsWhole t → ring < length t.spec.rings
-    → current_of (state_of t) ring ≡ Some f → IsRunning t ring f y → x ≡ get_or t.journal.items f x → slice_get y.job.packets y.ran ≡ Some p → must_stall p y.resets ≡ false
+    → current_of (state_of t) ring ≡ Some f → IsRunning t ring f y → x ≡ get_or t.journal.items f x → slice_get y.job.packets y.ran ≡ Some p → must_stall p y.karma.resets ≡ false
     → memory ≡ effect p t.memory → sizes_of memory ≡ sizes_of t.memory → fences.list ≡ with_one_packet_more t.fences.list f → fences.places ≡ t.fences.places
     → (step_outcome (state_of t) ring ≡ (answer.Ran f y.ran, state_of (ran_tables t f x y.ran memory fences))) × IsWhole (ran_tables t f x y.ran memory fences)
 step_done t ring f x y p memory fences w there is run x_is next going ran sizes list places =

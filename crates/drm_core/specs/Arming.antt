@@ -22,8 +22,7 @@ new_record device job = record {
   phase = Queued;
   ran = 0;
   is_skipped = false;
-  resets = 0;
-  karma = 0;
+  karma = record { resets = 0; karma = 0 };
 }
 
 -- the device with one record more

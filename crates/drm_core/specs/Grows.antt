@@ -20,8 +20,8 @@ pub record RecordGrows (old new : JobRecord) : Type 0 where
   pub ring : new.ring ≡ old.ring
   pub phase : GoesOn old.phase new.phase
   pub ran : old.ran ≤ new.ran
-  pub resets : old.resets ≤ new.resets
-  pub karma : old.karma ≤ new.karma
+  pub resets : old.karma.resets ≤ new.karma.resets
+  pub karma : old.karma.karma ≤ new.karma.karma
   pub skipped : IsTrue old.is_skipped → IsTrue new.is_skipped
   pub kept : IsTrue old.is_skipped ⊎ IsTrue (has_ended old.phase) → new.ran ≡ old.ran
 

@@ -3,13 +3,12 @@ use Rattle.std.specs.Prelude.{ℕ, ◌+◌, ◌-◌, Bool, true, false, ◌&&◌
 use Rattle.std.specs.Option.{option_map_or}
 use Rattle.drm_types.specs.declared.outcome.Outcome.{Outcome}
 use Rattle.drm_types.specs.declared.outcome.Outcome.TheVariants as outcome
-use Rattle.drm_types.specs.Priorities.{rank_of}
 use Rattle.drm_packet.specs.declared.Packet.{Packet}
 use Rattle.drm_packet.specs.declared.Packet.TheVariants.{Fill, Copy, Add, Stall}
 use Rattle.drm_buffer.specs.Memory.{bytes_of}
 use Rattle.drm_packet.specs.Effect.{effect}
 use Rattle.drm_job.specs.declared.Draft.{Draft}
-use Rattle.drm_reset.specs.Blame.{one_more}
+use Rattle.drm_reset.specs.Blame.{blamed}
 use Rattle.drm_core.specs.declared.event.Answer.{Answer}
 use Rattle.drm_core.specs.declared.event.Answer.TheVariants as answer
 use Rattle.drm_core.specs.declared.event.Event.{Event}
@@ -56,7 +55,7 @@ next_packet journal number = option_map_or (λ r. slice_get r.job.packets r.ran)
 
 abbrev pub stepped_by : DeviceState → ℕ → Packet → Answer × DeviceState
 stepped_by device number packet =
-    if is_at device.journal number (λ r. must_stall packet r.resets)
+    if is_at device.journal number (λ r. must_stall packet r.karma.resets)
     then (answer.Stalled number, device)
     else (answer.Ran number (option_map_or (λ r. r.ran) (slice_get device.journal number) 0), ran_device device number packet)
 
@@ -77,15 +76,10 @@ finished_device device ring now number outcome = record device {
   });
 }
 
-abbrev pub is_kernel : DeviceState → ℕ → Bool
-is_kernel device entity = option_map_or (λ e. rank_of e.priority == 0) (slice_get device.spec.entities entity) false
-
 -- the record of the head after a hang
 abbrev pub hung : DeviceState → JobRecord → JobRecord
-hung device r = record r {
-  resets = one_more r.resets;
-  karma = if is_kernel device r.job.entity then r.karma else one_more r.karma;
-}
+hung device r =
+    record r { karma = option_map_or (λ e. blamed e.priority r.karma) (slice_get device.spec.entities r.job.entity) r.karma }
 
 -- the device after a hang of the head: the job is blamed, and its age counts from now
 abbrev pub hung_device : DeviceState → ℕ → ℕ → ℕ → DeviceState
@@ -108,7 +102,7 @@ condemned_device device ring entity = record device {
 
 -- whether the hang makes the job's entity guilty
 abbrev pub is_too_much : DeviceState → ℕ → JobRecord → Bool
-is_too_much device ring r = nat_lt (limit_of (λ l. l.hang_limit) device ring) (hung device r).karma
+is_too_much device ring r = nat_lt (limit_of (λ l. l.hang_limit) device ring) (hung device r).karma.karma
 
 abbrev pub hang_outcome : DeviceState → ℕ → ℕ → ℕ → JobRecord → Answer × DeviceState
 hang_outcome device ring now number r =

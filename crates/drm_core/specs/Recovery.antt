@@ -1,7 +1,8 @@
 -- What a timeout finds of the head of a ring, and what a hang changes.
-use Rattle.std.specs.Prelude.{ℕ, Bool, Some, if◌then◌else◌, slice_get}
+use Rattle.std.specs.Prelude.{ℕ, Some, slice_get}
 use Rattle.std.specs.Option.{option_map_or}
-use Rattle.drm_reset.specs.Blame.{one_more}
+use Rattle.drm_types.specs.declared.spec.Priority.{Priority}
+use Rattle.drm_reset.specs.Blame.{blamed}
 use Rattle.drm_reset.specs.Judging.{verdict_of}
 use Rattle.drm_reset.specs.declared.verdict.Verdict.{Verdict}
 use Rattle.drm_core.specs.declared.journal.JobRecord.{JobRecord}
@@ -20,6 +21,6 @@ verdict_at device ring number now =
     (limit_of (λ l. l.timeout) device ring)
     now
 
--- the record after one more hang of a job whose entity is of KERNEL priority, or is not
-abbrev pub blamed_by : Bool → JobRecord → JobRecord
-blamed_by kernel r = record r { resets = one_more r.resets; karma = if kernel then r.karma else one_more r.karma }
+-- the record after one more hang of a job whose entity has this priority
+abbrev pub blamed_by : Priority → JobRecord → JobRecord
+blamed_by priority r = record r { karma = blamed priority r.karma }

@@ -12,6 +12,7 @@ use crate::journal::JobRecord;
 use crate::table::Table;
 use drm_fence::Phase;
 use drm_job::Job;
+use drm_reset::Karma;
 use drm_resv::Deps;
 use drm_types::{EntityId, FenceId};
 
@@ -84,8 +85,7 @@ impl Table {
             phase: Phase::Queued,
             ran: 0,
             is_skipped: false,
-            resets: 0,
-            karma: 0,
+            karma: Karma::zero(),
         });
         self.fences.arm()
     }

@@ -1,20 +1,21 @@
 use drm_fence::Phase;
 use drm_job::Job;
+use drm_reset::Karma;
 use drm_types::RingId;
 
 /// What the device knows of one armed job (`drm_sched_job`).
 #[derive(Drop)]
 pub struct JobRecord {
+    /// What it was armed with.
     pub job: Job,
     /// The ring that it runs on.
     pub ring: RingId,
+    /// How far it has come: the state of its two fences.
     pub phase: Phase,
     /// How many of its packets have run.
     pub ran: u32,
     /// It runs no packet any more, since its entity is guilty.
     pub is_skipped: bool,
-    /// How many hangs it has met as the head of its ring. Stays at 65,535.
-    pub resets: u16,
-    /// How many of those count against its entity. Stays at 65,535.
-    pub karma: u16,
+    /// The hangs that it has met as the head of its ring, and those of them that count against its entity.
+    pub karma: Karma,
 }

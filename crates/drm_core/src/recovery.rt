@@ -1,11 +1,9 @@
-ghost use Rattle.std.specs.Prelude.{◌≡◌, ◌<◌, length, map, Some, slice_get, vec_len, vec_capacity};
-ghost use Rattle.std.specs.Option.{option_map_or};
+ghost use Rattle.std.specs.Prelude.{◌≡◌, ◌<◌, length, map, nat_lt, option_map, Some, slice_get, vec_len, vec_capacity};
 ghost use Rattle.drm_fence.specs.Phases.{is_scheduled as is_scheduled_phase};
-ghost use Rattle.drm_reset.specs.Blame.{one_more as one_more_of};
 ghost use Rattle.drm_reset.specs.declared.verdict.Verdict.TheVariants.{Hang};
 ghost use Rattle.drm_core.specs.Answers.{timed_out};
-ghost use Rattle.drm_core.specs.Journal.{changed_at};
-ghost use Rattle.drm_core.specs.Outcomes.{condemned, is_kernel as is_kernel_entity, timeout_outcome};
+ghost use Rattle.drm_core.specs.Journal.{changed_at, is_at};
+ghost use Rattle.drm_core.specs.Outcomes.{condemned, timeout_outcome};
 ghost use Rattle.drm_core.specs.Recovery.{blamed_by, verdict_at};
 ghost use Rattle.drm_core.specs.Ring.{head_of};
 ghost use Rattle.drm_core.specs.Tables.{state_of, IsWhole};
@@ -27,13 +25,6 @@ fn is_scheduled(phase: Phase) -> bool
     }
 }
 
-// One more, up to the greatest count.
-fn one_more(count: u16) -> u16
-    ensures { result ≡ one_more_of count }
-{
-    if count == 65_535 { count } else { count + 1 }
-}
-
 // Whether the job runs no packet any more, once the entity is guilty on the ring.
 fn is_condemned(record: &JobRecord, ring: RingId, entity: EntityId) -> bool
     ensures { result ≡ (condemned ring entity record.now).is_skipped }
@@ -53,30 +44,24 @@ fn condemn(journal: &mut Vec<JobRecord>, ring: RingId, entity: EntityId)
     }
 }
 
-// The job met one more hang, which counts against its entity unless that is of KERNEL priority. Answers its karma.
-fn blame(journal: &mut Vec<JobRecord>, number: FenceId, kernel: bool) -> u16
+// The job met one more hang, which its entity of this priority is blamed for (`drm_sched_increase_karma`). Answers
+// whether that makes the entity guilty.
+fn blame(journal: &mut Vec<JobRecord>, number: FenceId, priority: Priority, hang_limit: u32) -> bool
     requires { number < vec_len journal.old }
-    ensures journal { journal.new.items ≡ changed_at journal.old.items number (blamed_by kernel) }
-    ensures karma { result ≡ option_map_or (λ r. (blamed_by kernel r).karma) (slice_get journal.old.items number) 0 }
+    ensures journal { journal.new.items ≡ changed_at journal.old.items number (blamed_by priority) }
+    ensures too_much { result ≡ is_at journal.new.items number (λ r. nat_lt hang_limit r.karma.karma) }
     ensures room { vec_capacity journal.new ≡ vec_capacity journal.old }
 {
-    let record = &mut journal[number as usize];
-    record.resets = one_more(record.resets);
-    if !kernel {
-        record.karma = one_more(record.karma);
-    }
-    record.karma
+    journal[number as usize].karma.blame(priority, hang_limit)
 }
 
 impl Table {
-    /// Whether the entity's priority is KERNEL.
-    fn is_kernel(&self, entity: EntityId) -> bool
-        ensures { result ≡ is_kernel_entity (state_of self.now) entity }
+    /// The entity's priority.
+    fn priority_of(&self, entity: EntityId) -> Priority
+        requires { entity < length self.now.spec.entities }
+        ensures { option_map (λ e. e.priority) (slice_get self.now.spec.entities entity) ≡ Some result }
     {
-        match self.spec.entities.as_slice().get(entity as usize) {
-            Some(spec) => spec.priority == Priority::Kernel,
-            None => false,
-        }
+        self.spec.entities.as_slice()[entity as usize].priority
     }
 
     /// What a timeout finds of this job as the head of the ring.
@@ -93,8 +78,7 @@ impl Table {
         judge(Some(head), self.ring_spec(ring).timeout, now)
     }
 
-    /// Blames the head of the ring for a hang (`drm_sched_increase_karma`). With more karma than the ring allows, its
-    /// entity is guilty.
+    /// Blames the head of the ring for a hang. With more karma than the ring allows, its entity is guilty.
     fn hang(&mut self, ring: RingId, number: FenceId, now: Moment) -> Expired
         requires there { ring < length self.old.spec.rings }
         requires whole { IsWhole self.old }
@@ -104,10 +88,11 @@ impl Table {
         ensures whole { IsWhole self.new }
     {
         let entity = self.journal[number as usize].job.entity();
-        let kernel = self.is_kernel(entity);
-        let karma = blame(&mut self.journal, number, kernel);
+        let priority = self.priority_of(entity);
+        let limit = self.ring_spec(ring).hang_limit;
+        let is_guilty = blame(&mut self.journal, number, priority, limit);
         self.rings[ring as usize].since = now;
-        if karma as u32 <= self.ring_spec(ring).hang_limit {
+        if !is_guilty {
             return Expired::Resumed;
         }
         condemn(&mut self.journal, ring, entity);

@@ -137,7 +137,7 @@ impl Table {
         let record = &self.journal[number as usize];
         let count = record.ran;
         let packet = record.job.packet(count);
-        if must_stall(packet, record.resets) {
+        if must_stall(packet, record.karma.resets()) {
             return Ok(Stepped::Stalled { fence: number });
         }
         packet.run(&mut self.memory);

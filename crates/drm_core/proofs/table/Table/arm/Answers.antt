@@ -1,7 +1,8 @@
 use Rattle.std.proofs.Common.{◌≡◌, ◌∙◌, sym, ap, subst, length, slice_get, Some, ◌∷◌, ◌++◌, []}
 use Rattle.std.proofs.lemmas.List.{length-map}
+use Rattle.drm_reset.specs.Blame.{Counts}
 use Rattle.drm_entity.specs.Rows.{IsFresh, pushed}
-use Rattle.drm_core.specs.Arming.{ring_of}
+use Rattle.drm_core.specs.Arming.{ring_of, new_record}
 use Rattle.drm_core.specs.Tables.{state_of, fence_of}
 use Rattle.drm_core.specs.Cores.{all_named}
 use Rattle.drm_core.proofs.ArmDone.{few_entities, arm_done}
@@ -33,7 +34,7 @@ returns-clause-armed c =
     let queued : c.push.new.self ≡ pushed t.entities job.entity (length t.journal.items) =
     c.push.ensures ∙ (ap (λ e. pushed t.entities e c.len.result) c.entity-entity.ensures ∙ ap (pushed t.entities job.entity) (c.len.ensures ∙ t.journal.ok.0)) in
     let done = arm_done t job c.args.plan.deps _ c.push_reserved-2.new.self c.push_reserved.new.self c.arm.new.self c.push.new.self w c.requires.job c.requires.covers may ring
-    c.push_reserved-2.ensures.items (c.push_reserved.ensures.items ∙ ap (λ ds. t.waits.items ++ ds ∷ []) deps) c.arm.ensures.armed c.push_reserved-2.ensures.capacity c.push_reserved.ensures.capacity c.arm.ensures.places queued in
+    (c.push_reserved-2.ensures.items ∙ ap (λ (k : Counts). t.journal.items ++ record (new_record d job) { ring = c.ring_of-ring.result; karma = k } ∷ []) c.zero.ensures) (c.push_reserved.ensures.items ∙ ap (λ ds. t.waits.items ++ ds ∷ []) deps) c.arm.ensures.armed c.push_reserved-2.ensures.capacity c.push_reserved.ensures.capacity c.arm.ensures.places queued in
     done.0
 
 pub returns-clause-number : goal.returns-clause-number
@@ -54,5 +55,5 @@ returns-clause-whole c =
     let queued : c.push.new.self ≡ pushed t.entities job.entity (length t.journal.items) =
     c.push.ensures ∙ (ap (λ e. pushed t.entities e c.len.result) c.entity-entity.ensures ∙ ap (pushed t.entities job.entity) (c.len.ensures ∙ t.journal.ok.0)) in
     let done = arm_done t job c.args.plan.deps _ c.push_reserved-2.new.self c.push_reserved.new.self c.arm.new.self c.push.new.self w c.requires.job c.requires.covers may ring
-    c.push_reserved-2.ensures.items (c.push_reserved.ensures.items ∙ ap (λ ds. t.waits.items ++ ds ∷ []) deps) c.arm.ensures.armed c.push_reserved-2.ensures.capacity c.push_reserved.ensures.capacity c.arm.ensures.places queued in
+    (c.push_reserved-2.ensures.items ∙ ap (λ (k : Counts). t.journal.items ++ record (new_record d job) { ring = c.ring_of-ring.result; karma = k } ∷ []) c.zero.ensures) (c.push_reserved.ensures.items ∙ ap (λ ds. t.waits.items ++ ds ∷ []) deps) c.arm.ensures.armed c.push_reserved-2.ensures.capacity c.push_reserved.ensures.capacity c.arm.ensures.places queued in
     done.1

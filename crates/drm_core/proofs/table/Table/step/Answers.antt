@@ -1,5 +1,6 @@
 use Rattle.std.proofs.Common.{◌+◌, ◌<◌, ◌∙◌, sym, ap, subst, Some, arith}
 use Rattle.std.specs.Prelude.{option_map, IfSome}
+use Rattle.drm_core.specs.Outcomes.{must_stall}
 use Rattle.drm_core.specs.Tables.{state_of}
 use Rattle.drm_core.proofs.TableFacts.{running_at, running_found, next_in_range, few_packets, vec_holds}
 use Rattle.drm_core.proofs.CallsAre.{step_may, step_stalls}
@@ -20,7 +21,7 @@ returns-then-must_stall-clause-ran c =
     let t = c.args.self.now in
     let is = sym c.current.ensures ∙ c.in-Some.is in
     let run = running_found t c.args.ring c.in-Some.number c.index-record.result.now c.requires.whole c.requires.there is c.index-record.ensures in
-    (step_may (state_of t) c.args.ring c.in-Some.number is, step_stalls (state_of t) c.args.ring c.in-Some.number c.index-record.result.now c.packet-packet.result is run.current.at c.packet-packet.ensures (sym c.if-must_stall.ensures))
+    (step_may (state_of t) c.args.ring c.in-Some.number is, step_stalls (state_of t) c.args.ring c.in-Some.number c.index-record.result.now c.packet-packet.result is run.current.at c.packet-packet.ensures (ap (must_stall c.packet-packet.result) (sym c.resets.ensures) ∙ sym c.if-must_stall.ensures))
 
 pub run-requires : goal.run-requires
 run-requires c =
@@ -60,7 +61,7 @@ returns-clause-ran c =
     let run = running_found t c.args.ring c.in-Some.number c.index-record.result.now c.requires.whole c.requires.there is c.index-record.ensures in (
       step_may (state_of t) c.args.ring c.in-Some.number is,
       (step_done t c.args.ring c.in-Some.number c.index_mut.result.now c.index-record.result.now c.packet-packet.result c.run.new.memory c.count_packet.new.self c.requires.whole c.requires.there is run
-          c.index_mut.ensures.value c.packet-packet.ensures (sym c.if-must_stall.ensures) c.run.ensures.effect c.run.ensures.sizes c.count_packet.ensures.list c.count_packet.ensures.places).0,
+          c.index_mut.ensures.value c.packet-packet.ensures (ap (must_stall c.packet-packet.result) (sym c.resets.ensures) ∙ sym c.if-must_stall.ensures) c.run.ensures.effect c.run.ensures.sizes c.count_packet.ensures.list c.count_packet.ensures.places).0,
     )
 
 pub returns-clause-whole : goal.returns-clause-whole
@@ -69,4 +70,4 @@ returns-clause-whole c =
     let is = sym c.current.ensures ∙ c.in-Some.is in
     let run = running_found t c.args.ring c.in-Some.number c.index-record.result.now c.requires.whole c.requires.there is c.index-record.ensures in
     (step_done t c.args.ring c.in-Some.number c.index_mut.result.now c.index-record.result.now c.packet-packet.result c.run.new.memory c.count_packet.new.self c.requires.whole c.requires.there is run
-    c.index_mut.ensures.value c.packet-packet.ensures (sym c.if-must_stall.ensures) c.run.ensures.effect c.run.ensures.sizes c.count_packet.ensures.list c.count_packet.ensures.places).1
+    c.index_mut.ensures.value c.packet-packet.ensures (ap (must_stall c.packet-packet.result) (sym c.resets.ensures) ∙ sym c.if-must_stall.ensures) c.run.ensures.effect c.run.ensures.sizes c.count_packet.ensures.list c.count_packet.ensures.places).1
