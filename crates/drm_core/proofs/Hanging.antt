@@ -19,9 +19,10 @@ use Rattle.drm_core.specs.declared.table.RingRow.{RingRow}
 use Rattle.drm_core.specs.declared.table.Table.{Table}
 use Rattle.drm_core.specs.Journal.{is_at, is_complete, changed_at}
 use Rattle.drm_core.specs.Outcomes.{hung, hung_device, condemned, condemned_device, is_too_much, hang_outcome, timeout_at, timeout_outcome}
-use Rattle.drm_core.specs.Recovery.{verdict_at, blamed_by}
+use Rattle.drm_core.specs.Recovery.{verdict_at, blamed_by, all_skipped}
 use Rattle.drm_core.specs.Plain.{marks, QueuesStand}
-use Rattle.drm_core.specs.Ring.{head_of, limit_of, age_of, entity_changed}
+use Rattle.drm_core.specs.Lawful.{IsPendingList}
+use Rattle.drm_core.specs.Ring.{pending_of, head_of, limit_of, age_of, entity_changed}
 use Rattle.drm_core.specs.State.{EntityState, RingState, DeviceState}
 use Rattle.drm_core.specs.Tables.{state_of, fence_of, ring_of_row, IsWhole}
 use Rattle.drm_core.proofs.CallsAre.{Left, at_record_there}
@@ -30,7 +31,9 @@ use Rattle.drm_core.proofs.DeviceSteps.{IsKept, timeout_kept}
 use Rattle.drm_core.proofs.FinishLawful.{IsHead, head_is, set_same}
 use Rattle.drm_core.proofs.Records.{stands_within, at_test, changed_is, to_map}
 use Rattle.drm_core.proofs.Pairs.{get_set_same}
-use Rattle.drm_core.proofs.TableFacts.{entity_there, rings_tie, rooms_kept, row_found, whole_kept}
+use Rattle.drm_core.proofs.Pending.{pending_kept}
+use Rattle.drm_core.proofs.Condemning.{condemned_among}
+use Rattle.drm_core.proofs.TableFacts.{rings_tie, rooms_kept, row_found, row_pending, entity_there, whole_kept}
 use Rattle.drm_core.proofs.Queues.{marks_changed, stands_set, stands_map, stands_marked}
 
 -- the outcome of a timeout, by what it finds of the head
@@ -136,6 +139,25 @@ blamed_queues : {t : Table} {ring now f : ℕ} {r : JobRecord} {journal : Vec Jo
 blamed_queues {t} {ring} {now} {f} {r} w b =
     subst (λ js. QueuesStand js t.entities) (sym b.items) (stands_set t.journal.items f r (hung (state_of t) r) t.entities b.head.at refl refl w.queues)
 
+-- and the pending list of its ring
+pub blamed_pending : {t : Table} {ring now f : ℕ} {r : JobRecord} {journal : Vec JobRecord Global} {row : RingRow} {guilty : Bool} → IsWhole t → ring < length t.spec.rings
+    → IsBlamed t ring now f r journal row guilty → IsPendingList journal.items ring row.pending.items
+blamed_pending {t} {ring} {now} {f} {r} {journal} {row} w there b =
+    let d = state_of t in
+    subst (λ ns. IsPendingList journal.items ring ns) (row_pending t ring row b.row_at)
+    (subst (λ js. IsPendingList js ring (pending_of d ring)) (sym b.items)
+    (pending_kept t.journal.items f r (hung d r) ring (pending_of d ring) b.head.at refl refl (w.steady.lawful.rings ring there).pending))
+
+-- the list is as it was in the row whose age begins anew
+pub same_pending : (rows : List RingRow) (ring now : ℕ) (row x : RingRow) → slice_get rows ring ≡ Some row → x ≡ get_or (set rows ring (record row { since = now })) ring x
+    → x.pending.items ≡ row.pending.items
+same_pending rows ring now row x at x_is =
+    let new : RingRow = record row { since = now } in
+    let there = get_set_same rows ring row new at in
+    let here = at_index (set rows ring new) ring x x_is (slice_get_within (set rows ring new) ring new there) in
+    let same : new ≡ x = cc (there, here) in
+    ap (λ (z : RingRow). z.pending.items) (sym same)
+
 -- the head goes on
 pub resumed_done : {t : Table} {ring now f : ℕ} {r : JobRecord} {journal : Vec JobRecord Global} {row : RingRow} {guilty : Bool} → IsWhole t → ring < length t.spec.rings → IsBlamed t ring now f r journal row guilty → guilty ≡ false
     → (timeout_outcome (state_of t) ring now ≡ (answer.Resumed, state_of (blamed_tables t ring now journal row))) × IsWhole (blamed_tables t ring now journal row)
@@ -156,12 +178,13 @@ resumed_done {t} {ring} {now} {f} {r} {journal} {row} w there b little =
 -- the entity is guilty
 pub guilty_done : {t : Table} {ring now f : ℕ} {r : JobRecord} {journal : Vec JobRecord Global} {row : RingRow} {guilty : Bool}
     → (entity : ℕ) (last : Vec JobRecord Global) (entities : EntityRows) → IsWhole t → ring < length t.spec.rings → IsBlamed t ring now f r journal row guilty
-    → guilty ≡ true → entity ≡ r.job.entity → last.items ≡ map (condemned ring entity) journal.items → vec_capacity last ≡ vec_capacity journal
+    → guilty ≡ true → entity ≡ r.job.entity → last.items ≡ all_skipped entity journal.items row.pending.items → vec_capacity last ≡ vec_capacity journal
     → entities ≡ row_changed t.entities entity (λ r. record r { is_guilty = true })
     → (timeout_outcome (state_of t) ring now ≡ (answer.Guilty entity, state_of (guilty_tables t ring now last row entities)))
     × IsWhole (guilty_tables t ring now last row entities)
-guilty_done {t} {ring} {now} {f} {r} {journal} {row} entity last entities w there b more of_entity items room marked_by =
+guilty_done {t} {ring} {now} {f} {r} {journal} {row} entity last entities w there b more of_entity skipped room marked_by =
     let d = state_of t in
+    let items : last.items ≡ map (condemned ring entity) journal.items = skipped ∙ condemned_among journal.items ring entity row.pending.items (blamed_pending w there b) in
     let u = guilty_tables t ring now last row entities in
     let rings = map ring_of_row (set t.rings.items ring (record row { since = now })) in
     let blame : EntityRow → EntityRow = λ r. record r { is_guilty = true } in

@@ -34,6 +34,7 @@ pub mod CoreFacts
 pub mod Notes
 pub mod ArmDone
 pub mod Reaping
+pub mod Condemning
 pub mod Hanging
 pub mod Blanks
 pub mod Runs

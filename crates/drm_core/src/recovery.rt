@@ -1,46 +1,36 @@
-ghost use Rattle.std.specs.Prelude.{◌≡◌, ◌<◌, length, map, nat_lt, option_map, Some, slice_get, vec_len, vec_capacity};
-ghost use Rattle.drm_fence.specs.Phases.{is_scheduled as is_scheduled_phase};
+ghost use Rattle.std.specs.Prelude.{◌≡◌, ℕ, ◌<◌, length, nat_lt, option_map, Some, slice_get, vec_len, vec_capacity};
 ghost use Rattle.drm_reset.specs.declared.verdict.Verdict.TheVariants.{Hang};
 ghost use Rattle.drm_core.specs.Answers.{timed_out};
 ghost use Rattle.drm_core.specs.Journal.{changed_at, is_at};
-ghost use Rattle.drm_core.specs.Outcomes.{condemned, timeout_outcome};
-ghost use Rattle.drm_core.specs.Recovery.{blamed_by, verdict_at};
+ghost use Rattle.drm_core.specs.Outcomes.{timeout_outcome};
+ghost use Rattle.drm_core.specs.Recovery.{blamed_by, skipped_of, all_skipped, verdict_at};
 ghost use Rattle.drm_core.specs.Ring.{head_of};
 ghost use Rattle.drm_core.specs.Tables.{state_of, IsWhole};
 
 use crate::answer::Expired;
 use crate::journal::JobRecord;
 use crate::table::{self, Table};
-use drm_fence::Phase;
 use drm_reset::{HeadView, Verdict, judge};
 use drm_types::{EntityId, FenceId, Moment, Priority, RingId};
 
-fn is_scheduled(phase: Phase) -> bool
-    ensures { result ≡ is_scheduled_phase phase }
-{
-    match phase {
-        Phase::Queued => false,
-        Phase::Scheduled => true,
-        Phase::Ended(_) => false,
-    }
-}
-
-// Whether the job runs no packet any more, once the entity is guilty on the ring.
-fn is_condemned(record: &JobRecord, ring: RingId, entity: EntityId) -> bool
-    ensures { result ≡ (condemned ring entity record.now).is_skipped }
-{
-    (is_scheduled(record.phase) && record.ring == ring && record.job.entity() == entity)
-        || record.is_skipped
-}
-
-// All pending jobs of the entity on the ring are skipped.
-fn condemn(journal: &mut Vec<JobRecord>, ring: RingId, entity: EntityId)
-    ensures journal { journal.new.items ≡ map (condemned ring entity) journal.old.items }
+// The job is skipped if it is of the entity.
+fn skip(journal: &mut Vec<JobRecord>, number: FenceId, entity: EntityId)
+    requires { number < vec_len journal.old }
+    ensures journal { journal.new.items ≡ changed_at journal.old.items number (skipped_of entity) }
     ensures room { vec_capacity journal.new ≡ vec_capacity journal.old }
 {
-    for number in 0..journal.len() {
-        let skipped = is_condemned(&journal[number], ring, entity);
-        journal[number].is_skipped = skipped;
+    let record = &mut journal[number as usize];
+    record.is_skipped = record.job.entity() == entity || record.is_skipped;
+}
+
+// The entity's jobs among these are skipped.
+fn condemn(journal: &mut Vec<JobRecord>, pending: &[FenceId], entity: EntityId)
+    requires { (k f : ℕ) → slice_get pending.now k ≡ Some f → f < vec_len journal.old }
+    ensures journal { journal.new.items ≡ all_skipped entity journal.old.items pending.now }
+    ensures room { vec_capacity journal.new ≡ vec_capacity journal.old }
+{
+    for number in pending {
+        skip(journal, *number, entity);
     }
 }
 
@@ -95,7 +85,11 @@ impl Table {
         if !is_guilty {
             return Expired::Resumed;
         }
-        condemn(&mut self.journal, ring, entity);
+        condemn(
+            &mut self.journal,
+            &self.rings[ring as usize].pending,
+            entity,
+        );
         self.entities.set_guilty(entity);
         Expired::Guilty { entity }
     }

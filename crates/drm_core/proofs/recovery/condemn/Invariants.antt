@@ -1,8 +1,10 @@
-use Rattle.std.proofs.Common.{◌≡◌, ◌++◌, map, take, drop}
-use Rattle.drm_core.specs.Outcomes.{condemned}
+use Rattle.std.proofs.Common.{◌≡◌, drop}
+use Rattle.std.specs.Prelude.{vec_len, vec_capacity}
+use Rattle.drm_core.specs.Recovery.{all_skipped}
 use Rattle.drm_core.proofs.recovery.condemn.Given as goal
 
--- so far, the records in front are condemned
 abbrev pub invariant-loop-number : goal.invariant-loop-number
 invariant-loop-number l =
-    l.journal.items ≡ map (condemned l.ring l.entity) (take l.number l.fn.journal.items) ++ drop l.number l.fn.journal.items
+    (all_skipped l.entity l.journal.items (drop l.number-index l.pending) ≡ all_skipped l.entity l.fn.journal.items l.pending)
+    × (vec_len l.journal ≡ vec_len l.fn.journal)
+    × (vec_capacity l.journal ≡ vec_capacity l.fn.journal)

@@ -1,11 +1,13 @@
-use Rattle.std.proofs.Common.{◌≡◌, ◌<◌, sym, subst, length}
+use Rattle.std.proofs.Common.{◌≡◌, ◌<◌, ◌∙◌, sym, ap, subst, length, slice_get, Some}
 use Rattle.std.proofs.lemmas.Option.{slice_get_within}
 use Rattle.drm_core.specs.declared.journal.JobRecord.{JobRecord}
+use Rattle.drm_core.specs.Recovery.{all_skipped}
 use Rattle.drm_core.specs.Tables.{state_of}
 use Rattle.drm_core.proofs.ArmDone.{few_entities}
 use Rattle.drm_core.proofs.Candidates.{at_index}
+use Rattle.drm_core.proofs.Pending.{contains_at}
 use Rattle.drm_core.proofs.FinishLawful.{head_is}
-use Rattle.drm_core.proofs.Hanging.{is_blamed, resumed_done, guilty_done}
+use Rattle.drm_core.proofs.Hanging.{is_blamed, blamed_pending, same_pending, resumed_done, guilty_done}
 use Rattle.drm_core.proofs.TableFacts.{entity_there, vec_holds}
 use Rattle.drm_core.proofs.table.Table.hang.Goals as goal
 
@@ -56,14 +58,28 @@ set_guilty-requires c =
     c.blame-is_guilty.ensures.journal c.blame-is_guilty.ensures.room c.index_mut.ensures.value c.blame-is_guilty.ensures.too_much c.ring_spec-limit.ensures in
     subst (λ e. e < length t.entities.rows) (sym c.entity-entity.ensures) (entity_there t c.args.number c.index.result.now c.requires.whole b.head.at)
 
+pub condemn-requires : goal.condemn-requires
+condemn-requires c k f at =
+    let t = c.args.self.now in
+    let b = is_blamed t c.args.ring c.args.now c.args.number c.index.result.now c.entity-entity.result c.priority_of-priority.result c.blame-is_guilty.new.journal c.index_mut.result.now c.ring_spec-limit.result
+    c.blame-is_guilty.result c.requires.whole c.requires.there c.requires.head c.requires.hangs c.index.ensures c.entity-entity.ensures c.priority_of-priority.ensures
+    c.blame-is_guilty.ensures.journal c.blame-is_guilty.ensures.room c.index_mut.ensures.value c.blame-is_guilty.ensures.too_much c.ring_spec-limit.ensures in
+    let pending : c.deref.result.now ≡ c.index_mut.result.now.pending.items =
+    c.deref.ensures.value ∙ same_pending t.rings.items c.args.ring c.args.now c.index_mut.result.now c.index-2.result.now b.row_at c.index-2.ensures in
+    let there = subst (λ ns. slice_get ns k ≡ Some f) pending at in
+    let x = ((blamed_pending c.requires.whole c.requires.there b) f).0 (contains_at c.index_mut.result.now.pending.items k f there) in
+    vec_holds c.blame-is_guilty.new.journal f x.0 x.1
+
 pub returns-clause-expired : goal.returns-clause-expired
 returns-clause-expired c =
     let t = c.args.self.now in
     let b = is_blamed t c.args.ring c.args.now c.args.number c.index.result.now c.entity-entity.result c.priority_of-priority.result c.blame-is_guilty.new.journal c.index_mut.result.now c.ring_spec-limit.result
     c.blame-is_guilty.result c.requires.whole c.requires.there c.requires.head c.requires.hangs c.index.ensures c.entity-entity.ensures c.priority_of-priority.ensures
     c.blame-is_guilty.ensures.journal c.blame-is_guilty.ensures.room c.index_mut.ensures.value c.blame-is_guilty.ensures.too_much c.ring_spec-limit.ensures in
+    let pending : c.deref.result.now ≡ c.index_mut.result.now.pending.items =
+    c.deref.ensures.value ∙ same_pending t.rings.items c.args.ring c.args.now c.index_mut.result.now c.index-2.result.now b.row_at c.index-2.ensures in
     (guilty_done c.entity-entity.result c.condemn.new.journal c.set_guilty.new.self c.requires.whole c.requires.there b c.if-not-is_guilty.false c.entity-entity.ensures
-    c.condemn.ensures.journal c.condemn.ensures.room c.set_guilty.ensures).0
+    (c.condemn.ensures.journal ∙ ap (all_skipped c.entity-entity.result c.blame-is_guilty.new.journal.items) pending) c.condemn.ensures.room c.set_guilty.ensures).0
 
 pub returns-clause-whole : goal.returns-clause-whole
 returns-clause-whole c =
@@ -71,5 +87,7 @@ returns-clause-whole c =
     let b = is_blamed t c.args.ring c.args.now c.args.number c.index.result.now c.entity-entity.result c.priority_of-priority.result c.blame-is_guilty.new.journal c.index_mut.result.now c.ring_spec-limit.result
     c.blame-is_guilty.result c.requires.whole c.requires.there c.requires.head c.requires.hangs c.index.ensures c.entity-entity.ensures c.priority_of-priority.ensures
     c.blame-is_guilty.ensures.journal c.blame-is_guilty.ensures.room c.index_mut.ensures.value c.blame-is_guilty.ensures.too_much c.ring_spec-limit.ensures in
+    let pending : c.deref.result.now ≡ c.index_mut.result.now.pending.items =
+    c.deref.ensures.value ∙ same_pending t.rings.items c.args.ring c.args.now c.index_mut.result.now c.index-2.result.now b.row_at c.index-2.ensures in
     (guilty_done c.entity-entity.result c.condemn.new.journal c.set_guilty.new.self c.requires.whole c.requires.there b c.if-not-is_guilty.false c.entity-entity.ensures
-    c.condemn.ensures.journal c.condemn.ensures.room c.set_guilty.ensures).1
+    (c.condemn.ensures.journal ∙ ap (all_skipped c.entity-entity.result c.blame-is_guilty.new.journal.items) pending) c.condemn.ensures.room c.set_guilty.ensures).1
