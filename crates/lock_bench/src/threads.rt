@@ -25,9 +25,9 @@ struct Job {
     kind: Kind,
 }
 
+// The rounds of one thread. Where its order has no room it makes none, and answers false.
 #[tactic(auto, using(crate::proofs::Below::wider))]
-// The rounds of one thread. It makes none where its order has no room.
-fn rounds_of<R: Wait>(board: &Board<Counters>, job: Job, rt: &R, alloc: Global)
+fn rounds_of<R: Wait>(board: &Board<Counters>, job: Job, rt: &R, alloc: Global) -> bool
     requires seat { IsIdle board.now.table.shared.table_id job.seat }
     requires locks { job.kind.locks ≤ board.now.buffers }
 {
@@ -38,12 +38,13 @@ fn rounds_of<R: Wait>(board: &Board<Counters>, job: Job, rt: &R, alloc: Global)
         kind: Kind { locks, yields },
     } = job;
     let Ok(order) = order_of(alloc, locks, seed) else {
-        return;
+        return false;
     };
     let mut seat = seat;
     for _ in 0..rounds {
         seat = round(board, seat, &order, yields, rt, alloc);
     }
+    true
 }
 
 // Jobs for so many threads with so many rounds in all, and a seat that is left.
@@ -77,6 +78,7 @@ fn jobs_of(
     Ok((jobs, seat))
 }
 
+// Runs each job in a thread. It refuses where memory does, also where a thread has no room for its order.
 fn run_jobs<R: Threads + Wait + Sync>(
     board: &Board<Counters>,
     jobs: Vec<Job>,
@@ -85,13 +87,18 @@ fn run_jobs<R: Threads + Wait + Sync>(
 ) -> Result<(), AllocError>
     requires { All (λ j. IsIdle board.now.table.shared.table_id j.seat × (j.kind.locks ≤ board.now.buffers)) jobs.items }
 {
-    thread::map_vec(
+    let made = thread::map_vec(
         rt,
         jobs,
         &move |job: Job|
             requires { IsIdle board.now.table.shared.table_id job.seat × (job.kind.locks ≤ board.now.buffers) }
         { rounds_of(board, job, rt, alloc) },
     )?;
+    for all in made {
+        if !all {
+            return Err(AllocError);
+        }
+    }
     Ok(())
 }
 
