@@ -1,8 +1,8 @@
 //! lock_bench: what the lock of the device costs, on one thread and in threads.
 //!
-//! Each word `KIND:THREADS:ROUNDS` shares so many rounds among so many threads, and prints a sum. A round draws a ticket,
-//! locks, counts what it holds, gives it back and ends. `one` locks one value of sixteen, `all` locks all sixteen in an
-//! order of the thread's own, and `yielding` does that and yields the processor before it gives them back.
+//! Each word `KIND:THREADS:ROUNDS` shares so many rounds among so many threads, and prints a sum. A round draws a
+//! ticket, locks, counts what it holds, gives it back and ends. `one` locks one value of sixteen, `all` locks all
+//! sixteen in an order of the thread's own, and `yielding` does that and yields the processor before it gives them back.
 //! `bench/lock/run` times it beside the same in plain Rust, whose sums are what the gate expects here.
 #![tactic(auto)]
 

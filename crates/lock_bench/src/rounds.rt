@@ -67,8 +67,8 @@ fn shuffle(order: &mut [BufferId], seed: u64)
     }
 }
 
-#[tactic(auto, using(ww_lock::proofs::Ready::locked))]
 // Locks each buffer of the order that is not held yet, or answers the one for which the caller has to back off.
+#[tactic(auto, using(ww_lock::proofs::Ready::locked))]
 fn lock_others<R: Wait>(
     board: &Board<Counters>,
     acquire: &mut Counting,
@@ -103,8 +103,8 @@ fn release_all(board: &Board<Counters>, acquire: &mut Counting)
     }
 }
 
-#[tactic(auto, using(ww_lock::proofs::Ready::claimed))]
 // Locks all of the order, and begins anew with the one for which it had to back off.
+#[tactic(auto, using(ww_lock::proofs::Ready::claimed))]
 fn lock_all<R: Wait>(board: &Board<Counters>, acquire: &mut Counting, order: &[BufferId], rt: &R)
     requires ready { IsReady (λ _ _ _. Unit {0}) board.now.table.shared.table_id acquire.old }
     requires order { All (λ b. b < board.now.buffers) order.now }

@@ -20,6 +20,7 @@ use std::mem;
 pub struct Acquire<P, X, T> {
     pub(crate) place: Place<P, X, T>,
     pub(crate) ticket: Ticket,
+    // The caller is done: it locks no more.
     pub(crate) sealed: bool,
     // In the order of the claims.
     pub(crate) held: Vec<(BufferId, X)>,

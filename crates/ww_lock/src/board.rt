@@ -1,6 +1,6 @@
 //! The table that the threads share.
-//! Word 0 counts tickets, word 1 is 0 where the pivot is at home and 1 where it is out, and word b + 2 is 0 where value b is at home, or the ticket of its holder.
-//! The words after those are the fences'.
+//! Word 0 counts tickets, word 1 is 0 where the pivot is at home and 1 where it is out, and word b + 2 is 0 where value
+//! b is at home, or the ticket of its holder. The words after those are the fences'.
 //! Slot 0 is the pivot's and slot b + 1 that of value b.
 ghost use Rattle.std.specs.Prelude.{◌≡◌, ◌+◌, ◌≤◌};
 
@@ -15,7 +15,9 @@ use std::snapshot::Snapshot;
 /// What lies in a slot of the table.
 #[derive(Drop)]
 pub enum Slot<P, X, T> {
+    /// The pivot, in slot 0: a device.
     Pivot(P),
+    /// Value b, in slot b + 1: the reservation of a buffer.
     Value(X),
     /// Nothing: a caller has it.
     Gone,
@@ -26,17 +28,25 @@ pub enum Slot<P, X, T> {
 /// What a call does to the task of its caller: nothing, begin one, or end it.
 #[derive(Drop)]
 pub enum TaskChange<T> {
+    /// The caller's task, if it has one, goes on.
     Same,
+    /// The caller, which has no task, begins this one. The pivot waits for it from now on.
     Begins(T),
+    /// The caller's task ends, and the pivot need not wait for it any more.
     Ends,
 }
 
-/// What a step announces: the pivot and the values that it leaves, what becomes of the task, and whether the seat's calls gain one.
+/// What a step announces: the pivot and the values that it leaves, what becomes of the task, and whether the seat's
+/// calls gain one.
 #[derive(Drop)]
 pub struct Announcement<P, X, T> {
+    /// The pivot that the caller brings home, or shows by a fence word first.
     pub pivot: Snapshot<P>,
+    /// The values that the caller holds. It owes them from now on as they are.
     pub held: Snapshot<Vec<(BufferId, X)>>,
+    /// What becomes of the caller's task.
     pub change: Snapshot<TaskChange<T>>,
+    /// Whether the caller's calls gain one, from the pivot found to the one left. One that was posted is there already.
     pub is_call: bool,
 }
 
@@ -58,6 +68,7 @@ pub struct PivotView<P> {
     pub seen: LinkedList<P>,
     /// Its calls, each as the pivot found and the pivot left.
     pub mine: LinkedList<(P, P)>,
+    /// It has the pivot: it has entered, and not left since.
     pub inside: bool,
     /// A fence word was posted since the entry.
     pub posted: bool,
@@ -65,17 +76,22 @@ pub struct PivotView<P> {
 
 /// What a seat knows. No value of it is made.
 pub struct View<P, X, T> {
+    /// What it knows of tickets and values.
     pub lock: LockView<X>,
+    /// What it knows of the pivot.
     pub pivot: PivotView<P>,
     /// The fence words that its looks found.
     pub looked: LinkedList<(u32, u64)>,
+    /// The task that it has begun and not ended, for which the pivot waits.
     pub task: Option<T>,
 }
 
 /// What a board starts with: the pivot, and how many fence words it has.
 #[derive(Drop)]
 pub struct Start<P> {
+    /// The pivot, which is at home.
     pub pivot: Snapshot<P>,
+    /// How many fence words there are. Each starts at 0.
     pub posts: u32,
 }
 
@@ -110,8 +126,11 @@ pub(crate) type Tables<W> = Table<
 #[derive(Drop)]
 pub struct Board<W: Ward> {
     pub(crate) table: Tables<W>,
+    // How many values.
     pub(crate) buffers: u32,
+    // How many fence words.
     pub(crate) posts: u32,
+    // For the list of a caller that holds nothing, which takes no memory.
     pub(crate) alloc: Global,
     ghost sized: { (table.shared.table_id.words ≡ buffers + 2 + posts) × (table.shared.key.posts ≡ posts) × (table.shared.table_id.slots ≡ buffers + 1) × (buffers ≤ 64) },
 }

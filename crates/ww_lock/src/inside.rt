@@ -1,4 +1,5 @@
-//! How seats are split and joined, how a caller takes the pivot and brings it home, and how fence words are shown and read.
+//! How seats are split and joined, how a caller takes the pivot and brings it home, and how fence words are shown and
+//! read.
 ghost use Rattle.std.specs.Prelude.{◌≡◌, ◌≢◌, ◌<◌, ◌+◌, ℕ, List, [], ◌∷◌, true, false, Option, Some, None};
 ghost use Rattle.atomic_table.specs.Table.{rest};
 ghost use Rattle.ww_lock.specs.Fences.{NotBack};

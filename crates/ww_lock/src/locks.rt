@@ -73,8 +73,8 @@ impl<W: Ward> Board<W> {
         }
     }
 
-    /// Locks a value (`ww_mutex_lock`). It waits for a younger holder, and for any holder where the caller holds nothing:
-    /// it tries a few times more, and then sleeps until the value is given back.
+    /// Locks a value (`ww_mutex_lock`). It waits for a younger holder, and for any holder where the caller holds
+    /// nothing: it tries a few times more, and then sleeps until the value is given back.
     pub fn lock<R: Wait>(
         &self,
         acquire: &mut Acquire<W::Pivot, W::Value, W::Task>,

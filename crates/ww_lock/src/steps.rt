@@ -105,7 +105,8 @@ pub(crate) fn enter<W: Ward>(
     shared.compare_exchange::<Enter<W>>(place, 1, 0, 1)
 }
 
-// Gives back the slot of the pivot, which was taken last and has the pivot again. The values that are held are as in `held`.
+// Gives back the slot of the pivot, which was taken last and has the pivot again. The values that are held are as in
+// `held`.
 pub(crate) fn leave<W: Ward>(
     shared: &SharedTable<W>,
     place: &mut Place<W::Pivot, W::Value, W::Task>,

@@ -16,8 +16,8 @@ use std::test::Fail;
 use std::thread;
 use std::thread::Threads;
 
-#[tactic(auto, using(crate::proofs::Ready::locked))]
 // Locks each buffer of the order that is not held yet, or answers the one for which the caller has to back off.
+#[tactic(auto, using(crate::proofs::Ready::locked))]
 fn lock_others<W: Ward, R: Wait>(
     board: &Board<W>,
     acquire: &mut Acquire<W::Pivot, W::Value, W::Task>,
@@ -52,8 +52,8 @@ fn release_all<W: Ward>(board: &Board<W>, acquire: &mut Acquire<W::Pivot, W::Val
     }
 }
 
-#[tactic(auto, using(crate::proofs::Ready::claimed))]
 // Locks all of the order, and begins anew with the one for which it had to back off.
+#[tactic(auto, using(crate::proofs::Ready::claimed))]
 fn lock_all<W: Ward, R: Wait>(
     board: &Board<W>,
     acquire: &mut Acquire<W::Pivot, W::Value, W::Task>,
