@@ -92,13 +92,10 @@ module _ {P X T : Type 0} (good : P → Type 0) (fits : ℕ → P → X → Type
   abbrev shown_at : Ended → P
   shown_at e = e.1.0.shown
 
-  home_value : (e : Ended) (b : ℕ) → b + 1 < length xs → get_elem? ws (b + 2) ≡ some 0 → (x : X) × (get_elem? xs (b + 1) ≡ some (Value x)) × fits b (shown_at e) x
+  -- the slot of a value whose word is 0 has a value
+  pub home_value : (e : Ended) (b : ℕ) → b + 1 < length xs → get_elem? ws (b + 2) ≡ some 0 → (x : X) × (get_elem? xs (b + 1) ≡ some (Value x)) × fits b (shown_at e) x
   home_value e b low z = let r = e.1.0 in let deep = r.deep in let len = e.3 in let inside : b < r.n = omega arith in
       let h = r.locks.home b inside (ap (λ l. get_or l (b + 2) 0) e.2 ∙ at_get ws (b + 2) 0 z) in (h.0, e.4 (b + 1) (Value h.0) h.1, h.2)
-
-  -- the slot of a value whose word is 0 has a value
-  pub value_at_home : Ended → (b : ℕ) (s : Slot P X T) → b + 1 < length xs → get_elem? ws (b + 2) ≡ some 0 → get_elem? xs (b + 1) ≡ some s → ((x : X) → s ≡ Value x → ⊥) → ⊥
-  value_at_home e b s low z here never = let h = home_value e b low z in never h.0 (some-injective s (Value h.0) (sym here ∙ h.1))
 
   home_pivot : (e : Ended) → get_elem? ws 1 ≡ some 0 → get_elem? xs 0 ≡ some (Pivot (shown_at e))
   home_pivot e z = let r = e.1.0 in e.4 0 (Pivot (shown_at e)) (r.pivots.at_home (ap (λ l. get_or l 1 0) e.2 ∙ at_get ws 1 0 z))

@@ -1,12 +1,16 @@
 //! How a board is made and taken apart.
-ghost use Rattle.std.specs.Prelude.{◌≡◌, ◌<◌, ◌≤◌, ◌+◌, ◌^◌, ℕ, [], ◌∷◌, length, IfOk, OnErr, MatchResult, Option, Some, None, vec_len, vec_capacity, Result};
+ghost use Rattle.std.specs.Prelude.{◌≡◌, ◌<◌, ◌≤◌, ◌+◌, ◌^◌, ℕ, [], ◌∷◌, length, IfOk, OnErr, MatchResult, Option, Some, None, vec_len, vec_capacity, Result, MatchOption, IsTrue, slice_index_or, slice_set, false};
+ghost use Rattle.std.specs.Mem.Slots.{slots_items, slots_filled, slots_len, IsFull};
+ghost use mathlib.Core.Option.{some};
+ghost use lib.ListN.{get_elem?};
+ghost use Rattle.ww_lock.specs.declared.board.Slot.TheVariants.{Value};
 ghost use Rattle.ww_lock.specs.Rule.{In, newcomer};
 ghost use Rattle.ww_lock.specs.Lifetime.{FitsAll, Filled, AllFit, TakesApart};
 ghost use Rattle.ww_lock.specs.Begun.{IsOutside, sees};
 
 use crate::board::{Board, Place, Slot, Start, Tables};
 use crate::ward::Ward;
-use atomic_table::Table;
+use atomic_table::{Closed, Table};
 use std::alloc::{AllocError, Global};
 use std::snapshot::Snapshot;
 
@@ -33,6 +37,28 @@ fn slots_of<P: Drop, X: Drop, T: Drop>(
         slots.push_reserved(Slot::Value(value));
     }
     Ok(slots)
+}
+
+// Takes value b out of a table that is taken apart, if it is at home.
+fn take_value<P: Drop, X: Drop, T: Drop>(
+    closed: &mut Closed<Slot<P, X, T>, Global>,
+    b: usize,
+) -> Option<X>
+    requires word { (b + 2 < slots_len closed.old.words) × IsFull closed.old.words }
+    requires slot { (b + 1 < slots_len closed.old.slots) × IsTrue (slice_index_or (slots_filled closed.old.slots) (b + 1) false) }
+    requires home { get_elem? (slots_items closed.old.words) (b + 2) ≡ some 0 → (x : X) × (get_elem? (slots_items closed.old.slots) (b + 1) ≡ some (Value x)) }
+    ensures value { MatchOption result (get_elem? (slots_items closed.old.words) (b + 2) ≡ some 0 → ⊥) (λ x. (get_elem? (slots_items closed.old.words) (b + 2) ≡ some 0) × (get_elem? (slots_items closed.old.slots) (b + 1) ≡ some (Value x))) }
+    ensures others { (slots_items closed.new.slots ≡ slots_items closed.old.slots) × (slots_filled closed.new.slots ≡ slice_set (slots_filled closed.old.slots) (b + 1) false) × (slots_len closed.new.slots ≡ slots_len closed.old.slots) × (closed.new.words ≡ closed.old.words) }
+{
+    let holder = closed.word(b + 2);
+    let slot = closed.take(b + 1);
+    if holder != 0 {
+        return None;
+    }
+    let Slot::Value(value) = slot else {
+        unreachable!()
+    };
+    Some(value)
 }
 
 impl<W: Ward> Board<W> {
@@ -102,16 +128,7 @@ impl<W: Ward> Board<W> {
         let at = closed.word(1);
         let pivot = closed.take(0);
         for b in 0..buffers as usize {
-            let holder = closed.word(b + 2);
-            let slot = closed.take(b + 1);
-            if holder == 0 {
-                let Slot::Value(value) = slot else {
-                    unreachable!()
-                };
-                out.push_reserved(Some(value));
-            } else {
-                out.push_reserved(None);
-            }
+            out.push_reserved(take_value(&mut closed, b));
         }
         closed.free();
         if at != 0 {

@@ -1,48 +1,36 @@
-use Rattle.std.proofs.Common.{rules, arith, ◌≡◌, ◌<◌, ◌≤◌, ◌+◌, ℕ, List, length, get_or, sym, refl, ap, ◌∙◌, subst, inl, inr, false, true, get_or-set_other, Option, Some, None, vec_capacity, length-append, ◌++◌, ◌∷◌, []}
+use Rattle.std.proofs.Common.{rules, arith, ◌≡◌, ◌<◌, ◌≤◌, ◌+◌, ℕ, List, length, get_or, sym, refl, ap, ◌∙◌, subst, inl, inr, false, true, get_or-set_other, Option, Some, None, vec_capacity, MatchOption, length-append, ◌++◌, ◌∷◌, []}
 use mathlib.Core.Logic.{dite}
 use native.Mathlib.Decide.{ℕ_discrete}
 use Rattle.std.specs.Mem.Slots.{slots_items, slots_filled, slots_counts}
 use lib.ListN.{get_elem?}
-use mathlib.Core.Option.{some, some-injective}
+use mathlib.Core.Option.{some}
+use Rattle.ww_lock.specs.declared.board.Slot.{Slot}
 use Rattle.ww_lock.specs.declared.board.Slot.TheVariants.{Value}
 use Rattle.ww_lock.specs.Lifetime.{TakesApart}
-use Rattle.ww_lock.proofs.Closing.{value_at_home, pivot_at_home, comes_back, set_false, more_back, back_same, Back, Whole, more_whole, whole_same, gives_home, gives_pivot, pivot_is_out}
-use Rattle.ww_lock.proofs.board.Board.close.Goals.{then-holder-eq0+in-Value, else-holder-eq0+in-Pivot-1, else-holder-eq0+in-Value-1, else-holder-eq0+in-Announced-1, else-holder-eq0+in-Gone-1}
+use Rattle.ww_lock.proofs.Closing.{home_value, pivot_at_home, comes_back, set_false, more_back, back_same, Back, Whole, more_whole, whole_same, gives_home, gives_pivot, pivot_is_out}
 use Rattle.ww_lock.proofs.board.Board.close.Goals as goal
 
-abbrev some_value : {X : Type 0} → X → Option X → X
-some_value d None = d
-some_value d (Some x) = x
+-- an option that is there exactly where A is
+there_if : {A X : Type 0} (B : X → Type 0) (o : Option X) → MatchOption o (A → ⊥) (λ x. A × B x) → A → (x : X) × (o ≡ Some x) × B x
+there_if B None h a = absurd (h a)
+there_if B (Some x) h a = (x, refl, h.1)
 
-some-of : {X : Type 0} {x y : X} → Some x ≡ Some y → x ≡ y
-some-of {X} {x} {y} e = ap (some_value x) e
+pub take_value-requires-clause-home : goal.take_value-requires-clause-home
+take_value-requires-clause-home g c = let w = g.W.Ward in let i = c.loop-b.invariant in let e = c.close_with-closed.ensures in let t = c.take-pivot.ensures.others in let low = c.loop-b-test.true in let n = slots_counts c.close_with-closed.result.slots in let size = c.args.self.sized.2 in let count = e.counts in
+    λ z. (let h = home_value w.good w.fits w.grows w.posted w.busy _ _ _ _ _ e.values.2 c.loop-b.b (let k = e.counts.1 in omega arith) (ap (λ ws. get_elem? (slots_items ws) (c.loop-b.b + 2)) (sym (i.0 ∙ t.3)) ∙ z) in
+    (h.0, ap (λ ss. get_elem? ss (c.loop-b.b + 1)) (i.1 ∙ t.0) ∙ h.1))
 
 pub unreachable-requires : goal.unreachable-requires
-unreachable-requires g c = let w = g.W.Ward in let i = c.loop-b.invariant in let e = c.close_with-closed.ensures in let t = c.take-pivot.ensures.others in let low = c.loop-b-test.true in let n = slots_counts c.close_with-closed.result.slots in let s₁ = c.args.self.sized in
-    let words : get_elem? (slots_items c.close_with-closed.result.words) (c.loop-b.b + 2) ≡ some 0 = ap (λ z. get_elem? (slots_items z) (c.loop-b.b + 2)) (sym (i.0 ∙ t.3)) ∙ (c.word-holder.ensures ∙ ap some c.if-holder-eq0.true) in
-    let slot : get_elem? (slots_items c.close_with-closed.result.slots) (c.loop-b.b + 1) ≡ some c.take-slot.result = ap (λ z. get_elem? z (c.loop-b.b + 1)) (sym (i.1 ∙ t.0)) ∙ c.take-slot.ensures.value in
-    let count = e.counts in value_at_home w.good w.fits w.grows w.posted w.busy _ _ _ _ _ e.values.2 c.loop-b.b c.take-slot.result (let s = s₁.2 in let k = e.counts.1 in omega arith) words slot c.in_default.not-Value
-
-pub unreachable-requires-in_default-pivot : goal.unreachable-requires-in_default-pivot
-unreachable-requires-in_default-pivot g c = let w = g.W.Ward in let e = c.close_with-closed.ensures in
-    pivot_at_home w.good w.fits w.grows w.posted w.busy _ _ _ _ _ e.values.2 c.take-pivot.result (c.word-at.ensures ∙ ap some c.if-at-ne0.false) c.take-pivot.ensures.value c.in_default-pivot.not-Pivot
+unreachable-requires g c = let w = g.W.Ward in let e = c.close_with-closed.ensures in
+    pivot_at_home w.good w.fits w.grows w.posted w.busy _ _ _ _ _ e.values.2 c.take-pivot.result (c.word-at.ensures ∙ ap some c.if-at-ne0.false) c.take-pivot.ensures.value c.in_default.not-Pivot
 
 pub loop-b-preserved : goal.loop-b-preserved
-loop-b-preserved g c = let i = c.loop-b.invariant in let t = c.take-slot.ensures.others in let low = c.loop-b-test.true in let X = g.row.W-Value.Denot in
-    let H : Option X → Type 0 = λ o. (x : X) → o ≡ Some x → (get_elem? (slots_items c.take-slot.new.self.slots) (c.loop-b.b + 1) ≡ some (Value x)) × (get_elem? (slots_items c.take-slot.new.self.words) (c.loop-b.b + 2) ≡ some 0) in
-    let K : Option X → Type 0 = λ o. get_elem? (slots_items c.take-slot.new.self.words) (c.loop-b.b + 2) ≡ some 0
-    → (x : X) × (o ≡ Some x) × (get_elem? (slots_items c.take-slot.new.self.slots) (c.loop-b.b + 1) ≡ some (Value x)) in
-    let N : Type 0 = (o : Option X) × (c.if-holder-eq0.out.items ≡ c.loop-b.out.items ++ o ∷ []) × (vec_capacity c.if-holder-eq0.out ≡ vec_capacity c.loop-b.out) × H o × K o in
-    let away : (c.word-holder.result ≡ 0 → ⊥) → K None = λ ne z.
-    absurd (ne (some-injective _ _ (sym c.word-holder.ensures ∙ (ap (λ ws. get_elem? (slots_items ws) (c.loop-b.b + 2)) (sym t.3) ∙ z)))) in
-    let absent : H None = λ x e. absurd (cc (e)) in
-    let next : N = elim c.if-holder-eq0.branch [
-      | then-holder-eq0+in-Value w ↦ (Some w.in-Value.value, ap (λ z. z.items) w.out-is ∙ w.push_reserved.ensures.items, ap vec_capacity w.out-is ∙ w.push_reserved.ensures.capacity, λ x e. (ap (λ z. get_elem? z (c.loop-b.b + 1)) t.0 ∙ (c.take-slot.ensures.value ∙ ap some (w.in-Value.is ∙ ap Value (some-of e))), ap (λ z. get_elem? (slots_items z) (c.loop-b.b + 2)) t.3 ∙ (c.word-holder.ensures ∙ ap some w.if-holder-eq0.true)), λ z. (w.in-Value.value, refl, ap (λ ss. get_elem? ss (c.loop-b.b + 1)) t.0 ∙ (c.take-slot.ensures.value ∙ ap some w.in-Value.is)))
-      | else-holder-eq0+in-Pivot-1 w ↦ (None, ap (λ z. z.items) w.out-is ∙ w.push_reserved-else-holder-eq0.ensures.items, ap vec_capacity w.out-is ∙ w.push_reserved-else-holder-eq0.ensures.capacity, absent, away w.if-holder-eq0.false)
-      | else-holder-eq0+in-Value-1 w ↦ (None, ap (λ z. z.items) w.out-is ∙ w.push_reserved-else-holder-eq0.ensures.items, ap vec_capacity w.out-is ∙ w.push_reserved-else-holder-eq0.ensures.capacity, absent, away w.if-holder-eq0.false)
-      | else-holder-eq0+in-Announced-1 w ↦ (None, ap (λ z. z.items) w.out-is ∙ w.push_reserved-else-holder-eq0.ensures.items, ap vec_capacity w.out-is ∙ w.push_reserved-else-holder-eq0.ensures.capacity, absent, away w.if-holder-eq0.false)
-      | else-holder-eq0+in-Gone-1 w ↦ (None, ap (λ z. z.items) w.out-is ∙ w.push_reserved-else-holder-eq0.ensures.items, ap vec_capacity w.out-is ∙ w.push_reserved-else-holder-eq0.ensures.capacity, absent, away w.if-holder-eq0.false)
-    ] in (
+loop-b-preserved g c = let i = c.loop-b.invariant in let t = c.take_value.ensures.others in let low = c.loop-b-test.true in let X = g.row.W-Value.Denot in let o = c.take_value.result in let p = c.push_reserved.ensures in
+    let A : Type 0 = get_elem? (slots_items c.take_value.new.closed.words) (c.loop-b.b + 2) ≡ some 0 in
+    let B : X → Type 0 = λ x. get_elem? (slots_items c.take_value.new.closed.slots) (c.loop-b.b + 1) ≡ some (Value x) in
+    let value : MatchOption o (A → ⊥) (λ x. A × B x) = subst (λ (z : List ℕ × List (Slot g.row.W-Pivot.Denot X g.row.W-Task.Denot)). MatchOption o (get_elem? z.0 (c.loop-b.b + 2) ≡ some 0 → ⊥) (λ x. (get_elem? z.0 (c.loop-b.b + 2) ≡ some 0) × (get_elem? z.1 (c.loop-b.b + 1) ≡ some (Value x)))) (λ k. (slots_items (sym t.3 k), sym t.0 k)) c.take_value.ensures.value in
+    let N : Type 0 = (o : Option X) × (c.push_reserved.new.self.items ≡ c.loop-b.out.items ++ o ∷ []) × (vec_capacity c.push_reserved.new.self ≡ vec_capacity c.loop-b.out) × ((x : X) → o ≡ Some x → B x × A) × (A → (x : X) × (o ≡ Some x) × B x) in
+    let next : N = (o, p.items, p.capacity, (λ x e. (let h = subst (λ z. MatchOption z (A → ⊥) (λ y. A × B y)) e value in (h.1, h.0))), there_if B o value) in (
       t.3 ∙ i.0,
       t.0 ∙ i.1,
       t.2 ∙ i.2,
@@ -53,11 +41,11 @@ loop-b-preserved g c = let i = c.loop-b.invariant in let t = c.take-slot.ensures
       omega arith,
       (let q = ap length next.1 in let n = length-append c.loop-b.out.items (next.0 ∷ []) in let had = i.6 in omega arith),
       (let q = next.2 in let had = i.7 in omega arith),
-      subst (Back (slots_items c.take-slot.new.self.words) (slots_items c.take-slot.new.self.slots)) (sym next.1)
-          (more_back (slots_items c.take-slot.new.self.words) (slots_items c.take-slot.new.self.slots) c.loop-b.out.items c.loop-b.b next.0 i.6
+      subst (Back (slots_items c.take_value.new.closed.words) (slots_items c.take_value.new.closed.slots)) (sym next.1)
+          (more_back (slots_items c.take_value.new.closed.words) (slots_items c.take_value.new.closed.slots) c.loop-b.out.items c.loop-b.b next.0 i.6
           (back_same _ _ _ _ c.loop-b.out.items (ap slots_items (sym t.3)) (sym t.0) i.8) next.3),
-      subst (Whole (slots_items c.take-slot.new.self.words) (slots_items c.take-slot.new.self.slots)) (sym next.1)
-          (more_whole (slots_items c.take-slot.new.self.words) (slots_items c.take-slot.new.self.slots) c.loop-b.out.items c.loop-b.b next.0 i.6
+      subst (Whole (slots_items c.take_value.new.closed.words) (slots_items c.take_value.new.closed.slots)) (sym next.1)
+          (more_whole (slots_items c.take_value.new.closed.words) (slots_items c.take_value.new.closed.slots) c.loop-b.out.items c.loop-b.b next.0 i.6
           (whole_same _ _ _ _ c.loop-b.out.items (ap slots_items (sym t.3)) (sym t.0) i.9) next.4),
     )
 
