@@ -175,12 +175,12 @@ impl<W: Ward> Board<W> {
         ensures seat { IsOutside self.now.table.shared.table_id seat.new }
         ensures view { (p : W.Pivot) × ((sees seat.old).pivot.seen ≡ p ∷ []) × (sees seat.new ≡ with_exit is_call change.now p pivot [] (sees seat.old)) }
     {
-        let held: Vec<(BufferId, W::Value)> = Vec::new(self.alloc);
+        let owed: Vec<(BufferId, W::Value)> = Vec::new(self.alloc);
         bring_home(
             &self.table.shared,
             &mut seat.place,
             pivot,
-            &held,
+            &owed,
             change,
             is_call,
         );
