@@ -9,8 +9,11 @@ use crate::sequence::Sequence;
 pub enum Priority {
     /// Of the kernel itself. Its jobs get no karma and are never guilty.
     Kernel,
+    /// Tried by a pick behind `Kernel`.
     High,
+    /// Tried by a pick behind `Kernel` and `High`.
     Normal,
+    /// Tried by a pick last.
     Low,
 }
 
@@ -42,7 +45,9 @@ pub struct RingSpec {
 /// An entity: its ring and its priority.
 #[derive(Clone, Copy, Debug, PartialEq, Eq)]
 pub struct EntitySpec {
+    /// The ring that it feeds, one that is there.
     pub ring: RingId,
+    /// The run queue of the ring in which it stands.
     pub priority: Priority,
 }
 
@@ -66,6 +71,8 @@ pub struct DeviceSpec {
 /// index 0.
 #[derive(Clone, Copy, Debug, PartialEq, Eq)]
 pub struct BadSpec {
+    /// The number of the part, 0 to 8, as they are listed above.
     pub part: u32,
+    /// Which of the part's buffers, rings or entities it is, counted from 0; or 0.
     pub index: u32,
 }
