@@ -96,7 +96,9 @@ impl<T: Drop> From<AllocFailed<T>> for ReadError {
 /// A line and a column of a text, both counted from 1.
 #[derive(Clone, Copy, Debug, PartialEq, Eq)]
 pub struct Position {
+    /// The number of the line.
     pub line: u32,
+    /// The byte of the line with which the word begins.
     pub column: u32,
 }
 

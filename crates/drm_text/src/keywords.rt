@@ -3,7 +3,7 @@
 ghost use Rattle.std.specs.Prelude.{◌≡◌};
 ghost use Rattle.drm_text.specs.Keywords.{keyword_text, command_text, keyword_of};
 
-/// The first word of a line of a text.
+/// The first word of a line of a text. Each but `Command` is spelled as its name, in lower case.
 #[derive(Clone, Copy)]
 pub enum Keyword {
     Buffer,
@@ -14,10 +14,11 @@ pub enum Keyword {
     Go,
     Job,
     Final,
+    /// The first word of a command line.
     Command(Command),
 }
 
-/// The first word of a command line. In a journal `end` ends the text.
+/// The first word of a command line, spelled as its name, in lower case. In a journal `end` ends the text.
 #[derive(Clone, Copy)]
 pub enum Command {
     Submit,

@@ -61,11 +61,7 @@ impl<'a> Words<'a> {
     pub fn fault(&self, what: TextFault) -> Fault
         ensures { result ≡ fault_here self.now what }
     {
-        Fault::Text {
-            line: self.line,
-            column: self.rest.at() + 1,
-            what,
-        }
+        self.position().fault(what)
     }
 
     /// A fault of the whole line.
