@@ -11,6 +11,10 @@ fn verdicts(rt: HostRuntime) {
         (true, 100, 109, Verdict::NotYet(1)),
         (true, 100, 110, Verdict::Complete),
         (false, 100, 3, Verdict::NotYet(10)),
+        (false, 5, 14, Verdict::NotYet(1)),
+        (false, 5, 15, Verdict::Hang),
+        (false, 15, 3, Verdict::NotYet(10)),
+        (true, 15, 30, Verdict::Complete),
         (false, 0, 18_446_744_073_709_551_615, Verdict::Hang),
     ];
     assert_eq!(rt; judge(None, 10, 1000), Verdict::Empty);
