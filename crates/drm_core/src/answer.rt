@@ -3,6 +3,7 @@ use drm_types::{EntityId, FenceId, Outcome};
 /// What a pick gave to the ring.
 #[derive(Clone, Copy, Debug, PartialEq, Eq)]
 pub struct Picked {
+    /// The job's fence.
     pub fence: FenceId,
     /// Its entity is guilty, so it runs nothing and ends with -125.
     pub skipped: bool,
@@ -20,7 +21,9 @@ pub enum Stepped {
 /// A job that has left its ring.
 #[derive(Clone, Copy, Debug, PartialEq, Eq)]
 pub struct Finished {
+    /// The job's fence.
     pub fence: FenceId,
+    /// `Good`, or `Cancelled` where it was skipped.
     pub outcome: Outcome,
 }
 

@@ -7,7 +7,9 @@ use drm_types::{BufferId, CtxId, Ticket};
 /// between `drm_sched_job_init` and `drm_sched_job_arm`).
 #[derive(Drop)]
 pub struct Plan {
+    /// What is to be armed.
     pub job: Job,
+    /// The fences that it waits for, the latest of each entity.
     pub deps: Deps,
 }
 
@@ -17,9 +19,11 @@ pub type Held = Vec<(BufferId, Resv)>;
 /// A context that has begun (`ww_acquire_ctx`).
 #[derive(Drop)]
 pub struct ContextRow {
+    /// What it draws when it begins: a lower one is older.
     pub ticket: Ticket,
     /// It locks no more.
     pub is_sealed: bool,
+    /// What it may arm.
     pub plan: Option<Plan>,
 }
 

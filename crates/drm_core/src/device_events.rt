@@ -49,6 +49,7 @@ fn timed_out(expired: Expired) -> Answer
 }
 
 impl CoreTable {
+    /// Gives the ring a job, if one is ready and fits (`drm_sched_run_job_work`).
     pub(crate) fn pick(&mut self, ring: RingId, now: Moment) -> Answer
         requires there { ring < length self.old.table.spec.rings }
         requires core { IsCore self.old }
@@ -61,6 +62,7 @@ impl CoreTable {
         }
     }
 
+    /// Runs one packet on the ring.
     pub(crate) fn step(&mut self, ring: RingId) -> Answer
         requires there { ring < length self.old.table.spec.rings }
         requires core { IsCore self.old }
@@ -73,6 +75,7 @@ impl CoreTable {
         }
     }
 
+    /// Ends the head of the ring, which is complete (`drm_sched_job_done`).
     pub(crate) fn finish(&mut self, ring: RingId, now: Moment) -> Answer
         requires there { ring < length self.old.table.spec.rings }
         requires core { IsCore self.old }
@@ -85,6 +88,7 @@ impl CoreTable {
         }
     }
 
+    /// Looks at the head of the ring after a time (`drm_sched_job_timedout`).
     pub(crate) fn timeout(&mut self, ring: RingId, now: Moment) -> Answer
         requires there { ring < length self.old.table.spec.rings }
         requires core { IsCore self.old }
@@ -94,6 +98,7 @@ impl CoreTable {
         timed_out(self.table.timeout(ring, now))
     }
 
+    /// Stops the entity (`drm_sched_entity_kill`).
     pub(crate) fn cancel(&mut self, entity: EntityId) -> Answer
         requires there { entity < length self.old.table.spec.entities }
         requires core { IsCore self.old }
@@ -106,6 +111,7 @@ impl CoreTable {
         }
     }
 
+    /// Ends the first queued job of a stopped entity (`drm_sched_entity_kill_jobs_cb`).
     pub(crate) fn reap(&mut self, entity: EntityId) -> Answer
         requires there { entity < length self.old.table.spec.entities }
         requires core { IsCore self.old }
