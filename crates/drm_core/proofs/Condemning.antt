@@ -3,8 +3,8 @@ use Rattle.std.proofs.Common.{◌≡◌, ℕ, zero, suc, ◌<◌, Bool, true, fa
 use Rattle.std.specs.Prelude.{Contains}
 use Rattle.std.specs.List.{list_any}
 use Rattle.std.specs.Option.{option_map_or}
-use Rattle.std.proofs.lemmas.Bool.{cases_Bool, cases_eq, eq-eqb, eqb-true, and_parts, and_from, or_left, or_right}
-use Rattle.std.proofs.lemmas.List.{length-map, length-set}
+use Rattle.std.proofs.lemmas.Bool.{cases_eq, ne_eqb, eq-eqb, eqb-true, and_parts, and_from, or_left, or_right}
+use Rattle.std.proofs.lemmas.List.{length-map}
 use Rattle.std.proofs.lemmas.Option.{slice_get_within}
 use Rattle.drm_fence.specs.Phases.{is_scheduled}
 use Rattle.drm_fence.specs.declared.phase.Phase.{Phase}
@@ -17,20 +17,13 @@ use Rattle.drm_core.specs.Recovery.{skipped_of, all_skipped}
 use Rattle.drm_core.proofs.Records.{to_map, stands_within, changed_is}
 use Rattle.drm_core.proofs.Pairs.{get_set_same, get_set_other}
 use Rattle.drm_core.proofs.Pending.{contains_at, place_of}
+use Rattle.drm_core.proofs.DeviceSteps.{changed_count}
 use Rattle.drm_core.proofs.LatestStands.{same_test}
 use Rattle.drm_core.proofs.CoreArmed.{list_ext, any_at}
 
 -- a record whose mark is set where this holds
 abbrev marked : Bool → JobRecord → JobRecord
 marked b r = record r { is_skipped = b || r.is_skipped }
-
--- a change of one record keeps the count
-changed_count : (journal : List JobRecord) (f : ℕ) (change : JobRecord → JobRecord) → length (changed_at journal f change) ≡ length journal
-changed_count journal f change = by_record (slice_get journal f)
-  where
-    by_record : (o : Option JobRecord) → length (option_map_or (λ r. set journal f (change r)) o journal) ≡ length journal
-    by_record None = refl
-    by_record (Some r) = length-set journal f (change r)
 
 pub skipped_count : (entity : ℕ) (journal : List JobRecord) (numbers : List ℕ) → length (all_skipped entity journal numbers) ≡ length journal
 skipped_count entity journal [] = refl
@@ -47,17 +40,10 @@ marked_at entity journal f k r at =
           ∙ (ap (slice_get (set journal f (skipped_of entity r))) same
           ∙ (get_set_same journal f r (skipped_of entity r) there ∙ ap (λ b. Some (marked (b && (r.job.entity == entity)) r)) (sym (eq-eqb f k (sym same)))))
       | inr apart ↦
-          let other : (f == k) ≡ false = not_it f k (λ e. apart (sym e)) in
+          let other : (f == k) ≡ false = ne_eqb f k (λ e. apart (sym e)) in
           by_record (slice_get journal f) apart ∙ (at ∙ ap (λ b. Some (marked (b && (r.job.entity == entity)) r)) (sym other))
     ]
   where
-    not_it : (a b : ℕ) → ((a ≡ b) → ⊥) → (a == b) ≡ false
-    not_it a b apart =
-        elim (cases_Bool (a == b)) [
-          | inl is ↦ absurd (apart (eqb-true a b is))
-          | inr is ↦ is
-        ]
-
     by_record : (o : Option JobRecord) → ((k ≡ f) → ⊥) → slice_get (option_map_or (λ r. set journal f (skipped_of entity r)) o journal) k ≡ slice_get journal k
     by_record None apart = refl
     by_record (Some x) apart = get_set_other journal f k (skipped_of entity x) apart

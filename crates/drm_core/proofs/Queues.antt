@@ -3,7 +3,7 @@ use Rattle.std.proofs.Common.{◌≡◌, ◌≢◌, ℕ, zero, suc, ◌+◌, ◌
 use Rattle.std.specs.Prelude.{filter, option_map, Contains, IfSome, IfNone}
 use Rattle.std.specs.Option.{option_map_or}
 use Rattle.std.specs.List.{enumerate_from}
-use Rattle.std.proofs.lemmas.Bool.{cases_eq, eq-eqb, eqb-true, cases_Bool, and_parts}
+use Rattle.std.proofs.lemmas.Bool.{cases_eq, ne_eqb, eq-eqb, eqb-true, cases_Bool, and_parts}
 use Rattle.std.proofs.lemmas.List.{map-set, length-set}
 use Rattle.std.proofs.lemmas.Option.{slice_get_within}
 use Rattle.drm_types.specs.Firsts.{first}
@@ -209,14 +209,6 @@ guilty_is e entity marked lt is =
 
 -- ---- how the queues go on
 
--- numbers that differ are told apart
-not_it : (a b : ℕ) → a ≢ b → (a == b) ≡ false
-not_it a b apart =
-    elim (cases_Bool (a == b)) [
-      | inl is ↦ absurd (apart (eqb-true a b is))
-      | inr is ↦ is
-    ]
-
 -- the first of a queue is the head
 first-numbers : (xs : List (ℕ × JobRecord)) → first (map (λ (n : ℕ × JobRecord). n.0) xs) ≡ option_map (λ (n : ℕ × JobRecord). n.0) (first xs)
 first-numbers [] = refl
@@ -279,7 +271,7 @@ stands_pushed journal new e entity row at of_entity queued stand other lt =
           ∙ (ap (λ ns. ns ++ length journal ∷ []) (sym here.2 ∙ stand other there)
           ∙ (ap (λ n. queued_of other journal ++ n ∷ []) (sym number) ∙ sym (push_numbers other 0 journal new true waits)))
       | inr apart ↦
-          let waits : waits_in other new ≡ false = ap (λ b. b && is_queued new.phase) (not_it new.job.entity other (λ same. apart.0 (sym same ∙ of_entity))) in
+          let waits : waits_in other new ≡ false = ap (λ b. b && is_queued new.phase) (ne_eqb new.job.entity other (λ same. apart.0 (sym same ∙ of_entity))) in
           apart.1 ∙ (stand other there ∙ (sym (append-nil (queued_of other journal)) ∙ sym (push_numbers other 0 journal new false waits)))
     ]
 
@@ -316,7 +308,7 @@ stands_popped journal e new entity n r left (Some number) at of_entity queued go
           elim (queue_changed e entity other row.0 change row.1) [
             | inl here ↦ here.1 ∙ (rest_is ∙ ap (λ m. queued_of m (set journal n left)) (sym here.0))
             | inr apart ↦
-                let waited : waits_in other r ≡ false = ap (λ b. b && is_queued r.phase) (not_it r.job.entity other (λ same. apart.0 (sym same ∙ of_entity))) in
+                let waited : waits_in other r ≡ false = ap (λ b. b && is_queued r.phase) (ne_eqb r.job.entity other (λ same. apart.0 (sym same ∙ of_entity))) in
                 apart.1 ∙ (stand other there ∙ sym (set_numbers other 0 n journal r left at (gone_waits other ∙ sym waited)))
           ];
       marks_same = marks_stay e entity row.0 change row.1 refl;
