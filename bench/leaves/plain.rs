@@ -388,23 +388,25 @@ impl Entities {
     }
 
     fn push(&mut self, entity: u32, number: u32) {
-        let ends = self.ends[entity as usize];
+        let ends = &mut self.ends[entity as usize];
         if ends.len == 0 {
-            self.ends[entity as usize] = Ends { first: number, last: number, len: 1 };
+            ends.first = number;
         } else {
             self.next[ends.last as usize] = number;
-            self.ends[entity as usize] = Ends { last: number, len: ends.len + 1, ..ends };
         }
+        ends.last = number;
+        ends.len += 1;
     }
 
     fn pop(&mut self, entity: u32) -> Option<u32> {
-        let ends = self.ends[entity as usize];
+        let ends = &mut self.ends[entity as usize];
         if ends.len == 0 {
             return None;
         }
-        let first = self.next[ends.first as usize];
-        self.ends[entity as usize] = Ends { first, len: ends.len - 1, ..ends };
-        Some(ends.first)
+        let number = ends.first;
+        ends.first = self.next[number as usize];
+        ends.len -= 1;
+        Some(number)
     }
 }
 
@@ -526,8 +528,10 @@ impl PendingList {
         if self.jobs.is_empty() {
             self.since = now;
         }
+        if job.is_complete && self.passed == self.jobs.len() {
+            self.passed += 1;
+        }
         self.jobs.push_back(job);
-        self.count_passed(self.passed);
     }
 
     fn pop(&mut self, now: u64) -> Option<Pending> {

@@ -37,6 +37,12 @@ changed_is next new links now e l l' change view at places others is =
     ∙ (sym (ap (λ o. record { places = length next; rows = option_map_or (λ r. set (map (row_of next) links) e (change r)) o (map (row_of next) links) }) there)
     ∙ ap (λ v. row_changed v e change) view))
 
+-- an element put where it was
+pub set_same : {X : Type 0} (xs : List X) (e : ℕ) (x : X) → slice_get xs e ≡ Some x → set xs e x ≡ xs
+set_same [] e x at = refl
+set_same (y ∷ xs) zero x at = let same : y ≡ x = cc (at) in ap (λ z. z ∷ xs) (sym same)
+set_same (y ∷ xs) (suc e) x at = ap (λ ys. y ∷ ys) (set_same xs e x at)
+
 -- the entity that was changed, and another
 pub of_set : {X : Type 0} (xs : List X) (e : ℕ) (x y z : X) → slice_get xs e ≡ Some x → slice_get (set xs e y) e ≡ Some z → z ≡ y
 of_set [] e x y z at is = absurd (cc (at))

@@ -109,22 +109,14 @@ impl Entities {
         requires fresh { IsFresh self.old number }
         ensures { self.new ≡ pushed self.old entity number }
     {
-        let links = self.links[entity as usize];
+        let links = &mut self.links[entity as usize];
         if links.len == 0 {
-            self.links[entity as usize] = Links {
-                first: number,
-                last: number,
-                len: 1,
-                ..links
-            };
+            links.first = number;
         } else {
             self.next[links.last as usize] = number;
-            self.links[entity as usize] = Links {
-                last: number,
-                len: links.len + 1,
-                ..links
-            };
         }
+        links.last = number;
+        links.len += 1;
     }
 
     /// Takes the first number out of the entity's queue (`drm_sched_entity_pop_job`).
@@ -133,17 +125,14 @@ impl Entities {
         ensures some { IfSome result (λ number. (rest : _) × (queue_at self.old entity ≡ number ∷ rest) × (self.new ≡ popped self.old entity rest)) }
         ensures none { IfNone result ((queue_at self.old entity ≡ []) × (self.new ≡ self.old)) }
     {
-        let links = self.links[entity as usize];
+        let links = &mut self.links[entity as usize];
         if links.len == 0 {
             return None;
         }
-        let first = self.next[links.first as usize];
-        self.links[entity as usize] = Links {
-            first,
-            len: links.len - 1,
-            ..links
-        };
-        Some(links.first)
+        let number = links.first;
+        links.first = self.next[number as usize];
+        links.len -= 1;
+        Some(number)
     }
 
     /// Marks the entity stopped: it takes no more jobs, and its queued jobs are not picked.

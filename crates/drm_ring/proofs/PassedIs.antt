@@ -55,14 +55,23 @@ passed_rest x xs n is =
       | false ↦ λ e. omega (arith, e)
     ] is
 
--- with more at the end
-pub passed_append : (xs ys : List Pending) → passed_of xs ≤ passed_of (xs ++ ys)
-passed_append [] ys = omega arith
-passed_append (x ∷ xs) ys =
-    elim x.is_complete as (λ t. cond t (suc (passed_of xs)) zero ≤ cond t (suc (passed_of (xs ++ ys))) zero) [
-      | true ↦ omega (arith, passed_append xs ys)
-      | false ↦ omega arith
-    ]
+-- with a complete job at the end, where all others are complete
+pub passed_all : (xs : List Pending) (p : Pending) → p.is_complete ≡ true → passed_of xs ≡ length xs → suc (length xs) ≡ passed_of (xs ++ p ∷ [])
+passed_all [] p done all = ap (λ t. cond t (suc zero) zero) (sym done)
+passed_all (x ∷ xs) p done all =
+    elim x.is_complete as (λ t. cond t (suc (passed_of xs)) zero ≡ suc (length xs) → suc (suc (length xs)) ≡ cond t (suc (passed_of (xs ++ p ∷ []))) zero) [
+      | true ↦ λ is. ap suc (passed_all xs p done (omega (arith, is)))
+      | false ↦ λ is. absurd (omega (arith, is))
+    ] all
+
+-- with one at the end that is not complete, or behind one that is not
+pub passed_same : (xs : List Pending) (p : Pending) → ((p.is_complete ≡ true) → passed_of xs ≡ length xs → ⊥) → passed_of xs ≡ passed_of (xs ++ p ∷ [])
+passed_same [] p not = elim p.is_complete as (λ t. ((t ≡ true) → zero ≡ zero → ⊥) → zero ≡ cond t (suc zero) zero) [ true ↦ λ no. absurd (no refl refl) | false ↦ λ no. refl ] not
+passed_same (x ∷ xs) p not =
+    elim x.is_complete as (λ t. ((p.is_complete ≡ true) → cond t (suc (passed_of xs)) zero ≡ suc (length xs) → ⊥) → cond t (suc (passed_of xs)) zero ≡ cond t (suc (passed_of (xs ++ p ∷ []))) zero) [
+      | true ↦ λ no. ap suc (passed_same xs p (λ done all. no done (ap suc all)))
+      | false ↦ λ no. refl
+    ] not
 
 -- the current job is complete
 pub run_is : (xs : List Pending) (p : Pending) → slice_get xs (passed_of xs) ≡ Some p → with_current_run xs ≡ set xs (passed_of xs) (record p { is_complete = true })

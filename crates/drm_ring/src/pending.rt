@@ -1,4 +1,4 @@
-ghost use Rattle.std.specs.Prelude.{◌≡◌, ◌<◌, ◌≤◌, [], Some, None, IfOk, IfSome, IfNone, find, not, nat_lt, length};
+ghost use Rattle.std.specs.Prelude.{◌≡◌, ◌<◌, ◌≤◌, [], ◌∷◌, ◌++◌, Some, None, IfOk, IfSome, IfNone, find, not, nat_lt, length};
 ghost use Rattle.std.specs.VecDeque.{deque_capacity};
 ghost use Rattle.drm_types.specs.Firsts.{first};
 ghost use Rattle.drm_ring.specs.RingRows.{put_row, popped_row, run_row, since_row, AreMarked};
@@ -102,8 +102,8 @@ impl PendingList {
         if self.jobs.is_empty() {
             self.since = now;
         }
+        self.passed = passed_with(&self.jobs, self.passed, job);
         self.jobs.push_back_reserved(job);
-        self.passed = count_passed(&self.jobs, self.passed);
     }
 
     /// Takes the first job out. Where another one becomes the head, its age counts from now.
@@ -138,6 +138,18 @@ impl PendingList {
     {
         mark(&mut self.jobs, skips);
         self.passed = count_passed(&self.jobs, self.passed);
+    }
+}
+
+// How many jobs at the front are complete once this one is put at the end.
+fn passed_with(jobs: &VecDeque<Pending>, passed: usize, job: Pending) -> usize
+    requires { passed ≡ passed_of jobs.now.items }
+    ensures { result ≡ passed_of (jobs.now.items ++ job ∷ []) }
+{
+    if job.is_complete && passed == jobs.len() {
+        passed + 1
+    } else {
+        passed
     }
 }
 

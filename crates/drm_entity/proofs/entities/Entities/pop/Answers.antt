@@ -1,35 +1,48 @@
-use Rattle.std.proofs.Common.{◌≡◌, ◌-◌, get_or, Some, refl, sym, ap, ◌∙◌, arith}
+use Rattle.std.proofs.Common.{◌≡◌, ◌-◌, List, get_or, Some, refl, sym, ap, ◌∙◌, arith}
 use Rattle.std.proofs.lemmas.Option.{slice_get-get_or, get_or_from_slice_get}
 use Rattle.drm_entity.specs.declared.entities.Links.{Links}
-use Rattle.drm_entity.proofs.Seen.{link_at, queue_is, first_fits}
-use Rattle.drm_entity.proofs.Changed.{linked_popped, popped_rest, changed_is}
+use Rattle.drm_entity.proofs.Seen.{link_at, queue_is, first_fits, shown}
+use Rattle.drm_entity.proofs.Changed.{linked_popped, popped_rest, changed_is, set_same}
 use Rattle.drm_entity.specs.Rows.{EntityRow}
-use Rattle.drm_entity.specs.Linked.{queue_of}
+use Rattle.drm_entity.specs.Linked.{walk, queue_of}
 use Rattle.drm_entity.proofs.entities.Entities.pop.Goals as goal
 
-pub index-first-requires : goal.index-first-requires
-index-first-requires c =
-    let at = link_at _ _ _ _ _ c.self.view_is c.requires c.index-links.ensures in
+pub returns-then-links-eq0-clause-none : goal.returns-then-links-eq0-clause-none
+returns-then-links-eq0-clause-none c =
+    let next = c.self.inside.next.items in
+    let l = c.index_mut-links.result.now in
+    let at = link_at _ _ _ _ _ c.self.view_is c.requires c.index_mut-links.ensures.value in (
+      queue_is _ _ _ _ _ c.self.view_is at ∙ ap (walk next l.first) c.if-links-eq0.true,
+      ap (λ (links : List Links). shown next links) (set_same c.self.inside.links.items c.args.entity l at) ∙ c.self.view_is,
+    )
+
+pub index-requires : goal.index-requires
+index-requires c =
+    let at = link_at _ _ _ _ _ c.self.view_is c.requires c.index_mut-links.ensures.value in
     let fits = first_fits _ _ _ _ c.self.invariant at c.if-links-eq0.false in omega (arith, fits)
 
-pub invariant_of-self : goal.invariant_of-self
-invariant_of-self c =
-    let at = link_at _ _ _ _ _ c.self.view_is c.requires c.index-links.ensures in
+pub invariant_of-self-2 : goal.invariant_of-self-2
+invariant_of-self-2 c =
+    let next = c.self.inside.next.items in
+    let l = c.index_mut-links.result.now in
+    let at = link_at _ _ _ _ _ c.self.view_is c.requires c.index_mut-links.ensures.value in
     let fits = first_fits _ _ _ _ c.self.invariant at c.if-links-eq0.false in
-    let next : c.index-first.result.now ≡ get_or c.self.inside.next.items c.index-links.result.now.first 0 =
-    sym (get_or_from_slice_get c.self.inside.next.items c.index-links.result.now.first _ 0 (slice_get-get_or _ _ _ fits ∙ ap Some (sym c.index-first.ensures))) in
-    let rest = popped_rest c.self.inside.next.items c.index-links.result.now (record c.index-links.result.now { first = c.index-first.result.now; len = c.index-links.result.now.len - 1 })
-    c.if-links-eq0.false next refl in linked_popped _ _ _ _ _ _ c.self.invariant at rest.0 refl rest.1
+    let behind : c.index.result.now ≡ get_or next l.first 0 =
+    sym (get_or_from_slice_get next l.first _ 0 (slice_get-get_or _ _ _ fits ∙ ap Some (sym c.index.ensures))) in
+    let rest = popped_rest next l (record l { first = c.index.result.now; len = l.len - 1 }) c.if-links-eq0.false behind refl in
+    linked_popped _ _ _ _ _ _ c.self.invariant at rest.0 refl rest.1
 
 pub returns-clause-some : goal.returns-clause-some
 returns-clause-some c =
-    let at = link_at _ _ _ _ _ c.self.view_is c.requires c.index-links.ensures in
+    let next = c.self.inside.next.items in
+    let l = c.index_mut-links.result.now in
+    let at = link_at _ _ _ _ _ c.self.view_is c.requires c.index_mut-links.ensures.value in
     let fits = first_fits _ _ _ _ c.self.invariant at c.if-links-eq0.false in
-    let next : c.index-first.result.now ≡ get_or c.self.inside.next.items c.index-links.result.now.first 0 =
-    sym (get_or_from_slice_get c.self.inside.next.items c.index-links.result.now.first _ 0 (slice_get-get_or _ _ _ fits ∙ ap Some (sym c.index-first.ensures))) in
-    let left : Links = record c.index-links.result.now { first = c.index-first.result.now; len = c.index-links.result.now.len - 1 } in
-    let rest = popped_rest c.self.inside.next.items c.index-links.result.now left c.if-links-eq0.false next refl in (
-      queue_of c.self.inside.next.items left,
+    let behind : c.index.result.now ≡ get_or next l.first 0 =
+    sym (get_or_from_slice_get next l.first _ 0 (slice_get-get_or _ _ _ fits ∙ ap Some (sym c.index.ensures))) in
+    let left : Links = record l { first = c.index.result.now; len = l.len - 1 } in
+    let rest = popped_rest next l left c.if-links-eq0.false behind refl in (
+      queue_of next left,
       queue_is _ _ _ _ _ c.self.view_is at ∙ rest.0,
-      changed_is _ _ _ _ c.args.entity _ left (λ (r : EntityRow). record r { queue = queue_of c.self.inside.next.items left }) c.self.view_is at refl (λ f m away at_f. refl) refl,
+      changed_is _ _ _ _ c.args.entity _ left (λ (r : EntityRow). record r { queue = queue_of next left }) c.self.view_is at refl (λ f m away at_f. refl) refl,
     )
