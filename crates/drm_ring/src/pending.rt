@@ -102,7 +102,7 @@ impl PendingList {
         if self.jobs.is_empty() {
             self.since = now;
         }
-        self.passed = passed_with(&self.jobs, self.passed, job);
+        pass_last(&mut self.passed, &self.jobs, job);
         self.jobs.push_back_reserved(job);
     }
 
@@ -141,15 +141,13 @@ impl PendingList {
     }
 }
 
-// How many jobs at the front are complete once this one is put at the end.
-fn passed_with(jobs: &VecDeque<Pending>, passed: usize, job: Pending) -> usize
-    requires { passed ≡ passed_of jobs.now.items }
-    ensures { result ≡ passed_of (jobs.now.items ++ job ∷ []) }
+// Passes over the job that is put at the end, where it is complete and all before it are.
+fn pass_last(passed: &mut usize, jobs: &VecDeque<Pending>, job: Pending)
+    requires { passed.old ≡ passed_of jobs.now.items }
+    ensures { passed.new ≡ passed_of (jobs.now.items ++ job ∷ []) }
 {
-    if job.is_complete && passed == jobs.len() {
-        passed + 1
-    } else {
-        passed
+    if job.is_complete && *passed == jobs.len() {
+        *passed += 1;
     }
 }
 
