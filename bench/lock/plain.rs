@@ -1,7 +1,15 @@
 //! The rounds of `lock_bench` in plain Rust: sixteen mutexes, which a thread that holds something only tries.
 use std::sync::atomic::{AtomicU64, Ordering};
 use std::sync::{Mutex, MutexGuard, TryLockError};
+use std::time::Duration;
 use std::{env, thread};
+
+#[derive(Clone, Copy)]
+enum Pause {
+    Nothing,
+    Yield,
+    Sleep,
+}
 
 struct Board {
     tickets: AtomicU64,
@@ -60,21 +68,23 @@ fn lock_all<'a>(board: &'a Board, acquire: &mut Acquire<'a>, order: &[u32]) {
     }
 }
 
-fn round(board: &Board, order: &[u32], yields: bool) -> u64 {
+fn round(board: &Board, order: &[u32], pause: Pause) -> u64 {
     let ticket = board.tickets.fetch_add(1, Ordering::SeqCst);
     let mut acquire = Acquire { ticket, held: Vec::with_capacity(board.values.len()) };
     lock_all(board, &mut acquire, order);
     for (_, value) in &mut acquire.held {
         **value = value.wrapping_add(1);
     }
-    if yields {
-        thread::yield_now();
+    match pause {
+        Pause::Nothing => {}
+        Pause::Yield => thread::yield_now(),
+        Pause::Sleep => thread::sleep(Duration::from_millis(1)),
     }
     release_all(&mut acquire);
     acquire.ticket
 }
 
-fn sum_of_rounds(locks: u32, yields: bool, threads: u64, rounds: u64) -> u64 {
+fn sum_of_rounds(locks: u32, pause: Pause, threads: u64, rounds: u64) -> u64 {
     let values = (0..16).map(|_| Mutex::new(0)).collect();
     let board = Board { tickets: AtomicU64::new(1), values };
     thread::scope(|scope| {
@@ -86,7 +96,7 @@ fn sum_of_rounds(locks: u32, yields: bool, threads: u64, rounds: u64) -> u64 {
             scope.spawn(move || {
                 let order = order_of(locks, thread);
                 for _ in 0..share {
-                    round(board, &order, yields);
+                    round(board, &order, pause);
                 }
             });
         }
@@ -98,13 +108,14 @@ fn main() {
     for word in env::args().skip(1) {
         let parts: Vec<&str> = word.split(':').collect();
         let [kind, threads, rounds] = parts[..] else { continue };
-        let (locks, yields) = match kind {
-            "one" => (1, false),
-            "all" => (16, false),
-            "yielding" => (16, true),
+        let (locks, pause) = match kind {
+            "one" => (1, Pause::Nothing),
+            "all" => (16, Pause::Nothing),
+            "yielding" => (16, Pause::Yield),
+            "sleeping" => (16, Pause::Sleep),
             _ => continue,
         };
-        let sum = sum_of_rounds(locks, yields, threads.parse().unwrap_or(1), rounds.parse().unwrap_or(0));
+        let sum = sum_of_rounds(locks, pause, threads.parse().unwrap_or(1), rounds.parse().unwrap_or(0));
         println!("{kind} {sum}");
     }
 }

@@ -2,7 +2,8 @@
 //!
 //! Each word `KIND:THREADS:ROUNDS` shares so many rounds among so many threads, and prints a sum. A round draws a
 //! ticket, locks, counts what it holds, gives it back and ends. `one` locks one value of sixteen, `all` locks all
-//! sixteen in an order of the thread's own, and `yielding` does that and yields the processor before it gives them back.
+//! sixteen in an order of the thread's own, `yielding` does that and yields the processor before it gives them back, and
+//! `sleeping` does that and sleeps a millisecond.
 //! `bench/lock/run` times it beside the same in plain Rust, whose sums are what the gate expects here.
 #![tactic(auto)]
 
@@ -11,6 +12,7 @@ ghost use Rattle.std.specs.Prelude.{◌≤◌, IfSome};
 mod rounds;
 mod threads;
 
+use crate::rounds::Pause;
 use crate::threads::{Kind, sum_of_rounds};
 use std::{env, io};
 
@@ -18,13 +20,14 @@ use std::{env, io};
 fn kind_of(word: &str) -> Option<Kind>
     ensures { IfSome result (λ k. k.locks ≤ 16) }
 {
-    let (locks, yields) = match word {
-        "one" => (1, false),
-        "all" => (16, false),
-        "yielding" => (16, true),
+    let (locks, pause) = match word {
+        "one" => (1, Pause::Nothing),
+        "all" => (16, Pause::Nothing),
+        "yielding" => (16, Pause::Yield),
+        "sleeping" => (16, Pause::Sleep),
         _ => return None,
     };
-    Some(Kind { locks, yields })
+    Some(Kind { locks, pause })
 }
 
 /// The words of one part: its kind, how many threads and how many rounds.

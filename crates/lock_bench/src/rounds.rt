@@ -8,7 +8,29 @@ use drm_types::BufferId;
 use std::alloc::{AllocError, Global};
 use std::sync::Wait;
 use std::thread;
+use std::time::{Clock, Duration};
 use ww_lock::{Acquire, BeginError, Board, LockError, Seat, Ward};
+
+/// What a thread does while it holds the values.
+#[derive(Clone, Copy)]
+pub(crate) enum Pause {
+    /// It gives them back at once.
+    Nothing,
+    /// It lets another thread run.
+    Yield,
+    /// It sleeps a millisecond (`dummy_load` of the kernel's `ww_mutex` stress).
+    Sleep,
+}
+
+impl Pause {
+    fn wait<R: Clock>(self, rt: &R) {
+        match self {
+            Pause::Nothing => {}
+            Pause::Yield => thread::yield_now(),
+            Pause::Sleep => thread::sleep(rt, Duration::from_millis(1)),
+        }
+    }
+}
 
 /// Plain counters, beside a pivot that says nothing of them.
 pub(crate) struct Counters;
@@ -134,11 +156,11 @@ fn count_held(acquire: &mut Counting)
 }
 
 /// Locks the buffers in this order, counts each, and gives them back. Without memory it does nothing.
-pub(crate) fn round<R: Wait>(
+pub(crate) fn round<R: Wait + Clock>(
     board: &Board<Counters>,
     seat: CountingSeat,
     order: &[BufferId],
-    yields: bool,
+    pause: Pause,
     rt: &R,
     alloc: Global,
 ) -> CountingSeat
@@ -153,9 +175,7 @@ pub(crate) fn round<R: Wait>(
     };
     lock_all(board, &mut acquire, order, rt);
     count_held(&mut acquire);
-    if yields {
-        thread::yield_now();
-    }
+    pause.wait(rt);
     release_all(board, &mut acquire);
     acquire.end()
 }

@@ -2,18 +2,19 @@
 ghost use Rattle.std.specs.Prelude.{◌≡◌, ◌≤◌, All, IfOk};
 ghost use Rattle.ww_lock.specs.Threads.{IsIdle};
 
-use crate::rounds::{Counters, CountingSeat, order_of, round};
+use crate::rounds::{Counters, CountingSeat, Pause, order_of, round};
 use std::alloc::{AllocError, Global};
 use std::sync::Wait;
 use std::thread;
 use std::thread::Threads;
+use std::time::Clock;
 use ww_lock::Board;
 
-/// What the rounds do: they lock the first `locks` values, and may yield the processor while they hold them.
+/// What the rounds do: they lock the first `locks` values, and pause while they hold them.
 #[derive(Clone, Copy)]
 pub(crate) struct Kind {
     pub(crate) locks: u32,
-    pub(crate) yields: bool,
+    pub(crate) pause: Pause,
 }
 
 /// What one thread does.
@@ -27,7 +28,7 @@ struct Job {
 
 // The rounds of one thread. Where its order has no room it makes none, and answers false.
 #[tactic(auto, using(crate::proofs::Below::wider))]
-fn rounds_of<R: Wait>(board: &Board<Counters>, job: Job, rt: &R, alloc: Global) -> bool
+fn rounds_of<R: Wait + Clock>(board: &Board<Counters>, job: Job, rt: &R, alloc: Global) -> bool
     requires seat { IsIdle board.now.table.shared.table_id job.seat }
     requires locks { job.kind.locks ≤ board.now.buffers }
 {
@@ -35,14 +36,14 @@ fn rounds_of<R: Wait>(board: &Board<Counters>, job: Job, rt: &R, alloc: Global) 
         seat,
         seed,
         rounds,
-        kind: Kind { locks, yields },
+        kind: Kind { locks, pause },
     } = job;
     let Ok(order) = order_of(alloc, locks, seed) else {
         return false;
     };
     let mut seat = seat;
     for _ in 0..rounds {
-        seat = round(board, seat, &order, yields, rt, alloc);
+        seat = round(board, seat, &order, pause, rt, alloc);
     }
     true
 }
@@ -79,7 +80,7 @@ fn jobs_of(
 }
 
 // Runs each job in a thread. It refuses where memory does, also where a thread has no room for its order.
-fn run_jobs<R: Threads + Wait + Sync>(
+fn run_jobs<R: Threads + Wait + Clock + Sync>(
     board: &Board<Counters>,
     jobs: Vec<Job>,
     rt: &R,
@@ -103,7 +104,7 @@ fn run_jobs<R: Threads + Wait + Sync>(
 }
 
 /// The sum of sixteen counters after the rounds that so many threads share.
-pub(crate) fn sum_of_rounds<R: Threads + Wait + Sync>(
+pub(crate) fn sum_of_rounds<R: Threads + Wait + Clock + Sync>(
     rt: &R,
     alloc: Global,
     kind: Kind,

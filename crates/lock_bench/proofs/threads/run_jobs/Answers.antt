@@ -20,7 +20,7 @@ job_send = let s = seat_send u64 u64 unit (search sendable) (search sendable) in
 pub map_vec-requires-send-J : goal.map_vec-requires-send-J
 map_vec-requires-send-J g c κs within = let j = job_send in search sendable depth 20
 
-crossing : (g : Over) → IsSync (R-row g.row.R) → (κs : Lfts 9) → IsSync (param 4 (arg-0-4 g.row.R g.R.laws g.R.Threads-dict g.R.Wait-dict κs))
+crossing : (g : Over) → IsSync (R-row g.row.R) → (κs : Lfts 9) → IsSync (param 4 (arg-0-4 g.row.R g.R.laws g.R.Threads-dict g.R.Wait-dict g.R.Clock-dict κs))
 crossing g y κs = let h = handle.the_field_sync in let b = board_sync u64 u64 unit (search sendable) (search sendable) Counters.the_row ward in search sendable depth 20
 
 pub map_vec-requires-sync-F : goal.map_vec-requires-sync-F
