@@ -104,18 +104,63 @@ fn sum_of_rounds(locks: u32, pause: Pause, threads: u64, rounds: u64) -> u64 {
     board.values.into_iter().map(|value| value.into_inner().unwrap()).sum()
 }
 
+struct Engines {
+    is_busy: Vec<bool>,
+    reported: u64,
+}
+
+// Begins a packet on the engine, if it is there and idle.
+fn begin_packet(engines: &Mutex<Engines>, engine: usize) -> bool {
+    match engines.lock().unwrap().is_busy.get_mut(engine) {
+        Some(is_busy) if !*is_busy => {
+            *is_busy = true;
+            true
+        }
+        _ => false,
+    }
+}
+
+// Reports the packet that the thread began on the engine.
+fn report_packet(engines: &Mutex<Engines>, engine: usize) {
+    let mut engines = engines.lock().unwrap();
+    engines.is_busy[engine] = false;
+    engines.reported = engines.reported.wrapping_add(1);
+}
+
+fn sum_of_packets(threads: u64, rounds: u64) -> u64 {
+    let engines = Mutex::new(Engines { is_busy: vec![false; threads as usize], reported: 0 });
+    thread::scope(|scope| {
+        let engines = &engines;
+        let mut left = rounds;
+        for thread in 0..threads {
+            let share = left / (threads - thread);
+            left -= share;
+            scope.spawn(move || {
+                for _ in 0..share {
+                    if begin_packet(engines, thread as usize) {
+                        report_packet(engines, thread as usize);
+                    }
+                }
+            });
+        }
+    });
+    engines.into_inner().unwrap().reported
+}
+
 fn main() {
     for word in env::args().skip(1) {
         let parts: Vec<&str> = word.split(':').collect();
         let [kind, threads, rounds] = parts[..] else { continue };
-        let (locks, pause) = match kind {
-            "one" => (1, Pause::Nothing),
-            "all" => (16, Pause::Nothing),
-            "yielding" => (16, Pause::Yield),
-            "sleeping" => (16, Pause::Sleep),
+        let threads = threads.parse().unwrap_or(1);
+        let rounds = rounds.parse().unwrap_or(0);
+        let sum = match kind {
+            "one" => sum_of_rounds(1, Pause::Nothing, threads, rounds),
+            "all" => sum_of_rounds(16, Pause::Nothing, threads, rounds),
+            "yielding" => sum_of_rounds(16, Pause::Yield, threads, rounds),
+            "sleeping" => sum_of_rounds(16, Pause::Sleep, threads, rounds),
+            "packets" => sum_of_packets(threads, rounds),
             _ => continue,
         };
-        let sum = sum_of_rounds(locks, pause, threads.parse().unwrap_or(1), rounds.parse().unwrap_or(0));
         println!("{kind} {sum}");
     }
 }

@@ -3,15 +3,19 @@
 //! Each word `KIND:THREADS:ROUNDS` shares so many rounds among so many threads, and prints a sum. A round draws a
 //! ticket, locks, counts what it holds, gives it back and ends. `one` locks one value of sixteen, `all` locks all
 //! sixteen in an order of the thread's own, `yielding` does that and yields the processor before it gives them back, and
-//! `sleeping` does that and sleeps a millisecond.
+//! `sleeping` does that and sleeps a millisecond. A round of `packets` locks nothing: it enters twice, to begin a packet
+//! and to report it.
 //! `bench/lock/run` times it beside the same in plain Rust, whose sums are what the gate expects here.
 #![tactic(auto)]
 
 ghost use Rattle.std.specs.Prelude.{◌≤◌, IfSome};
 
+mod packets;
 mod rounds;
+mod shares;
 mod threads;
 
+use crate::packets::sum_of_packets;
 use crate::rounds::Pause;
 use crate::threads::{Kind, sum_of_rounds};
 use std::{env, io};
@@ -31,12 +35,12 @@ fn kind_of(word: &str) -> Option<Kind>
 }
 
 /// The words of one part: its kind, how many threads and how many rounds.
-fn parts_of(word: &str) -> Option<(&str, u64, u64)> {
+fn parts_of(word: &str) -> Option<(&str, u32, u64)> {
     let (kind, counts) = word.split_once(':')?;
     let (threads, rounds) = counts.split_once(':')?;
     Some((
         kind,
-        threads.parse::<u64>().unwrap_or(1).min(64),
+        threads.parse::<u32>().unwrap_or(1).min(64),
         rounds.parse::<u64>().unwrap_or(0),
     ))
 }
@@ -47,6 +51,9 @@ fn main(rt: HostRuntime) -> io::Result<()> {
         if let Some((name, threads, rounds)) = parts_of(word) {
             if let Some(kind) = kind_of(name) {
                 let sum = sum_of_rounds(&rt, rt.alloc(), kind, threads, rounds)?;
+                println!(rt; "{name} {sum}")?;
+            } else if name == "packets" {
+                let sum = sum_of_packets(&rt, rt.alloc(), threads, rounds)?;
                 println!(rt; "{name} {sum}")?;
             }
         }

@@ -1,0 +1,26 @@
+use Rattle.std.proofs.Common.{false, true, refl, ap, ◌∙◌, arith}
+use Rattle.std.proofs.lemmas.Option.{slice_get_within}
+use Rattle.lock_bench.proofs.Flags.{set_other}
+use Rattle.lock_bench.proofs.packets.report_packet.Goals as goal
+
+pub index_mut-requires : goal.index_mut-requires
+index_mut-requires g c =
+    let inside = slice_get_within c.enter-engines.result.is_busy.items c.args.engine true (c.enter-engines.ensures.busy c.args.engine c.requires.1) in omega (arith, inside)
+
+pub leave-requires-clause-facts : goal.leave-requires-clause-facts
+leave-requires-clause-facts g c = (
+  c.enter-engines.result,
+  ap (λ v. v.pivot.seen) c.enter-engines.ensures.view,
+  tt,
+  tt,
+  (λ b x h. h),
+  (λ f. refl),
+  (
+    c.args.engine,
+    ap (λ v. v.task) c.enter-engines.ensures.view ∙ c.requires.1,
+    (λ s away h. set_other c.enter-engines.result.is_busy.items c.args.engine s false away ∙ h),
+  ),
+)
+
+pub returns : goal.returns
+returns g c = (c.leave.ensures.seat, ap (λ v. v.task) c.leave.ensures.view.2, (_, _, ap (λ v. v.pivot.seen) c.leave.ensures.view.2))
