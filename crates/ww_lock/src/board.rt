@@ -4,6 +4,7 @@
 //! Slot 0 is the pivot's and slot b + 1 that of value b.
 ghost use Rattle.std.specs.Prelude.{◌≡◌, ◌+◌, ◌≤◌};
 
+use crate::sleepers::Sleepers;
 use crate::ward::Ward;
 use atomic_table::{Seat, Table, TableRule};
 use drm_types::BufferId;
@@ -130,6 +131,8 @@ pub struct Board<W: Ward> {
     pub(crate) buffers: u32,
     // How many fence words.
     pub(crate) posts: u32,
+    // Who waits for a word.
+    pub(crate) sleepers: Sleepers,
     // For the list of a caller that holds nothing, which takes no memory.
     pub(crate) alloc: Global,
     ghost sized: { (table.shared.table_id.words ≡ buffers + 2 + posts) × (table.shared.key.posts ≡ posts) × (table.shared.table_id.slots ≡ buffers + 1) × (buffers ≤ 64) },

@@ -14,7 +14,8 @@ ghost use Rattle.ww_lock.specs.declared.board.Slot.TheVariants.{Gone};
 use crate::acquire::Acquire;
 use crate::board::{Board, Place, Slot, TaskChange};
 use crate::lifetime::Seat;
-use crate::steps::{SharedTable, enter, join, leave, look, pause, post, read_back, settle, split};
+use crate::sleepers::Sleepers;
+use crate::steps::{SharedTable, enter, join, leave, look, post, read_back, settle, split};
 use crate::ward::Ward;
 use crossbeam_utils::Backoff;
 use drm_types::{BufferId, FenceId};
@@ -24,6 +25,7 @@ use std::sync::Wait;
 // Waits until the pivot is at home, and takes it.
 fn take_pivot<W: Ward, R: Wait>(
     shared: &SharedTable<W>,
+    sleepers: &Sleepers,
     place: &mut Place<W::Pivot, W::Value, W::Task>,
     rt: &R,
 ) -> W::Pivot
@@ -44,7 +46,7 @@ fn take_pivot<W: Ward, R: Wait>(
             };
             return pivot;
         }
-        pause(shared, &backoff, 1, 1, rt);
+        sleepers.pause(shared, &backoff, 1, 1, rt);
     }
     unreachable!()
 }
@@ -67,7 +69,6 @@ fn bring_home<W: Ward>(
     let told = Snapshot::of(&pivot);
     shared.exchange(place, 0, Slot::Pivot(pivot));
     leave(shared, place, told, held, change, is_call);
-    shared.wake_one(1);
 }
 
 // Shows the pivot by the word of a fence.
@@ -138,7 +139,7 @@ impl<W: Ward> Board<W> {
         ensures looked { (f x : ℕ) → In (f, x) (sees seat.old).looked → NotBack x (W.posted result f) }
         ensures busy { (t : W.Task) → (sees seat.old).task ≡ Some t → W.busy result t }
     {
-        take_pivot(&self.table.shared, &mut seat.place, rt)
+        take_pivot(&self.table.shared, &self.sleepers, &mut seat.place, rt)
     }
 
     /// `enter` for a caller that holds values: each of them fits the pivot found, as it is owed.
@@ -157,7 +158,7 @@ impl<W: Ward> Board<W> {
         ensures looked { (f x : ℕ) → In (f, x) (view acquire.old).looked → NotBack x (W.posted result f) }
         ensures busy { (t : W.Task) → (view acquire.old).task ≡ Some t → W.busy result t }
     {
-        take_pivot(&self.table.shared, &mut acquire.place, rt)
+        take_pivot(&self.table.shared, &self.sleepers, &mut acquire.place, rt)
     }
 
     /// Brings the pivot home. `change` says whether a task begins or ends with this call, and `is_call` whether the
@@ -184,6 +185,7 @@ impl<W: Ward> Board<W> {
             change,
             is_call,
         );
+        self.sleepers.wake_one(&self.table.shared, 1);
     }
 
     /// `leave` for a caller that holds values. It owes them from now on as they are.
@@ -210,6 +212,7 @@ impl<W: Ward> Board<W> {
             change,
             is_call,
         );
+        self.sleepers.wake_one(&self.table.shared, 1);
     }
 
     /// The word of a fence, by one load. It never goes back: from 0 to 1, and from there to a final word from 2 up.

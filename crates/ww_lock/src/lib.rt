@@ -15,6 +15,7 @@ mod inside;
 mod lifetime;
 mod locks;
 mod plays;
+mod sleepers;
 mod steps;
 #[cfg(test)]
 mod tests;

@@ -9,6 +9,7 @@ ghost use Rattle.ww_lock.specs.Lifetime.{FitsAll, Filled, AllFit, TakesApart};
 ghost use Rattle.ww_lock.specs.Begun.{IsOutside, sees};
 
 use crate::board::{Board, Place, Slot, Start, Tables};
+use crate::sleepers::Sleepers;
 use crate::ward::Ward;
 use atomic_table::{Closed, Table};
 use std::alloc::{AllocError, Global};
@@ -98,6 +99,7 @@ impl<W: Ward> Board<W> {
                 table,
                 buffers: buffers as u32,
                 posts,
+                sleepers: Sleepers::none(),
                 alloc,
             },
             Seat { place },
@@ -121,6 +123,7 @@ impl<W: Ward> Board<W> {
             table,
             buffers,
             posts: _,
+            sleepers: _,
             alloc: _,
         } = self;
         let Seat { place } = seat;

@@ -7,7 +7,7 @@ ghost use Rattle.ww_lock.specs.Held.{HasAt};
 
 use crate::acquire::{Acquire, place_of};
 use crate::board::Board;
-use crate::steps::{bring, claim, pause, pull, release};
+use crate::steps::{bring, claim, pull, release};
 use crate::ward::Ward;
 use crossbeam_utils::Backoff;
 use drm_types::{BufferId, Ticket};
@@ -103,7 +103,8 @@ impl<W: Ward> Board<W> {
                 TryLockError::Younger { holder } => holder,
             };
             let low = (holder & 0xffff_ffff) as u32;
-            pause(&self.table.shared, &backoff, word, low, rt);
+            self.sleepers
+                .pause(&self.table.shared, &backoff, word, low, rt);
         }
         unreachable!()
     }
@@ -146,6 +147,6 @@ impl<W: Ward> Board<W> {
         release(shared, &mut acquire.place, buffer, value);
         let later = acquire.held.len() - i;
         bring(&mut acquire.place, later);
-        shared.wake_all(buffer.number() as usize + 2);
+        self.sleepers.wake_all(shared, buffer.number() as usize + 2);
     }
 }

@@ -13,10 +13,8 @@ use crate::board::{Announcement, Place, Rule, Slot, Start, TaskChange, View};
 use crate::plays::{Claim, Draw, Enter, Halves, Leave, Look, Post, ReadBack, Release, Settle};
 use crate::ward::Ward;
 use atomic_table::Shared;
-use crossbeam_utils::Backoff;
 use drm_types::BufferId;
 use std::snapshot::Snapshot;
-use std::sync::Wait;
 
 pub(crate) type SharedTable<W> = Shared<
     Slot<<W as Ward>::Pivot, <W as Ward>::Value, <W as Ward>::Task>,
@@ -217,23 +215,6 @@ pub(crate) fn settle<W: Ward>(
     ensures settled { settled W.grows (step shared.now.table_id.slots 0 0 0 none) place.old.me 0 place.new.me }
 {
     shared.load::<Settle<W>>(place, 0);
-}
-
-// Spins for a while, and later sleeps for as long as the word is the one that was judged.
-pub(crate) fn pause<W: Ward, R: Wait>(
-    shared: &SharedTable<W>,
-    backoff: &Backoff,
-    word: usize,
-    judged: u32,
-    rt: &R,
-)
-    requires { word < shared.now.table_id.words }
-{
-    if backoff.is_completed() {
-        shared.park(rt, word, judged);
-    } else {
-        backoff.snooze();
-    }
 }
 
 // The first `count` slots go behind the others.

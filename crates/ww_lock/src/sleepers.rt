@@ -1,0 +1,63 @@
+//! How callers wait for a word of the board, and how they are woken.
+ghost use Rattle.std.specs.Prelude.{◌<◌};
+
+use crate::steps::SharedTable;
+use crate::ward::Ward;
+use crossbeam_utils::Backoff;
+use std::sync::Wait;
+use std::sync::atomic::{AtomicU32, Ordering};
+
+/// How many callers sleep on a word of the board, or are about to: where there is none, no wake is sent.
+///
+/// A caller counts itself before it looks at the word and sleeps, and who changes a word asks for the count behind the
+/// change. So one of the two sees the other, and no sleeper is passed over.
+#[derive(Drop)]
+pub(crate) struct Sleepers {
+    count: AtomicU32,
+}
+
+impl Sleepers {
+    pub(crate) fn none() -> Sleepers {
+        Sleepers {
+            count: AtomicU32::new(0),
+        }
+    }
+
+    // Spins for a while, and later sleeps for as long as the word is the one that was judged.
+    pub(crate) fn pause<W: Ward, R: Wait>(
+        &self,
+        shared: &SharedTable<W>,
+        backoff: &Backoff,
+        word: usize,
+        judged: u32,
+        rt: &R,
+    )
+        requires { word < shared.now.table_id.words }
+    {
+        if backoff.is_completed() {
+            self.count.fetch_add(1, Ordering::SeqCst);
+            shared.park(rt, word, judged);
+            self.count.fetch_sub(1, Ordering::SeqCst);
+        } else {
+            backoff.snooze();
+        }
+    }
+
+    // Wakes one caller that sleeps on the word, if there is one.
+    pub(crate) fn wake_one<W: Ward>(&self, shared: &SharedTable<W>, word: usize)
+        requires { word < shared.now.table_id.words }
+    {
+        if self.count.load(Ordering::SeqCst) > 0 {
+            shared.wake_one(word);
+        }
+    }
+
+    // Wakes all callers that sleep on the word.
+    pub(crate) fn wake_all<W: Ward>(&self, shared: &SharedTable<W>, word: usize)
+        requires { word < shared.now.table_id.words }
+    {
+        if self.count.load(Ordering::SeqCst) > 0 {
+            shared.wake_all(word);
+        }
+    }
+}
