@@ -84,17 +84,25 @@ fn round(board: &Board, order: &[u32], pause: Pause) -> u64 {
     acquire.ticket
 }
 
+// How many rounds each thread makes.
+fn shares_of(threads: u64, rounds: u64) -> Vec<u64> {
+    let mut left = rounds;
+    let share_of = |thread| {
+        let share = left / (threads - thread);
+        left -= share;
+        share
+    };
+    (0..threads).map(share_of).collect()
+}
+
 fn sum_of_rounds(locks: u32, pause: Pause, threads: u64, rounds: u64) -> u64 {
     let values = (0..16).map(|_| Mutex::new(0)).collect();
     let board = Board { tickets: AtomicU64::new(1), values };
     thread::scope(|scope| {
         let board = &board;
-        let mut left = rounds;
-        for thread in 0..threads {
-            let share = left / (threads - thread);
-            left -= share;
+        for (thread, share) in shares_of(threads, rounds).into_iter().enumerate() {
             scope.spawn(move || {
-                let order = order_of(locks, thread);
+                let order = order_of(locks, thread as u64);
                 for _ in 0..share {
                     round(board, &order, pause);
                 }
@@ -131,14 +139,11 @@ fn sum_of_packets(threads: u64, rounds: u64) -> u64 {
     let engines = Mutex::new(Engines { is_busy: vec![false; threads as usize], reported: 0 });
     thread::scope(|scope| {
         let engines = &engines;
-        let mut left = rounds;
-        for thread in 0..threads {
-            let share = left / (threads - thread);
-            left -= share;
+        for (thread, share) in shares_of(threads, rounds).into_iter().enumerate() {
             scope.spawn(move || {
                 for _ in 0..share {
-                    if begin_packet(engines, thread as usize) {
-                        report_packet(engines, thread as usize);
+                    if begin_packet(engines, thread) {
+                        report_packet(engines, thread);
                     }
                 }
             });
