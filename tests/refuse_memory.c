@@ -1,8 +1,11 @@
-/* A library to load before a program: refuses its allocation of the number that the variable REFUSE names, from 1. */
+/* A library to load before a program: counts its allocations, and refuses that of the number which the variable REFUSE
+   names, from 1. Where the variable COUNT names a file, the number of all allocations is written there at the end. */
 #define _GNU_SOURCE
 #include <dlfcn.h>
 #include <errno.h>
+#include <stdio.h>
 #include <stdlib.h>
+#include <string.h>
 
 static long seen;
 
@@ -12,7 +15,17 @@ static int is_refused(void) {
         const char *number = getenv("REFUSE");
         refused = number ? atol(number) : 0;
     }
-    return refused > 0 && ++seen == refused;
+    return ++seen == refused;
+}
+
+__attribute__((destructor)) static void tell(void) {
+    const char *name = getenv("COUNT");
+    long all = seen;
+    FILE *file = name ? fopen(name, "w") : NULL;
+    if (file) {
+        fprintf(file, "%ld\n", all);
+        fclose(file);
+    }
 }
 
 #define REAL(name) \
@@ -23,6 +36,26 @@ void *malloc(size_t size) {
     REAL(malloc);
     if (is_refused()) { errno = ENOMEM; return NULL; }
     return real(size);
+}
+
+/* dlsym may itself ask for zeroed memory, before the real function is known: that comes out of a place of its own */
+void *calloc(size_t count, size_t size) {
+    static __typeof__(calloc) *real;
+    static char early[4096];
+    static int is_looking;
+    static size_t used;
+    if (!real && is_looking) {
+        void *place = early + used;
+        used += (count * size + 15) / 16 * 16;
+        return used <= sizeof early ? place : NULL;
+    }
+    if (!real) {
+        is_looking = 1;
+        real = (__typeof__(calloc) *)dlsym(RTLD_NEXT, "calloc");
+        is_looking = 0;
+    }
+    if (is_refused()) { errno = ENOMEM; return NULL; }
+    return real(count, size);
 }
 
 void *realloc(void *old, size_t size) {
