@@ -48,6 +48,11 @@ count() {
     fi
 }
 
+# notes whether a text is the one that is wanted
+expect() {
+    count "$1" "$([[ $2 == "$3" ]] || echo "it is '$2', and not '$3'")"
+}
+
 end() {
     echo "$passed passed, $failed failed"
     ((failed == 0))

@@ -1,31 +1,35 @@
 /* A library to load before a program: counts its allocations, and refuses that of the number which the variable REFUSE
-   names, from 1. Where the variable COUNT names a file, the number of all allocations is written there at the end. */
+   names, from 1. Where the variable COUNT names a file, the number of all allocations stands there afterwards. */
 #define _GNU_SOURCE
 #include <dlfcn.h>
 #include <errno.h>
+#include <fcntl.h>
+#include <stdatomic.h>
 #include <stdio.h>
 #include <stdlib.h>
-#include <string.h>
+#include <unistd.h>
 
-static long seen;
+/* written anew at each allocation, since a program may end without what runs at an exit */
+static void tell(long number) {
+    static int file = -2;
+    char text[24];
+    if (file == -2) {
+        const char *name = getenv("COUNT");
+        file = name ? open(name, O_WRONLY | O_CREAT | O_TRUNC, 0644) : -1;
+    }
+    if (file >= 0 && pwrite(file, text, snprintf(text, sizeof text, "%ld\n", number), 0) < 0) abort();
+}
 
 static int is_refused(void) {
     static long refused = -1;
+    static atomic_long seen;
+    long number = ++seen;
     if (refused < 0) {
-        const char *number = getenv("REFUSE");
-        refused = number ? atol(number) : 0;
+        const char *word = getenv("REFUSE");
+        refused = word ? atol(word) : 0;
     }
-    return ++seen == refused;
-}
-
-__attribute__((destructor)) static void tell(void) {
-    const char *name = getenv("COUNT");
-    long all = seen;
-    FILE *file = name ? fopen(name, "w") : NULL;
-    if (file) {
-        fprintf(file, "%ld\n", all);
-        fclose(file);
-    }
+    tell(number);
+    return number == refused;
 }
 
 #define REAL(name) \
