@@ -1,4 +1,4 @@
-use Rattle.std.proofs.Common.{◌∙◌, sym}
+use Rattle.std.proofs.Common.{rules, ◌∙◌, sym}
 use Rattle.std.proofs.lemmas.Option.{slice_get_within}
 use Rattle.drm_reset.specs.declared.verdict.Verdict.TheVariants as verdict
 use Rattle.drm_core.specs.Tables.{state_of}
@@ -16,3 +16,6 @@ pub returns-in-NotYet-clause-expired : goal.returns-in-NotYet-clause-expired
 returns-in-NotYet-clause-expired c =
     (timeout_by c.args.self.now c.args.ring c.args.now c.in-Some.number (verdict.NotYet c.in-NotYet.due_in) c.requires.whole c.requires.there (sym c.head.ensures ∙ c.in-Some.is)
     (sym c.judge_head.ensures ∙ c.in-NotYet.is)).2
+
+pub hang-requires-clause-hangs : goal.hang-requires-clause-hangs
+hang-requires-clause-hangs c = search rules
