@@ -133,10 +133,6 @@ is_candidate spec journal entities ring entity age head e s look home at_e at_s 
   λ r at. let here : r ≡ head = cc (at, look.at) in ap (is_ready journal age) here ∙ is,
 )
 
--- what an index gave stands there
-pub at_index : {X : Type 0} (xs : List X) (i : ℕ) (x : X) → x ≡ get_or xs i x → i < length xs → slice_get xs i ≡ Some x
-at_index xs i x is lt = slice_get-get_or xs i x lt ∙ ap (λ z. Some z) (sym is)
-
 -- a head that is on another ring, or not ready, may not begin
 pub not_picked : (spec : DeviceSpec) (journal : List JobRecord) (entities : List EntityState) (ring entity age : ℕ) (head : JobRecord) (deps : List (ℕ × ℕ)) → IsLook journal entity age head
     → (head.ring ≡ ring → is_ready journal age head ≡ list_all (λ e. is_at journal e.1 (is_met ring)) deps)

@@ -26,10 +26,9 @@ use Rattle.drm_core.specs.Ring.{pending_of, head_of, limit_of, age_of, entity_ch
 use Rattle.drm_core.specs.State.{EntityState, RingState, DeviceState}
 use Rattle.drm_core.specs.Tables.{state_of, fence_state_of, ring_state_of, IsWhole}
 use Rattle.drm_core.proofs.CallsAre.{Left, at_record_there}
-use Rattle.drm_core.proofs.Candidates.{at_index}
 use Rattle.drm_core.proofs.DeviceSteps.{IsKept, timeout_kept}
 use Rattle.drm_core.proofs.FinishLawful.{IsHead, head_is, set_same}
-use Rattle.drm_core.proofs.Records.{stands_within, at_test, changed_is, to_map}
+use Rattle.drm_core.proofs.Records.{stands_within, at_test, changed_is, to_map, at_index}
 use Rattle.drm_core.proofs.Pairs.{get_set_same}
 use Rattle.drm_core.proofs.Pending.{pending_kept}
 use Rattle.drm_core.proofs.Condemning.{condemned_among}

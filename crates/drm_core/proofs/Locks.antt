@@ -26,10 +26,9 @@ use Rattle.drm_core.specs.Tables.{state_of, IsWhole}
 use Rattle.drm_core.specs.Cores.{core_state, DepsCover, planned_by, IsCore}
 use Rattle.drm_core.proofs.CoreSteps.{reply_kept}
 use Rattle.drm_core.proofs.Pairs.{get_set_other}
-use Rattle.drm_core.proofs.Candidates.{at_index}
 use Rattle.std.proofs.lemmas.Bool.{eqb-true}
 use Rattle.std.proofs.Common.{get_or}
-use Rattle.drm_core.proofs.Records.{to_map}
+use Rattle.drm_core.proofs.Records.{to_map, at_index}
 use Rattle.std.proofs.lemmas.List.{map-set, length-set}
 use Rattle.drm_core.specs.declared.event.Answer.TheVariants as answer
 use Rattle.drm_core.specs.declared.event.Refusal.TheVariants as refusal

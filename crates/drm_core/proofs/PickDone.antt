@@ -32,11 +32,11 @@ use Rattle.drm_core.specs.Ring.{credits_of, free_credits, credit_limit_of, pendi
 use Rattle.drm_core.specs.Refusals.{pick_refusal}
 use Rattle.drm_core.specs.Outcomes.{pick_outcome, picked_device}
 use Rattle.drm_core.specs.Tables.{state_of, fence_state_of, ring_state_of, put_in, IsWhole}
-use Rattle.drm_core.proofs.Records.{changed_is}
+use Rattle.drm_core.proofs.Records.{changed_is, at_index}
 use Rattle.drm_core.proofs.Pending.{contains_at}
 use Rattle.drm_core.proofs.DeviceSteps.{IsKept, pick_kept, not_when}
 use Rattle.drm_core.proofs.ChoiceIs.{IsChosen}
-use Rattle.drm_core.proofs.Candidates.{at_index, head_number}
+use Rattle.drm_core.proofs.Candidates.{head_number}
 use Rattle.drm_core.proofs.TableFacts.{entity_there, rings_tie, rooms_kept, row_pending, whole_kept}
 use Rattle.drm_core.proofs.CallsAre.{Left, pick_may, pick_takes}
 use Rattle.drm_core.proofs.Queues.{head_numbered, stands_popped, IsPopped}

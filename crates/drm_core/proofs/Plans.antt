@@ -31,8 +31,7 @@ use Rattle.drm_core.specs.Planning.{holds_in, AreRoomy, ShareNoBuffer}
 use Rattle.drm_core.proofs.CoreSteps.{reply_kept}
 use Rattle.drm_core.proofs.LatestStands.{all_at}
 use Rattle.drm_core.proofs.Locks.{plan_of_row, plan_in, plan_cases, reply_is, row_changed}
-use Rattle.drm_core.proofs.Candidates.{at_index}
-use Rattle.drm_core.proofs.Records.{to_map}
+use Rattle.drm_core.proofs.Records.{to_map, at_index}
 
 -- the row of a context that an index found
 row_there : (c : CoreTable) (ctx : ℕ) (row : Option ContextRow) → IsCore c → ctx < 64 → row ≡ get_or c.contexts.items ctx row → slice_get c.contexts.items ctx ≡ Some row

@@ -33,12 +33,12 @@ use Rattle.drm_core.specs.Lawful.{IsPendingList}
 use Rattle.drm_core.specs.Stopping.{may_end_after}
 use Rattle.drm_core.specs.Tables.{state_of, fence_state_of, IsWhole}
 use Rattle.drm_core.proofs.CallsAre.{Left}
-use Rattle.drm_core.proofs.Candidates.{at_index, head_number, head_found, queued_goes_on}
+use Rattle.drm_core.proofs.Candidates.{head_number, head_found, queued_goes_on}
 use Rattle.drm_core.proofs.ChoiceIs.{get_numbered, get_take, all_of_filter, in_filter, head_of_queue}
 use Rattle.drm_core.proofs.DeviceSteps.{IsKept, cancel_kept, reap_kept}
 use Rattle.drm_core.proofs.LatestStands.{all_at, all_from, same_test, in_front, latest_stand, ended_goes_down}
 use Rattle.drm_core.proofs.Pending.{contains_at, place_of}
-use Rattle.drm_core.proofs.Records.{stands_within, at_test, changed_is}
+use Rattle.drm_core.proofs.Records.{stands_within, at_test, changed_is, at_index}
 use Rattle.drm_core.proofs.PickDone.{ring_there}
 use Rattle.drm_core.proofs.TableFacts.{entity_row_there, row_found, row_pending, whole_kept}
 use Rattle.drm_core.proofs.Queues.{IsFront, front_is, marks_changed, stands_marked, stands_popped, IsPopped}

@@ -11,7 +11,7 @@ use Rattle.drm_core.specs.declared.event.Answer.TheVariants as answer
 use Rattle.drm_core.specs.Ring.{current_of}
 use Rattle.drm_core.specs.Outcomes.{must_stall, step_outcome}
 use Rattle.drm_core.specs.Tables.{state_of, fence_state_of, IsWhole}
-use Rattle.drm_core.proofs.Candidates.{at_index}
+use Rattle.drm_core.proofs.Records.{at_index}
 use Rattle.drm_core.proofs.DeviceSteps.{IsKept, step_kept}
 use Rattle.drm_core.proofs.TableFacts.{IsRunning, fence_tie, whole_kept}
 use Rattle.drm_core.proofs.CallsAre.{Left, step_runs}

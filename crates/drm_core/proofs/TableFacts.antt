@@ -35,11 +35,10 @@ use Rattle.drm_core.specs.Order.{comes_after}
 use Rattle.drm_core.specs.Waits.{DepsStand, IsDependency}
 use Rattle.drm_core.specs.Plain.{marks_of, WaitsStand, QueuesStand}
 use Rattle.drm_core.specs.Tables.{state_of, fence_state_of, ring_state_of, IsWhole, HasRooms}
-use Rattle.drm_core.proofs.Records.{to_map}
+use Rattle.drm_core.proofs.Records.{to_map, at_index}
 use Rattle.drm_core.proofs.Pairs.{get_set_cases}
 use Rattle.drm_core.proofs.RingChange.{ring_changed_is}
 use Rattle.drm_core.proofs.Pending.{contains_at}
-use Rattle.drm_core.proofs.Candidates.{at_index}
 use Rattle.drm_core.proofs.RanLawful.{IsCurrent, current_is}
 use Rattle.drm_core.proofs.DeviceSteps.{IsKept, not_when}
 

@@ -1,4 +1,4 @@
--- What the contracts promise, whatever code keeps it: read these.
+-- The theorem: what the laws and the contracts of a core say, whatever code keeps it.
 pub mod State
 pub mod Journal
 pub mod Order
@@ -17,7 +17,7 @@ pub mod Grows
 pub mod Steady
 pub mod Chosen
 pub mod Headline
--- What the bodies keep and tell one another: each is cited by a contract, and no promise rests on its reading.
+-- What helps the bodies, and the words of a device's calls: no promise of a core rests on these.
 pub mod Waits
 pub mod Candidates
 pub mod Plain

@@ -16,7 +16,7 @@ use drm_resv::Deps;
 use drm_types::{DeviceSpec, EntityId, FenceId, Priority, RingId};
 
 /// What decides between the heads of two entities: the higher priority, then the lower number.
-#[derive(Clone, Copy, Debug, PartialEq, Eq)]
+#[derive(Clone, Copy)]
 pub struct Candidate {
     pub priority: Priority,
     pub number: FenceId,

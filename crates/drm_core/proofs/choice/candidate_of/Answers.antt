@@ -6,8 +6,8 @@ use Rattle.std.proofs.lemmas.Option.{slice_get-get_or}
 use Rattle.drm_core.specs.Journal.{is_at}
 use Rattle.drm_core.specs.Order.{is_met, is_ready}
 use Rattle.drm_core.specs.Plain.{marks_of, marks}
-use Rattle.drm_core.proofs.Records.{to_map, stands_within}
-use Rattle.drm_core.proofs.Candidates.{IsLook, other_ring, not_ready, is_candidate, ready_by_waits, at_index, not_picked, active_is}
+use Rattle.drm_core.proofs.Records.{to_map, stands_within, at_index}
+use Rattle.drm_core.proofs.Candidates.{IsLook, other_ring, not_ready, is_candidate, ready_by_waits, not_picked, active_is}
 use Rattle.drm_core.proofs.Queues.{head_there}
 use Rattle.drm_core.proofs.choice.candidate_of.Goals as goal
 

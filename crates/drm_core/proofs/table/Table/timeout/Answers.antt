@@ -16,6 +16,3 @@ pub returns-in-NotYet-clause-expired : goal.returns-in-NotYet-clause-expired
 returns-in-NotYet-clause-expired c =
     (timeout_by c.args.self.now c.args.ring c.args.now c.in-Some.number (verdict.NotYet c.in-NotYet.due_in) c.requires.whole c.requires.there (sym c.head.ensures ∙ c.in-Some.is)
     (sym c.judge_head.ensures ∙ c.in-NotYet.is)).2
-
-pub hang-requires-clause-hangs : goal.hang-requires-clause-hangs
-hang-requires-clause-hangs c = search rules
