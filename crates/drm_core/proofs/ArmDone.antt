@@ -30,7 +30,7 @@ use Rattle.drm_core.specs.Ring.{is_stopped}
 use Rattle.drm_core.specs.Steady.{IsSteady}
 use Rattle.drm_core.specs.Waits.{IsDependency, DepsStand}
 use Rattle.drm_core.specs.Plain.{marks, WaitsStand, QueuesStand}
-use Rattle.drm_core.specs.Tables.{state_of, fence_of, IsWhole}
+use Rattle.drm_core.specs.Tables.{state_of, fence_state_of, IsWhole}
 use Rattle.drm_core.specs.Cores.{MeetsPlan, DepsCover, all_named, entity_at}
 use Rattle.drm_core.proofs.PickLawful.{get_push_cases}
 use Rattle.drm_core.proofs.PickDone.{spec_tests}
@@ -200,7 +200,7 @@ arm_done t job deps ring journal waits fences entities w is_job cover may ring_i
         limits = w.limits;
         count = subst (λ n. n ≤ t.spec.max_jobs) (sym (ap length items_are ∙ length-append t.journal.items (new ∷ []))) (let place = arms.place in omega (arith, place));
         fences = list ∙ (ap (λ fs. fs ++ record { phase = Queued; ran = 0 } ∷ []) w.fences
-            ∙ (sym (map-append fence_of t.journal.items (new ∷ [])) ∙ ap (map fence_of) (sym items_are)));
+            ∙ (sym (map-append fence_state_of t.journal.items (new ∷ [])) ∙ ap (map fence_state_of) (sym items_are)));
         waits = subst (λ ws. WaitsStand journal.items ws) (sym waits_are)
             (subst (λ js. WaitsStand js (t.waits.items ++ all_named t.journal.items deps job.after ∷ [])) (sym items_are) (waits_armed d job deps t.waits.items new w.waits refl cover arms));
         queues = subst (QueuesStand journal.items) (sym queued)

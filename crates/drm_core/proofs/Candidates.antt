@@ -1,9 +1,9 @@
 -- Which heads of queues a ring may take.
-use Rattle.std.proofs.Common.{◌≡◌, ◌≢◌, ℕ, ◌<◌, true, false, not, ◌==◌, List, length, get_or, Some, None, Option, refl, sym, ap, subst, ◌∙◌, arith, slice_get}
+use Rattle.std.proofs.Common.{◌≡◌, ◌≢◌, ℕ, ◌<◌, Bool, true, false, not, ◌==◌, ◌&&◌, List, length, get_or, Some, None, Option, refl, sym, ap, subst, ◌∙◌, inl, inr, arith, slice_get}
 use Rattle.std.specs.Prelude.{option_map}
 use Rattle.std.specs.Option.{option_map_or}
 use Rattle.std.specs.List.{list_all}
-use Rattle.std.proofs.lemmas.Bool.{and_parts, and_from, eqb-true, eq-eqb}
+use Rattle.std.proofs.lemmas.Bool.{and_parts, and_from, cases_eq, eqb-true, eq-eqb}
 use Rattle.std.proofs.lemmas.Option.{slice_get-get_or}
 use Rattle.drm_types.specs.declared.spec.DeviceSpec.{DeviceSpec}
 use Rattle.drm_types.specs.declared.spec.EntitySpec.{EntitySpec}
@@ -13,13 +13,13 @@ use Rattle.drm_fence.specs.declared.phase.Phase.{Phase}
 use Rattle.drm_fence.specs.declared.phase.Phase.TheVariants.{Queued, Scheduled, Ended}
 use Rattle.drm_fence.specs.Phases.{is_queued, has_ended}
 use Rattle.drm_core.specs.declared.journal.JobRecord.{JobRecord}
-use Rattle.drm_core.specs.declared.choice.Key.{Key}
+use Rattle.drm_core.specs.declared.choice.Candidate.{Candidate}
 use Rattle.drm_core.specs.State.{EntityState, DeviceState}
 use Rattle.drm_core.specs.Journal.{numbered, is_at}
 use Rattle.drm_core.specs.Order.{is_met, is_ready}
 use Rattle.drm_core.specs.Choice.{queue_of, is_head_of}
 use Rattle.drm_core.specs.Steady.{IsSteady}
-use Rattle.drm_core.specs.Keys.{IsHeadKey}
+use Rattle.drm_core.specs.Candidates.{IsHeadCandidate}
 use Rattle.drm_core.specs.Plain.{tables, WaitsStand, IsCandidate}
 use Rattle.drm_core.proofs.ChoiceIs.{first-filter, numbered_get, is_queued_of}
 use Rattle.drm_core.proofs.Pairs.{find_first}
@@ -81,10 +81,10 @@ pub record IsLook (journal : List JobRecord) (entity age : ℕ) (head : JobRecor
   pub at : slice_get journal age ≡ Some head
 
 -- the only key that a head of the entity may have is the one that was looked at
-same_head : (spec : DeviceSpec) (journal : List JobRecord) (entities : List EntityState) (ring entity age : ℕ) (head : JobRecord) (key : Key) → IsLook journal entity age head
-    → (h : IsHeadKey (tables spec journal entities) ring entity key) → (key.age ≡ age) × (h.head ≡ head)
+same_head : (spec : DeviceSpec) (journal : List JobRecord) (entities : List EntityState) (ring entity age : ℕ) (head : JobRecord) (key : Candidate) → IsLook journal entity age head
+    → (h : IsHeadCandidate (tables spec journal entities) ring entity key) → (key.number ≡ age) × (h.head ≡ head)
 same_head spec journal entities ring entity age head key look h =
-    let number = head_only journal entity age key.age look.found h.is_head in
+    let number = head_only journal entity age key.number look.found h.is_head in
     let at : slice_get journal age ≡ Some h.head = subst (λ n. slice_get journal n ≡ Some h.head) number h.at in
     (number, cc (at, look.at))
 
@@ -116,7 +116,7 @@ not_ready spec journal entities ring entity age head look no_more key h r at =
 pub is_candidate : (spec : DeviceSpec) (journal : List JobRecord) (entities : List EntityState) (ring entity age : ℕ) (head : JobRecord) (e : EntitySpec) (s : EntityState)
     → IsLook journal entity age head → head.ring ≡ ring → slice_get spec.entities entity ≡ Some e → slice_get entities entity ≡ Some s → s.is_stopped ≡ false
     → is_ready journal age head ≡ true
-    → IsCandidate (tables spec journal entities) ring entity (Some (record { priority = e.priority; age = age }))
+    → IsCandidate (tables spec journal entities) ring entity (Some (record { priority = e.priority; number = age }))
 is_candidate spec journal entities ring entity age head e s look home at_e at_s going is = (
   record {
     head = head;
@@ -133,6 +133,20 @@ is_candidate spec journal entities ring entity age head e s look home at_e at_s 
   λ r at. let here : r ≡ head = cc (at, look.at) in ap (is_ready journal age) here ∙ is,
 )
 
--- what an index gave stands there
-pub at_index : {X : Type 0} (xs : List X) (i : ℕ) (x : X) → x ≡ get_or xs i x → i < length xs → slice_get xs i ≡ Some x
-at_index xs i x is lt = slice_get-get_or xs i x lt ∙ ap (λ z. Some z) (sym is)
+-- a head that is on another ring, or not ready, may not begin
+pub not_picked : (spec : DeviceSpec) (journal : List JobRecord) (entities : List EntityState) (ring entity age : ℕ) (head : JobRecord) (deps : List (ℕ × ℕ)) → IsLook journal entity age head
+    → (head.ring ≡ ring → is_ready journal age head ≡ list_all (λ e. is_at journal e.1 (is_met ring)) deps)
+    → ((head.ring == ring) && list_all (λ e. is_at journal e.1 (is_met ring)) deps) ≡ false → IsCandidate (tables spec journal entities) ring entity None
+not_picked spec journal entities ring entity age head deps look ready fails =
+    elim (cases_eq head.ring ring) [
+      | inr apart ↦ other_ring spec journal entities ring entity age head look apart
+      | inl home ↦
+          let no_more : list_all (λ e. is_at journal e.1 (is_met ring)) deps ≡ false =
+          sym (ap (λ t. t && list_all (λ e. is_at journal e.1 (is_met ring)) deps) (eq-eqb head.ring ring home)) ∙ fails in
+          not_ready spec journal entities ring entity age head look (ready home ∙ no_more)
+    ]
+
+-- an active entity is not stopped
+pub active_is : (stopped b : Bool) → b ≡ not stopped → b ≡ true → stopped ≡ false
+active_is true b is passed = absurd (let never : false ≡ true = sym is ∙ passed in cc (never))
+active_is false b is passed = refl

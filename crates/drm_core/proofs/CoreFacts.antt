@@ -8,7 +8,7 @@ use Rattle.drm_job.specs.Conflicts.{conflicts}
 use Rattle.drm_core.specs.declared.table.Table.{Table}
 use Rattle.drm_core.specs.declared.cores.CoreTable.{CoreTable}
 use Rattle.drm_core.specs.State.{DeviceState}
-use Rattle.drm_core.specs.Grows.{Each, RecordGrows}
+use Rattle.drm_core.specs.Grows.{EachInPlace, RecordGrows}
 use Rattle.drm_core.specs.Tables.{state_of, IsWhole}
 use Rattle.drm_core.specs.Cores.{core_state, MeetsPlan, DepsCover, IsCore}
 use Rattle.drm_core.proofs.CoreSteps.{device_kept}
@@ -16,7 +16,7 @@ use Rattle.drm_core.proofs.DeviceSteps.{IsKept}
 use Rattle.drm_core.proofs.TableFacts.{grew_from, had_not_ended}
 
 -- what covers goes on to cover while the journal grows
-pub cover_kept : (old new : DeviceState) (job : Draft) (deps : List (ℕ × ℕ)) → DepsCover old job deps → Each RecordGrows old.journal new.journal
+pub cover_kept : (old new : DeviceState) (job : Draft) (deps : List (ℕ × ℕ)) → DepsCover old job deps → EachInPlace RecordGrows old.journal new.journal
     → length new.journal ≡ length old.journal → DepsCover new job deps
 cover_kept old new job deps cover grows count = record {
   covers = λ i x at meets going.

@@ -11,7 +11,7 @@ use Rattle.drm_fence.specs.Fences.{Fences}
 use Rattle.drm_fence.specs.declared.phase.Phase.TheVariants.{Ended}
 use Rattle.drm_fence.specs.Phases.{is_queued, has_ended}
 use Rattle.drm_core.specs.declared.journal.JobRecord.{JobRecord}
-use Rattle.drm_core.specs.declared.table.RingRow.{RingRow}
+use Rattle.drm_core.specs.declared.table.RingJobs.{RingJobs}
 use Rattle.drm_core.specs.declared.table.Table.{Table}
 use Rattle.drm_core.specs.declared.event.Answer.TheVariants as answer
 use Rattle.drm_core.specs.Journal.{is_at, is_complete}
@@ -19,7 +19,7 @@ use Rattle.drm_core.specs.Ring.{head_of, ring_changed}
 use Rattle.drm_core.specs.Refusals.{finish_refusal}
 use Rattle.drm_core.specs.Outcomes.{final_outcome, ended_at, finish_outcome, finished_device}
 use Rattle.drm_core.specs.Plain.{QueuesStand}
-use Rattle.drm_core.specs.Tables.{state_of, fence_of, ring_of_row, popped_at, ending, IsWhole}
+use Rattle.drm_core.specs.Tables.{state_of, fence_state_of, ring_state_of, popped_at, ending, IsWhole}
 use Rattle.drm_core.proofs.Records.{at_test, changed_is}
 use Rattle.drm_core.proofs.Queues.{stands_set}
 use Rattle.drm_core.proofs.FinishLawful.{IsHead, head_is}
@@ -64,7 +64,7 @@ pub not_ended_yet : (t : Table) (ring f : ℕ) (r : JobRecord) → IsHead (state
 not_ended_yet t ring f r h = at_test t.journal.items f r (λ r. not (has_ended r.phase)) h.at ∙ ap (λ p. not (has_ended p)) h.phase
 
 -- the row of a ring with a head has one
-pub row_has_head : (t : Table) (ring f : ℕ) (row : RingRow) → slice_get t.rings.items ring ≡ Some row → head_of (state_of t) ring ≡ Some f → 0 < vec_len row.pending
+pub row_has_head : (t : Table) (ring f : ℕ) (row : RingJobs) → slice_get t.rings.items ring ≡ Some row → head_of (state_of t) ring ≡ Some f → 0 < vec_len row.pending
 row_has_head t ring f row at is =
     subst (λ n. 0 < n) (sym row.pending.ok.0) (some_first row.pending.items (sym (ap first (row_pending t ring row at)) ∙ is))
   where
@@ -73,13 +73,13 @@ row_has_head t ring f row at is =
     some_first (x ∷ xs) some = omega arith
 
 -- the tables after the finish
-abbrev pub finished_tables : Table → ℕ → Vec JobRecord Global → Fences → RingRow → Table
+abbrev pub finished_tables : Table → ℕ → Vec JobRecord Global → Fences → RingJobs → Table
 finished_tables t ring journal fences row = record t { journal = journal; fences = fences; rings = with_item t.rings ring row }
 
-pub finish_done : (t : Table) (ring now f : ℕ) (outcome : Outcome) (r : JobRecord) (journal : Vec JobRecord Global) (fences : Fences) (row new : RingRow) → IsWhole t
+pub finish_done : (t : Table) (ring now f : ℕ) (outcome : Outcome) (r : JobRecord) (journal : Vec JobRecord Global) (fences : Fences) (row new : RingJobs) → IsWhole t
     → ring < length t.spec.rings → head_of (state_of t) ring ≡ Some f → MayEnd t ring f outcome r → journal.items ≡ ended_at t.journal.items f outcome
-    → fences.list ≡ map fence_of journal.items → vec_capacity journal ≡ vec_capacity t.journal → fences.places ≡ t.fences.places
-    → slice_get t.rings.items ring ≡ Some row → ring_of_row new ≡ popped_at now (ring_of_row row) → vec_capacity new.pending ≡ vec_capacity row.pending
+    → fences.list ≡ map fence_state_of journal.items → vec_capacity journal ≡ vec_capacity t.journal → fences.places ≡ t.fences.places
+    → slice_get t.rings.items ring ≡ Some row → ring_state_of new ≡ popped_at now (ring_state_of row) → vec_capacity new.pending ≡ vec_capacity row.pending
     → (finish_refusal (state_of t) ring ≡ None)
     × (finish_outcome (state_of t) ring now ≡ (answer.Finished f outcome, state_of (finished_tables t ring journal fences new)))
     × IsWhole (finished_tables t ring journal fences new)

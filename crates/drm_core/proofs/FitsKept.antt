@@ -22,7 +22,7 @@ use Rattle.drm_fence.specs.Phases.{has_ended, outcome_of}
 use Rattle.drm_core.specs.Reservation.{usage_at, arms, is_signaled, stands_for, IsOfJob, Fits}
 use Rattle.drm_resv.specs.Entries.{replaces, entries_with, added_to}
 use Rattle.drm_core.specs.Arming.{new_record, armed_reservation}
-use Rattle.drm_core.specs.Grows.{GoesOn, RecordGrows, Each}
+use Rattle.drm_core.specs.Grows.{GoesOn, RecordGrows, EachInPlace}
 use Rattle.drm_core.specs.Lawful.{EachTwo, KeepsEntityOrder}
 use Rattle.drm_core.proofs.Records.{at_test}
 use Rattle.drm_core.proofs.PickLawful.{get_push_cases}
@@ -33,7 +33,7 @@ abbrev pub arms_from : ℕ → ℕ → List JobRecord → List (ℕ × Usage)
 arms_from n buffer journal = filter_map (λ m. option_map (λ u. (m.0, u)) (usage_at buffer m.1.job)) (enumerate_from n journal)
 
 -- the arms of a journal whose records keep their jobs
-pub arms_kept : (n buffer : ℕ) (old new : List JobRecord) → length new ≡ length old → Each RecordGrows old new → arms_from n buffer new ≡ arms_from n buffer old
+pub arms_kept : (n buffer : ℕ) (old new : List JobRecord) → length new ≡ length old → EachInPlace RecordGrows old new → arms_from n buffer new ≡ arms_from n buffer old
 arms_kept n buffer [] [] count grows = refl
 arms_kept n buffer [] (y ∷ ys) count grows = absurd (omega (arith, count))
 arms_kept n buffer (x ∷ xs) [] count grows = absurd (omega (arith, count))
@@ -51,7 +51,7 @@ no_outcome_before Queued new goes none = refl
 no_outcome_before Scheduled new goes none = refl
 no_outcome_before (Ended o) new goes none = let has : outcome_of new ≡ Some o = ap outcome_of goes in absurd (cc (has, none))
 
-pub of_job_kept : (buffer : ℕ) (old new : List JobRecord) (e : Entry) → Each RecordGrows old new → IsOfJob buffer old e → IsOfJob buffer new e
+pub of_job_kept : (buffer : ℕ) (old new : List JobRecord) (e : Entry) → EachInPlace RecordGrows old new → IsOfJob buffer old e → IsOfJob buffer new e
 of_job_kept buffer old new e grows of_job =
     let r = grows e.fence of_job.0 of_job.1 in (
       r.0,
@@ -61,7 +61,7 @@ of_job_kept buffer old new e grows of_job =
     )
 
 -- a reservation goes on to fit while the records grow
-pub fits_kept : (buffer : ℕ) (old new : List JobRecord) (resv : Reservation) → length new ≡ length old → Each RecordGrows old new
+pub fits_kept : (buffer : ℕ) (old new : List JobRecord) (resv : Reservation) → length new ≡ length old → EachInPlace RecordGrows old new
     → Fits buffer old resv → Fits buffer new resv
 fits_kept buffer old new resv count grows fits = record {
   history = fits.history ∙ sym (arms_kept 0 buffer old new count grows);

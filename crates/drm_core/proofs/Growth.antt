@@ -18,7 +18,7 @@ use Rattle.drm_core.specs.Outcomes.{picked_device, ran_device, hung, hung_device
 use Rattle.drm_types.specs.declared.spec.EntitySpec.{EntitySpec}
 use Rattle.drm_types.specs.Priorities.{rank_of}
 use Rattle.drm_reset.specs.Blame.{one_more, blamed}
-use Rattle.drm_core.specs.Grows.{GoesOn, RecordGrows, EntityGrows, Each, Grows}
+use Rattle.drm_core.specs.Grows.{GoesOn, RecordGrows, EntityGrows, EachInPlace, Grows}
 use Rattle.drm_core.proofs.Records.{to_map, changed_is}
 use Rattle.drm_core.proofs.Pairs.{get_set_same, get_set_other}
 use Rattle.drm_core.proofs.RanLawful.{one_more_ran}
@@ -47,7 +47,7 @@ pub entity_grows_itself : (e : EntityState) → EntityGrows e e
 entity_grows_itself e = record { stopped = λ s. s; guilty = λ g. g }
 
 -- a list of which one element changes
-pub each_set : {X : Type 0} (R : X → X → Type 0) (xs : List X) (f : ℕ) (x y : X) → slice_get xs f ≡ Some x → R x y → ((z : X) → R z z) → Each R xs (set xs f y)
+pub each_set : {X : Type 0} (R : X → X → Type 0) (xs : List X) (f : ℕ) (x y : X) → slice_get xs f ≡ Some x → R x y → ((z : X) → R z z) → EachInPlace R xs (set xs f y)
 each_set {X} R xs f x y at rel same i old is =
     elim (cases_eq i f) [
       | inl i_is ↦
@@ -56,7 +56,7 @@ each_set {X} R xs f x y at rel same i old is =
       | inr apart ↦ (old, get_set_other xs f i y apart ∙ is, same old)
     ]
 
-pub each_itself : {X : Type 0} (R : X → X → Type 0) (xs : List X) → ((z : X) → R z z) → Each R xs xs
+pub each_itself : {X : Type 0} (R : X → X → Type 0) (xs : List X) → ((z : X) → R z z) → EachInPlace R xs xs
 each_itself R xs same i old is = (old, is, same old)
 
 pub grows_itself : (d : DeviceState) → Grows d d
@@ -71,9 +71,9 @@ pub grows_at : (d new : DeviceState) (f : ℕ) (r : JobRecord) (change : JobReco
     → RecordGrows r (change r) → new.spec ≡ d.spec → new.journal ≡ changed_at d.journal f change → new.entities ≡ d.entities → Grows d new
 grows_at d new f r change at grows spec journal entities = record {
   spec = spec;
-  journal = subst (Each RecordGrows d.journal) (sym (journal ∙ changed_is d.journal f r change at))
+  journal = subst (EachInPlace RecordGrows d.journal) (sym (journal ∙ changed_is d.journal f r change at))
       (each_set RecordGrows d.journal f r (change r) at grows record_grows_itself);
-  entities = subst (Each EntityGrows d.entities) (sym entities) (each_itself EntityGrows d.entities entity_grows_itself);
+  entities = subst (EachInPlace EntityGrows d.entities) (sym entities) (each_itself EntityGrows d.entities entity_grows_itself);
 }
 
 -- a scheduled or queued record has no outcome
@@ -158,9 +158,9 @@ hang_grows d ring now f r at = grows_at d (hung_device d ring now f) f r (hung d
 }) refl refl refl
 
 pub entities_grow : (entities : List EntityState) (e : ℕ) (change : EntityState → EntityState) → ((s : EntityState) → EntityGrows s (change s))
-    → Each EntityGrows entities (entity_changed entities e change)
+    → EachInPlace EntityGrows entities (entity_changed entities e change)
 entities_grow entities e change grows =
-    elim (slice_get entities e) as (λ o. slice_get entities e ≡ o → Each EntityGrows entities (option_map_or (λ s. set entities e (change s)) o entities)) [
+    elim (slice_get entities e) as (λ o. slice_get entities e ≡ o → EachInPlace EntityGrows entities (option_map_or (λ s. set entities e (change s)) o entities)) [
       | None ↦ λ none. each_itself EntityGrows entities entity_grows_itself
       | Some s ↦ λ is. each_set EntityGrows entities e s (change s) is (grows s) entity_grows_itself
     ] refl
@@ -223,7 +223,7 @@ record_grows_trans a b c p q = record {
   ended_stays Scheduled y g e = let never : false ≡ true = e in absurd (cc (never))
   ended_stays (Ended o) y g e = ap has_ended g
 
-pub each_trans : {X : Type 0} (R : X → X → Type 0) (xs ys zs : List X) → ((a b c : X) → R a b → R b c → R a c) → Each R xs ys → Each R ys zs → Each R xs zs
+pub each_trans : {X : Type 0} (R : X → X → Type 0) (xs ys zs : List X) → ((a b c : X) → R a b → R b c → R a c) → EachInPlace R xs ys → EachInPlace R ys zs → EachInPlace R xs zs
 each_trans R xs ys zs trans p q i x is =
     let y = p i x is in
     let z = q i y.0 y.1 in

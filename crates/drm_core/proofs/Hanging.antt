@@ -15,7 +15,7 @@ use Rattle.drm_reset.specs.declared.verdict.Verdict.{Verdict}
 use Rattle.drm_reset.specs.declared.verdict.Verdict.TheVariants as verdict
 use Rattle.drm_core.specs.declared.event.Answer.TheVariants as answer
 use Rattle.drm_core.specs.declared.journal.JobRecord.{JobRecord}
-use Rattle.drm_core.specs.declared.table.RingRow.{RingRow}
+use Rattle.drm_core.specs.declared.table.RingJobs.{RingJobs}
 use Rattle.drm_core.specs.declared.table.Table.{Table}
 use Rattle.drm_core.specs.Journal.{is_at, is_complete, changed_at}
 use Rattle.drm_core.specs.Outcomes.{hung, hung_device, condemned, condemned_device, is_too_much, hang_outcome, timeout_at, timeout_outcome}
@@ -24,12 +24,11 @@ use Rattle.drm_core.specs.Plain.{marks, QueuesStand}
 use Rattle.drm_core.specs.Lawful.{IsPendingList}
 use Rattle.drm_core.specs.Ring.{pending_of, head_of, limit_of, age_of, entity_changed}
 use Rattle.drm_core.specs.State.{EntityState, RingState, DeviceState}
-use Rattle.drm_core.specs.Tables.{state_of, fence_of, ring_of_row, IsWhole}
+use Rattle.drm_core.specs.Tables.{state_of, fence_state_of, ring_state_of, IsWhole}
 use Rattle.drm_core.proofs.CallsAre.{Left, at_record_there}
-use Rattle.drm_core.proofs.Candidates.{at_index}
 use Rattle.drm_core.proofs.DeviceSteps.{IsKept, timeout_kept}
 use Rattle.drm_core.proofs.FinishLawful.{IsHead, head_is, set_same}
-use Rattle.drm_core.proofs.Records.{stands_within, at_test, changed_is, to_map}
+use Rattle.drm_core.proofs.Records.{stands_within, at_test, changed_is, to_map, at_index}
 use Rattle.drm_core.proofs.Pairs.{get_set_same}
 use Rattle.drm_core.proofs.Pending.{pending_kept}
 use Rattle.drm_core.proofs.Condemning.{condemned_among}
@@ -68,7 +67,7 @@ timeout_by t ring now f v w there is found =
     (h.0, h.1, timeout_finds (state_of t) ring now f h.0 is h.1.at ∙ ap (by_verdict (state_of t) ring now f h.0) found)
 
 -- a head that hangs: the journal where it is blamed, the row of its ring, and whether that is too much
-pub record IsBlamed (t : Table) (ring now f : ℕ) (r : JobRecord) (journal : Vec JobRecord Global) (row : RingRow) (guilty : Bool) : Type 0 where
+pub record IsBlamed (t : Table) (ring now f : ℕ) (r : JobRecord) (journal : Vec JobRecord Global) (row : RingJobs) (guilty : Bool) : Type 0 where
   pub head : IsHead (state_of t) ring f r
   pub hangs : timeout_outcome (state_of t) ring now ≡ hang_outcome (state_of t) ring now f r
   pub items : journal.items ≡ set t.journal.items f (hung (state_of t) r)
@@ -76,7 +75,7 @@ pub record IsBlamed (t : Table) (ring now f : ℕ) (r : JobRecord) (journal : Ve
   pub row_at : slice_get t.rings.items ring ≡ Some row
   pub much : is_too_much (state_of t) ring r ≡ guilty
 
-pub is_blamed : (t : Table) (ring now f : ℕ) (r : JobRecord) (entity : ℕ) (priority : Priority) (journal : Vec JobRecord Global) (row : RingRow) (limits : RingSpec) (guilty : Bool) → IsWhole t
+pub is_blamed : (t : Table) (ring now f : ℕ) (r : JobRecord) (entity : ℕ) (priority : Priority) (journal : Vec JobRecord Global) (row : RingJobs) (limits : RingSpec) (guilty : Bool) → IsWhole t
     → ring < length t.spec.rings → head_of (state_of t) ring ≡ Some f → verdict_at (state_of t) ring f now ≡ verdict.Hang → r ≡ get_or t.journal.items f r → entity ≡ r.job.entity
     → option_map (λ (e : EntitySpec). e.priority) (slice_get t.spec.entities entity) ≡ Some priority → journal.items ≡ changed_at t.journal.items f (blamed_by priority)
     → vec_capacity journal ≡ vec_capacity t.journal → row ≡ get_or t.rings.items ring row
@@ -108,39 +107,39 @@ is_blamed t ring now f r entity priority journal row limits guilty w there is ha
     by_entity (Some e) some = let same : e.priority ≡ priority = cc (some) in ap (λ p. blamed_by p r) same
 
 -- the tables after the blame
-abbrev pub blamed_tables : Table → ℕ → ℕ → Vec JobRecord Global → RingRow → Table
+abbrev pub blamed_tables : Table → ℕ → ℕ → Vec JobRecord Global → RingJobs → Table
 blamed_tables t ring now journal row = record t { journal = journal; rings = with_item t.rings ring (record row { since = now }) }
 
 -- and after the entity is guilty too
-abbrev pub guilty_tables : Table → ℕ → ℕ → Vec JobRecord Global → RingRow → EntityRows → Table
+abbrev pub guilty_tables : Table → ℕ → ℕ → Vec JobRecord Global → RingJobs → EntityRows → Table
 guilty_tables t ring now journal row entities = record t { journal = journal; rings = with_item t.rings ring (record row { since = now }); entities = entities }
 
 -- the device of the blamed tables
-blamed_state : {t : Table} {ring now f : ℕ} {r : JobRecord} {journal : Vec JobRecord Global} {row : RingRow} {guilty : Bool} → IsBlamed t ring now f r journal row guilty → state_of (blamed_tables t ring now journal row) ≡ hung_device (state_of t) ring now f
+blamed_state : {t : Table} {ring now f : ℕ} {r : JobRecord} {journal : Vec JobRecord Global} {row : RingJobs} {guilty : Bool} → IsBlamed t ring now f r journal row guilty → state_of (blamed_tables t ring now journal row) ≡ hung_device (state_of t) ring now f
 blamed_state {t} {ring} {now} {f} {r} {journal} {row} b =
     let d = state_of t in
     let change : RingState → RingState = λ s. record s { since = now } in
     let rings = rings_tie t.rings.items ring row (record row { since = now }) change b.row_at refl in
     let items : journal.items ≡ changed_at t.journal.items f (hung d) = b.items ∙ sym (changed_is t.journal.items f r (hung d) b.head.at) in
-    ap (λ js. let s : DeviceState = record d { journal = js; rings = map ring_of_row (set t.rings.items ring (record row { since = now })) } in s) items
+    ap (λ js. let s : DeviceState = record d { journal = js; rings = map ring_state_of (set t.rings.items ring (record row { since = now })) } in s) items
     ∙ ap (λ rs. let s : DeviceState = record d { journal = changed_at t.journal.items f (hung d); rings = rs } in s) rings
 
 -- the fences of the jobs stay
-blamed_fences : (js : List JobRecord) (f : ℕ) (r new : JobRecord) → slice_get js f ≡ Some r → fence_of new ≡ fence_of r → map fence_of (set js f new) ≡ map fence_of js
+blamed_fences : (js : List JobRecord) (f : ℕ) (r new : JobRecord) → slice_get js f ≡ Some r → fence_state_of new ≡ fence_state_of r → map fence_state_of (set js f new) ≡ map fence_state_of js
 blamed_fences js f r new at same =
-    map-set fence_of js f new ∙ (ap (set (map fence_of js) f) same ∙ set_same (map fence_of js) f (fence_of r) (to_map fence_of js f r at))
+    map-set fence_state_of js f new ∙ (ap (set (map fence_state_of js) f) same ∙ set_same (map fence_state_of js) f (fence_state_of r) (to_map fence_state_of js f r at))
 
-condemned_fences : (ring entity : ℕ) (js : List JobRecord) → map fence_of (map (condemned ring entity) js) ≡ map fence_of js
+condemned_fences : (ring entity : ℕ) (js : List JobRecord) → map fence_state_of (map (condemned ring entity) js) ≡ map fence_state_of js
 condemned_fences ring entity [] = refl
-condemned_fences ring entity (r ∷ rs) = ap (λ fs. fence_of r ∷ fs) (condemned_fences ring entity rs)
+condemned_fences ring entity (r ∷ rs) = ap (λ fs. fence_state_of r ∷ fs) (condemned_fences ring entity rs)
 
 -- so do the queues
-blamed_queues : {t : Table} {ring now f : ℕ} {r : JobRecord} {journal : Vec JobRecord Global} {row : RingRow} {guilty : Bool} → IsWhole t → IsBlamed t ring now f r journal row guilty → QueuesStand journal.items t.entities
+blamed_queues : {t : Table} {ring now f : ℕ} {r : JobRecord} {journal : Vec JobRecord Global} {row : RingJobs} {guilty : Bool} → IsWhole t → IsBlamed t ring now f r journal row guilty → QueuesStand journal.items t.entities
 blamed_queues {t} {ring} {now} {f} {r} w b =
     subst (λ js. QueuesStand js t.entities) (sym b.items) (stands_set t.journal.items f r (hung (state_of t) r) t.entities b.head.at refl refl w.queues)
 
 -- and the pending list of its ring
-pub blamed_pending : {t : Table} {ring now f : ℕ} {r : JobRecord} {journal : Vec JobRecord Global} {row : RingRow} {guilty : Bool} → IsWhole t → ring < length t.spec.rings
+pub blamed_pending : {t : Table} {ring now f : ℕ} {r : JobRecord} {journal : Vec JobRecord Global} {row : RingJobs} {guilty : Bool} → IsWhole t → ring < length t.spec.rings
     → IsBlamed t ring now f r journal row guilty → IsPendingList journal.items ring row.pending.items
 blamed_pending {t} {ring} {now} {f} {r} {journal} {row} w there b =
     let d = state_of t in
@@ -149,17 +148,17 @@ blamed_pending {t} {ring} {now} {f} {r} {journal} {row} w there b =
     (pending_kept t.journal.items f r (hung d r) ring (pending_of d ring) b.head.at refl refl (w.steady.lawful.rings ring there).pending))
 
 -- the list is as it was in the row whose age begins anew
-pub same_pending : (rows : List RingRow) (ring now : ℕ) (row x : RingRow) → slice_get rows ring ≡ Some row → x ≡ get_or (set rows ring (record row { since = now })) ring x
+pub same_pending : (rows : List RingJobs) (ring now : ℕ) (row x : RingJobs) → slice_get rows ring ≡ Some row → x ≡ get_or (set rows ring (record row { since = now })) ring x
     → x.pending.items ≡ row.pending.items
 same_pending rows ring now row x at x_is =
-    let new : RingRow = record row { since = now } in
+    let new : RingJobs = record row { since = now } in
     let there = get_set_same rows ring row new at in
     let here = at_index (set rows ring new) ring x x_is (slice_get_within (set rows ring new) ring new there) in
     let same : new ≡ x = cc (there, here) in
-    ap (λ (z : RingRow). z.pending.items) (sym same)
+    ap (λ (z : RingJobs). z.pending.items) (sym same)
 
 -- the head goes on
-pub resumed_done : {t : Table} {ring now f : ℕ} {r : JobRecord} {journal : Vec JobRecord Global} {row : RingRow} {guilty : Bool} → IsWhole t → ring < length t.spec.rings → IsBlamed t ring now f r journal row guilty → guilty ≡ false
+pub resumed_done : {t : Table} {ring now f : ℕ} {r : JobRecord} {journal : Vec JobRecord Global} {row : RingJobs} {guilty : Bool} → IsWhole t → ring < length t.spec.rings → IsBlamed t ring now f r journal row guilty → guilty ≡ false
     → (timeout_outcome (state_of t) ring now ≡ (answer.Resumed, state_of (blamed_tables t ring now journal row))) × IsWhole (blamed_tables t ring now journal row)
 resumed_done {t} {ring} {now} {f} {r} {journal} {row} w there b little =
     let d = state_of t in
@@ -168,15 +167,15 @@ resumed_done {t} {ring} {now} {f} {r} {journal} {row} w there b little =
     b.hangs
     ∙ (ap (λ x. cond {A = Left} x (answer.Guilty r.job.entity, condemned_device (hung_device d ring now f) ring r.job.entity) (answer.Resumed, hung_device d ring now f)) (b.much ∙ little)
     ∙ ap (λ s. let left : Left = (answer.Resumed, s) in left) (sym (blamed_state b))) in
-    let tied : t.fences.list ≡ map fence_of journal.items =
-    w.fences ∙ sym (ap (map fence_of) b.items ∙ blamed_fences t.journal.items f r (hung d r) b.head.at refl) in (
+    let tied : t.fences.list ≡ map fence_state_of journal.items =
+    w.fences ∙ sym (ap (map fence_state_of) b.items ∙ blamed_fences t.journal.items f r (hung d r) b.head.at refl) in (
       ends,
       whole_kept t u w (subst (λ (q : Left). IsKept d q.1) ends (timeout_kept d ring now w.steady there)) tied refl (blamed_queues w b) refl
           (rooms_kept t u ring row (record row { since = now }) w.rooms refl refl b.row_at refl b.room refl refl refl),
     )
 
 -- the entity is guilty
-pub guilty_done : {t : Table} {ring now f : ℕ} {r : JobRecord} {journal : Vec JobRecord Global} {row : RingRow} {guilty : Bool}
+pub guilty_done : {t : Table} {ring now f : ℕ} {r : JobRecord} {journal : Vec JobRecord Global} {row : RingJobs} {guilty : Bool}
     → (entity : ℕ) (last : Vec JobRecord Global) (entities : EntityRows) → IsWhole t → ring < length t.spec.rings → IsBlamed t ring now f r journal row guilty
     → guilty ≡ true → entity ≡ r.job.entity → last.items ≡ all_skipped entity journal.items row.pending.items → vec_capacity last ≡ vec_capacity journal
     → entities ≡ row_changed t.entities entity (λ r. record r { is_guilty = true })
@@ -186,7 +185,7 @@ guilty_done {t} {ring} {now} {f} {r} {journal} {row} entity last entities w ther
     let d = state_of t in
     let items : last.items ≡ map (condemned ring entity) journal.items = skipped ∙ condemned_among journal.items ring entity row.pending.items (blamed_pending w there b) in
     let u = guilty_tables t ring now last row entities in
-    let rings = map ring_of_row (set t.rings.items ring (record row { since = now })) in
+    let rings = map ring_state_of (set t.rings.items ring (record row { since = now })) in
     let blame : EntityRow → EntityRow = λ r. record r { is_guilty = true } in
     let mark : EntityState → EntityState = λ e. record e { is_guilty = true } in
     let guilty_marks = entity_changed (marks t.entities) entity mark in
@@ -203,8 +202,8 @@ guilty_done {t} {ring} {now} {f} {r} {journal} {row} entity last entities w ther
     ∙ (ap (λ s. let left : Left = (answer.Guilty entity, condemned_device s ring entity) in left) (sym (blamed_state b))
     ∙ (ap (λ js. let left : Left = (answer.Guilty entity, record d { journal = js; rings = rings; entities = guilty_marks }) in left) (sym items)
     ∙ ap (λ es. let left : Left = (answer.Guilty entity, record d { journal = last.items; rings = rings; entities = es }) in left) (sym marked))))) in
-    let tied : t.fences.list ≡ map fence_of last.items =
-    w.fences ∙ sym (ap (map fence_of) items ∙ (condemned_fences ring entity journal.items ∙ (ap (map fence_of) b.items ∙ blamed_fences t.journal.items f r (hung d r) b.head.at refl))) in (
+    let tied : t.fences.list ≡ map fence_state_of last.items =
+    w.fences ∙ sym (ap (map fence_state_of) items ∙ (condemned_fences ring entity journal.items ∙ (ap (map fence_state_of) b.items ∙ blamed_fences t.journal.items f r (hung d r) b.head.at refl))) in (
       ends,
       whole_kept t u w (subst (λ (q : Left). IsKept d q.1) ends (timeout_kept d ring now w.steady there)) tied refl queues refl
           (rooms_kept t u ring row (record row { since = now }) w.rooms refl refl b.row_at refl (room ∙ b.room) refl refl (ap (λ (e : EntityRows). e.places) marked_by)),

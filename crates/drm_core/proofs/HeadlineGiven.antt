@@ -1,7 +1,7 @@
 -- A context that may read is not refused, but for want of memory.
 use Rattle.std.proofs.Common.{◌≡◌, ℕ, zero, suc, ◌+◌, ◌<◌, Bool, true, false, cond, not, ◌==◌, List, [], ◌∷◌, map, set, Some, None, Option, refl, sym, ap, subst, ◌∙◌, inl, inr, ◌⊎◌, slice_get}
 use Rattle.std.specs.Option.{option_map_or}
-use Rattle.std.specs.Prelude.{option_and_then, option_map, nat_lt, length, is_none, find}
+use Rattle.std.specs.Prelude.{option_and_then, option_map, nat_lt, length, is_some, is_none, find}
 use Rattle.std.specs.List.{enumerate_from}
 use Rattle.std.proofs.lemmas.Bool.{cases_eq, both_ways, eqb-true}
 use Rattle.drm_types.specs.Firsts.{when, first_of}
@@ -43,7 +43,7 @@ begun_changed m ctx k change begun =
 pub begun_if_not_idle : (s : CoreState) (ctx : ℕ) → idle_refusal s ctx ≡ None → begun_in s.contexts ctx ≡ true
 begun_if_not_idle s ctx is = by_context (context_of s ctx) is
   where
-    by_context : (o : Option Context) → when (is_none o) CtxIdle ≡ None → not (is_none o) ≡ true
+    by_context : (o : Option Context) → when (is_none o) CtxIdle ≡ None → is_some o ≡ true
     by_context None e = absurd (cc (e))
     by_context (Some c) e = refl
 
@@ -110,7 +110,7 @@ outcome_begun s (event.End ctx) begun early = λ k b held. elim (cases_eq k ctx)
       let none : least_held s ctx ≡ None =
       no_holder (least_held s ctx) (none_first (option_map StillHolds (least_held s ctx)) [] (none_first (idle_refusal s ctx) _ early).1).0 in
       absurd (none_held_at s.holders 0 ctx b none (subst (λ x. holds s x b ≡ true) same held))
-  | inr apart ↦ ap (λ x. not (is_none (option_and_then (λ (o : Option Context). o) x))) (get_set_other s.contexts ctx k None apart) ∙ begun k b held
+  | inr apart ↦ ap (λ x. is_some (option_and_then (λ (o : Option Context). o) x)) (get_set_other s.contexts ctx k None apart) ∙ begun k b held
 ]
 outcome_begun s (event.Plan ctx draft) begun early =
     at_option HoldersBegun _ (context_of s ctx) s begun (λ c k b held. begun_stays s.contexts ctx k _ (begun k b held))
@@ -164,7 +164,7 @@ read_given s ctx b a n steady begun here may (inl is) =
     inr (ap (λ (p : Answer × CoreState). p.0) is
     ∙ ap (λ o. (unless_refused (first_of (o ∷ None ∷ [])) s (outcome_of_event s (event.Read ctx b))).0) early)
   where
-    not_idle : (o : Option Context) → not (is_none o) ≡ true → when (is_none o) CtxIdle ≡ None
+    not_idle : (o : Option Context) → is_some o ≡ true → when (is_none o) CtxIdle ≡ None
     not_idle None e = let never : false ≡ true = e in absurd (cc (never))
     not_idle (Some c) e = refl
 

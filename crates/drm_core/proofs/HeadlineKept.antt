@@ -37,6 +37,7 @@ use Rattle.drm_core.proofs.CoreSteps.{step_is_kept}
 use Rattle.drm_core.proofs.DeviceSteps.{not_when}
 use Rattle.drm_core.proofs.Opening.{opened_core_steady}
 use Rattle.drm_core.proofs.Readback.{writers_ended}
+use Rattle.drm_core.proofs.HeadlinePicks.{picks_least, idles_none}
 use Rattle.drm_core.proofs.HeadlineGiven.{run_holders_begun, opened_holders_begun, read_given}
 use Rattle.drm_core.proofs.HeadlineReads.{run_plans_held, opened_plans_held, may_read_on}
 use Rattle.drm_core.proofs.Places.{run_places_kept, no_places}
@@ -188,6 +189,8 @@ promises_kept spec s steady plans begun places same = record {
       let there : slice_get s.device.spec.rings ring ≡ Some limits = ap (λ (p : DeviceSpec). slice_get p.rings ring) same ∙ at in
       subst (λ n. used_credits s.device ring ≤ n) (ap (λ o. option_map_or (λ (r : RingSpec). r.credit_limit) o 0) there)
       (law.rings ring (slice_get_within s.device.spec.rings ring limits there)).credits;
+  picks = λ ring now f skipped n step. picks_least s ring now f skipped n steady.device step;
+  idles = λ ring now n step. idles_none s ring now n steady.device step;
   begin_order = λ i j x y both entity. (law.entities i j x y both.order both.first both.second).begun entity;
   end_order = λ i j x y both entity. (law.entities i j x y both.order both.first both.second).ended entity;
   refusals = refused_keeps s;

@@ -1,8 +1,8 @@
 -- What a context may read stays so, until it gives it up.
 use Rattle.std.proofs.Common.{◌≡◌, ◌≢◌, ℕ, zero, suc, ◌<◌, Bool, true, false, cond, ◌==◌, List, [], ◌∷◌, ◌++◌, set, Some, None, Option, refl, sym, ap, subst, ◌∙◌, inl, inr, ◌⊎◌, slice_get}
 use Rattle.std.specs.Option.{option_map_or}
-use Rattle.std.specs.Prelude.{option_and_then, option_map, nat_lt, length, is_none, Contains, not, find}
-use Rattle.std.proofs.lemmas.Bool.{cases_eq, both_ways, eqb-true, eq-eqb}
+use Rattle.std.specs.Prelude.{option_and_then, option_map, nat_lt, length, is_some, is_none, Contains, not, find}
+use Rattle.std.proofs.lemmas.Bool.{cases_eq, both_ways, eqb-true}
 use Rattle.std.proofs.lemmas.List.{length-map}
 use Rattle.std.proofs.lemmas.List.Elements.{All-contains}
 use Rattle.std.proofs.lemmas.List.Sums.{AllPass-from_list_all}
@@ -30,7 +30,7 @@ use Rattle.drm_core.specs.Ring.{head_of, current_of}
 use Rattle.drm_core.specs.Arming.{new_record}
 use Rattle.drm_core.specs.Reservation.{usage_at}
 use Rattle.drm_core.specs.Context.{context_of, holder_of, is_held, holds, holds_all, ticket_of, with_context, with_holder}
-use Rattle.drm_core.specs.Grows.{RecordGrows, Each}
+use Rattle.drm_core.specs.Grows.{RecordGrows, EachInPlace}
 use Rattle.drm_core.specs.Refusals.{plan_of, idle_refusal, not_held_refusal, early_refusal}
 use Rattle.drm_core.specs.Outcomes.{must_stall, ran_device, stepped_by, armed_core, context_changed, outcome_of_event}
 use Rattle.drm_core.specs.Run.{Run}
@@ -58,9 +58,9 @@ pub only_holder : (o : Option ℕ) (k ctx : ℕ) → option_map_or (λ h. h == k
 only_holder None k ctx p q = let never : false ≡ true = p in cc (never)
 only_holder (Some h) k ctx p q = sym (eqb-true h k p) ∙ eqb-true h ctx q
 
-pub is_held_by : (o : Option ℕ) (ctx : ℕ) → option_map_or (λ h. h == ctx) o false ≡ true → option_map_or (λ h. h == h) o false ≡ true
+pub is_held_by : (o : Option ℕ) (ctx : ℕ) → option_map_or (λ h. h == ctx) o false ≡ true → is_some o ≡ true
 is_held_by None ctx p = p
-is_held_by (Some h) ctx p = eq-eqb h h refl
+is_held_by (Some h) ctx p = refl
 
 -- another buffer gets another holder
 pub other_holder : (s : CoreState) (k : ℕ) (o : Option ℕ) (ctx b : ℕ) → b ≢ k → holds s ctx b ≡ true → holds (with_holder s k o) ctx b ≡ true
@@ -330,7 +330,7 @@ arms_no_writer s e n ctx b job plans held early keeps arms writer = elim (arms.b
     none_held (Some f) e = absurd (cc (e))
 
 -- what a context may read it may read after an event with which it does not give it up
-pub may_read_on : (s : CoreState) (e : Event) (a : Answer) (n : CoreState) (ctx b : ℕ) → PlansHeld s → Each RecordGrows s.device.journal n.device.journal
+pub may_read_on : (s : CoreState) (e : Event) (a : Answer) (n : CoreState) (ctx b : ℕ) → PlansHeld s → EachInPlace RecordGrows s.device.journal n.device.journal
     → Step s e a n → MayRead s ctx b → (GivesUp s ctx b e → ⊥) → MayRead n ctx b
 may_read_on s e a n ctx b plans grows step may keeps = elim (cases_step s e a n step) [
   | inl refused ↦ subst (λ m. MayRead m ctx b) (sym refused.keeps) may

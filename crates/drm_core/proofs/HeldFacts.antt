@@ -20,7 +20,7 @@ use Rattle.drm_core.specs.Held.{kept_of, armed_held, AllFit}
 use Rattle.drm_core.specs.Lawful.{EachTwo, KeepsEntityOrder}
 use Rattle.drm_core.specs.Planning.{HasUse, HeldHaveUses}
 use Rattle.drm_core.specs.Reservation.{usage_at, is_signaled, Fits}
-use Rattle.drm_core.specs.Tables.{fence_of}
+use Rattle.drm_core.specs.Tables.{fence_state_of}
 use Rattle.drm_core.proofs.CoreArmed.{ended_alike, list_ext}
 use Rattle.drm_core.proofs.FitsKept.{armed_fits}
 use Rattle.drm_core.proofs.Pairs.{get_set_same, get_set_other}
@@ -55,7 +55,7 @@ abbrev pub armed_one : List JobRecord → Draft → ℕ × Reservation → ℕ �
 armed_one journal job h = (h.0, armed_reservation journal job h.0 h.1)
 
 -- what they keep after the uses were added is the definition's
-pub held_armed : (js : List JobRecord) (fs : List FenceState) (job : Draft) (old new : List (ℕ × WithRoom)) → fs ≡ map fence_of js
+pub held_armed : (js : List JobRecord) (fs : List FenceState) (job : Draft) (old new : List (ℕ × WithRoom)) → fs ≡ map fence_state_of js
     → HeldHaveUses (has_ended_at fs) (length js) job old new → kept_of new ≡ armed_held js job (kept_of old)
 held_armed js fs job old new tie uses =
     list_ext (map kept_with new) (map (armed_one js job) (map kept_with old)) counts each
@@ -104,7 +104,7 @@ held_in_vector v ended fence count job old new fence_is old_is uses =
     (subst (λ xs. HeldHaveUses ended fence job xs new) old_is uses))
 
 -- what the held reservations are after a device armed the job
-pub held_after : (d n : DeviceState) (fs : List FenceState) (job : Draft) (old new : List (ℕ × WithRoom)) → fs ≡ map fence_of d.journal → EachTwo d.journal KeepsEntityOrder
+pub held_after : (d n : DeviceState) (fs : List FenceState) (job : Draft) (old new : List (ℕ × WithRoom)) → fs ≡ map fence_state_of d.journal → EachTwo d.journal KeepsEntityOrder
     → n ≡ armed_device d job → HeldHaveUses (has_ended_at fs) (length d.journal) job old new
     → (kept_of new ≡ armed_held d.journal job (kept_of old)) × (AllFit d.journal (kept_of old) → AllFit n.journal (kept_of new))
 held_after d n fs job old new tie order armed uses =

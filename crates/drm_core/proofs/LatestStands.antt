@@ -11,7 +11,7 @@ use Rattle.drm_core.specs.Journal.{numbered, is_at}
 use Rattle.drm_core.specs.Order.{comes_after, is_met, is_ready, dependencies}
 use Rattle.drm_core.specs.Steady.{IsSteady}
 use Rattle.drm_core.specs.Arming.{ring_of}
-use Rattle.drm_core.specs.Waits.{IsDependency, DepsStand, unmet_of}
+use Rattle.drm_core.specs.Waits.{IsDependency, DepsStand}
 use Rattle.drm_core.proofs.Records.{at_test}
 use Rattle.drm_core.proofs.Pending.{contains_at, place_of}
 use Rattle.drm_core.proofs.ChoiceIs.{numbered_get, get_numbered, get_take, all_of_filter, in_filter}
@@ -137,17 +137,3 @@ ended_goes_down d steady = record {
   down = λ i f x y lt at_x at_y same passes. (steady.lawful.entities i f x y lt at_x at_y).ended same passes;
   ended = λ x is. is;
 }
-
--- no dependency is unmet exactly where the job is ready
-pub none_unmet : (d : DeviceState) (j : ℕ) (r : JobRecord) (deps : List (ℕ × ℕ)) → IsSteady d → DepsStand d.journal j r.job deps
-    → (unmet_of d.journal r.ring deps == 0) ≡ is_ready d.journal j r
-none_unmet d j r deps steady stand =
-    none_fail (λ e. is_at d.journal e.1 (is_met r.ring)) deps ∙ sym (latest_stand d.journal j r deps (is_met r.ring) (met_goes_down d r.ring steady) stand)
-  where
-    none_fail : {X : Type 0} (q : X → Bool) (xs : List X) → (length (filter (λ x. not (q x)) xs) == 0) ≡ list_all q xs
-    none_fail q [] = refl
-    none_fail {X} q (x ∷ xs) =
-        elim (q x) as (λ t. (length (cond (not t) (x ∷ filter (λ x. not (q x)) xs) (filter (λ x. not (q x)) xs)) == 0) ≡ (t && list_all q xs)) [
-          | true ↦ none_fail q xs
-          | false ↦ ne_eqb (suc (length (filter (λ x. not (q x)) xs))) 0 (λ e. omega (arith, e))
-        ]

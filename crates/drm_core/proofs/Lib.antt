@@ -22,6 +22,7 @@ pub mod Opening
 pub mod Readback
 pub mod LatestStands
 pub mod ChoiceByKeys
+pub mod Least
 pub mod Queues
 pub mod Candidates
 pub mod Best
@@ -50,6 +51,7 @@ pub mod HeadlineReads
 pub mod DeviceGrows
 pub mod Places
 pub mod HeadlineGiven
+pub mod HeadlinePicks
 pub mod HeadlineKept
 pub mod HeldFacts
 pub mod CoreStands

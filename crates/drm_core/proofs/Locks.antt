@@ -1,6 +1,6 @@
 -- A core whose contexts or holders change.
 use Rattle.std.proofs.Common.{◌≡◌, ◌≢◌, ℕ, zero, suc, ◌+◌, ◌<◌, ◌≤◌, Bool, true, false, not, cond, List, [], ◌∷◌, set, length, Some, None, Option, refl, sym, ap, subst, ◌∙◌, inl, inr, ◌⊎◌, arith, slice_get}
-use Rattle.std.specs.Prelude.{◌&&◌, ◌==◌, ◌^◌, IsTrue, find, position, option_map, option_and_then, is_none, nat_le, nat_lt}
+use Rattle.std.specs.Prelude.{◌&&◌, ◌==◌, ◌^◌, IsTrue, find, position, option_map, option_and_then, is_some, is_none, nat_le, nat_lt}
 use Rattle.std.specs.Option.{option_map_or}
 use Rattle.std.specs.List.{enumerate_from, position_from, list_all}
 use Rattle.std.proofs.lemmas.Bool.{cases_eq, and_parts, leb-true, lt-ltb, ne_eqb}
@@ -23,13 +23,12 @@ use Rattle.drm_core.specs.Names.{names_exist}
 use Rattle.drm_core.specs.Step.{unless_refused, reply}
 use Rattle.drm_core.specs.Steady.{IsSteadyCore}
 use Rattle.drm_core.specs.Tables.{state_of, IsWhole}
-use Rattle.drm_core.specs.Cores.{core_state, DepsCover, plan_at, IsCore}
+use Rattle.drm_core.specs.Cores.{core_state, DepsCover, planned_by, IsCore}
 use Rattle.drm_core.proofs.CoreSteps.{reply_kept}
 use Rattle.drm_core.proofs.Pairs.{get_set_other}
-use Rattle.drm_core.proofs.Candidates.{at_index}
 use Rattle.std.proofs.lemmas.Bool.{eqb-true}
 use Rattle.std.proofs.Common.{get_or}
-use Rattle.drm_core.proofs.Records.{to_map}
+use Rattle.drm_core.proofs.Records.{to_map, at_index}
 use Rattle.std.proofs.lemmas.List.{map-set, length-set}
 use Rattle.drm_core.specs.declared.event.Answer.TheVariants as answer
 use Rattle.drm_core.specs.declared.event.Refusal.TheVariants as refusal
@@ -94,7 +93,7 @@ plan_cases (x ∷ xs) (suc ctx) (suc k) row plan is =
 -- a core with the same device and the same reservations
 pub core_kept : (c n : CoreTable) (e : Event) (a : Answer) → IsCore c → n.table ≡ c.table → n.reservations ≡ c.reservations
     → names_exist c.table.spec e ≡ true → reply (core_state c) e ≡ (a, core_state n)
-    → ((k : ℕ) (plan : Plan) → plan_at n k ≡ Some plan → (plan_at c k ≡ Some plan) × IsTrue (holds_all (core_state n) k plan.job))
+    → ((k : ℕ) (plan : Plan) → planned_by n k ≡ Some plan → (planned_by c k ≡ Some plan) × IsTrue (holds_all (core_state n) k plan.job))
     → length n.holders.items ≡ length c.holders.items → length n.contexts.items ≡ length c.contexts.items → n.next_ticket ≤ 2 ^ 63 → IsCore n
 core_kept c n e a core table resvs names is plans holders contexts tickets = record {
   steady = subst IsSteadyCore (ap (λ (p : Answer × CoreState). p.1) is) (reply_kept (core_state c) e core.steady names).steady;
@@ -157,12 +156,12 @@ row_changed c ctx (Some r) change change' at same begun =
     ∙ ap (λ cs. record (core_state c) { contexts = cs }) (sym (map-set (option_map context_of_row) c.contexts.items ctx (Some (change r)))))
 
 -- a test that is not passed is failed
-pub begun_is : (o : Option Context) (b : Bool) → b ≡ not (is_none o) → b ≡ true → is_none o ≡ false
+pub begun_is : (o : Option Context) (b : Bool) → b ≡ is_some o → b ≡ true → is_none o ≡ false
 begun_is None b is passed = absurd (let never : false ≡ true = sym is ∙ passed in cc (never))
 begun_is (Some x) b is passed = refl
 
 -- a begin
-pub begin_done : (c : CoreTable) (ctx : ℕ) → IsCore c → ctx < 64 → not (is_none (context_of (core_state c) ctx)) ≡ false → (c.next_ticket ≡ 2 ^ 63 → ⊥)
+pub begin_done : (c : CoreTable) (ctx : ℕ) → IsCore c → ctx < 64 → is_some (context_of (core_state c) ctx) ≡ false → (c.next_ticket ≡ 2 ^ 63 → ⊥)
     → (n : CoreTable) → n ≡ record c { contexts = with_item c.contexts ctx (Some (record { ticket = c.next_ticket; is_sealed = false; plan = None })); next_ticket = c.next_ticket + 1 }
     → (reply (core_state c) (event.Begin ctx) ≡ (answer.Ticket c.next_ticket, core_state n)) × IsCore n
 begin_done c ctx core there idle more n n_is =

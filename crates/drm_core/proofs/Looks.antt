@@ -18,7 +18,7 @@ use Rattle.drm_core.specs.declared.event.Event.TheVariants as event
 use Rattle.drm_core.specs.declared.event.Refusal.TheVariants as refusal
 use Rattle.drm_core.specs.declared.journal.JobRecord.{JobRecord}
 use Rattle.drm_core.specs.Step.{reply}
-use Rattle.drm_core.specs.Tables.{fence_of}
+use Rattle.drm_core.specs.Tables.{fence_state_of}
 use Rattle.drm_core.specs.Cores.{core_state, IsCore}
 use Rattle.drm_core.proofs.Locks.{reply_is}
 
@@ -35,18 +35,18 @@ pub status_done : (c : CoreTable) (fence : ℕ) (z : ℤ) → IsCore c → optio
     → reply (core_state c) (event.Status fence) ≡ (answer.Status (cast_signed w32 (cast_unsigned w32 z)), core_state c)
 status_done c fence z core is = by_record (slice_get c.table.journal.items fence) refl
   where
-    found : option_map status_of (option_map (λ (x : FenceState). x.phase) (option_map fence_of (slice_get c.table.journal.items fence))) ≡ Some z
+    found : option_map status_of (option_map (λ (x : FenceState). x.phase) (option_map fence_state_of (slice_get c.table.journal.items fence))) ≡ Some z
     found =
         ap (λ o. option_map status_of (option_map (λ (x : FenceState). x.phase) o))
-        (sym (ap (λ fs. slice_get fs fence) core.whole.fences ∙ slice_get-map fence_of c.table.journal.items fence))
+        (sym (ap (λ fs. slice_get fs fence) core.whole.fences ∙ slice_get-map fence_state_of c.table.journal.items fence))
         ∙ is
 
     by_record : (o : Option JobRecord) → slice_get c.table.journal.items fence ≡ o
         → reply (core_state c) (event.Status fence) ≡ (answer.Status (cast_signed w32 (cast_unsigned w32 z)), core_state c)
     by_record None none =
-        absurd (let never : None ≡ Some z = sym (ap (λ o. option_map status_of (option_map (λ (x : FenceState). x.phase) (option_map fence_of o))) none) ∙ found in cc (never))
+        absurd (let never : None ≡ Some z = sym (ap (λ o. option_map status_of (option_map (λ (x : FenceState). x.phase) (option_map fence_state_of o))) none) ∙ found in cc (never))
     by_record (Some r) at =
-        let told : Some (status_of r.phase) ≡ Some z = sym (ap (λ o. option_map status_of (option_map (λ (x : FenceState). x.phase) (option_map fence_of o))) at) ∙ found in
+        let told : Some (status_of r.phase) ≡ Some z = sym (ap (λ o. option_map status_of (option_map (λ (x : FenceState). x.phase) (option_map fence_state_of o))) at) ∙ found in
         let same : status_of r.phase ≡ z = cc (told) in
         reply_is (core_state c) (event.Status fence)
         (ap (λ b. when b (refusal.NoFence fence)) (lt-leb (length c.table.journal.items) fence (slice_get_within c.table.journal.items fence r at))) refl

@@ -23,7 +23,7 @@ use Rattle.drm_fence.specs.declared.phase.Phase.TheVariants.{Scheduled}
 use Rattle.drm_fence.specs.Fences.{Fences}
 use Rattle.drm_entity.specs.Rows.{EntityRows, queue_at, popped}
 use Rattle.drm_core.specs.declared.journal.JobRecord.{JobRecord}
-use Rattle.drm_core.specs.declared.table.RingRow.{RingRow}
+use Rattle.drm_core.specs.declared.table.RingJobs.{RingJobs}
 use Rattle.drm_core.specs.declared.table.Table.{Table}
 use Rattle.drm_core.specs.declared.event.Answer.TheVariants as answer
 use Rattle.drm_core.specs.Journal.{changed_at}
@@ -31,12 +31,12 @@ use Rattle.drm_core.specs.Choice.{choice}
 use Rattle.drm_core.specs.Ring.{credits_of, free_credits, credit_limit_of, pending_of, is_guilty, ring_changed}
 use Rattle.drm_core.specs.Refusals.{pick_refusal}
 use Rattle.drm_core.specs.Outcomes.{pick_outcome, picked_device}
-use Rattle.drm_core.specs.Tables.{state_of, fence_of, ring_of_row, put_in, IsWhole}
-use Rattle.drm_core.proofs.Records.{changed_is}
+use Rattle.drm_core.specs.Tables.{state_of, fence_state_of, ring_state_of, put_in, IsWhole}
+use Rattle.drm_core.proofs.Records.{changed_is, at_index}
 use Rattle.drm_core.proofs.Pending.{contains_at}
 use Rattle.drm_core.proofs.DeviceSteps.{IsKept, pick_kept, not_when}
 use Rattle.drm_core.proofs.ChoiceIs.{IsChosen}
-use Rattle.drm_core.proofs.Candidates.{at_index, head_number}
+use Rattle.drm_core.proofs.Candidates.{head_number}
 use Rattle.drm_core.proofs.TableFacts.{entity_there, rings_tie, rooms_kept, row_pending, whole_kept}
 use Rattle.drm_core.proofs.CallsAre.{Left, pick_may, pick_takes}
 use Rattle.drm_core.proofs.Queues.{head_numbered, stands_popped, IsPopped}
@@ -131,7 +131,7 @@ each_counts t ring w there k f at =
     subst (λ o. 0 < option_map_or (λ (x : JobRecord). min x.job.credits (credit_limit_of (state_of t) ring)) o 0) (sym r.1) (omega (arith, limit, credits))
 
 -- one more job that fits finds room
-pub room_for_one : (t : Table) (ring f : ℕ) (r : JobRecord) (row : RingRow) → IsWhole t → ring < length t.spec.rings → slice_get t.journal.items f ≡ Some r
+pub room_for_one : (t : Table) (ring f : ℕ) (r : JobRecord) (row : RingJobs) → IsWhole t → ring < length t.spec.rings → slice_get t.journal.items f ≡ Some r
     → slice_get t.rings.items ring ≡ Some row → nat_lt (free_credits (state_of t) ring) (credits_of (state_of t) ring f) ≡ false
     → vec_len row.pending < vec_capacity row.pending
 room_for_one t ring f r row w there at at_row fits =
@@ -177,15 +177,15 @@ taken_popped t ring f r entity skipped items new result w chosen taken given som
     (stands_popped t.journal.items t.entities new entity f r (begin r) result chosen.at taken.of_entity chosen.queued refl taken.head taken.there some none w.queues)
 
 -- the tables after the pick
-abbrev pub picked_tables : Table → ℕ → Vec JobRecord Global → Fences → RingRow → EntityRows → Table
+abbrev pub picked_tables : Table → ℕ → Vec JobRecord Global → Fences → RingJobs → EntityRows → Table
 picked_tables t ring journal fences row entities = record t { journal = journal; fences = fences; rings = with_item t.rings ring row; entities = entities }
 
-pub pick_done : (t : Table) (ring now f : ℕ) (r : JobRecord) (skipped : Bool) (journal : Vec JobRecord Global) (fences : Fences) (row new : RingRow) (entities : EntityRows) → IsWhole t
+pub pick_done : (t : Table) (ring now f : ℕ) (r : JobRecord) (skipped : Bool) (journal : Vec JobRecord Global) (fences : Fences) (row new : RingJobs) (entities : EntityRows) → IsWhole t
     → ring < length t.spec.rings → choice (state_of t) ring ≡ Some f → nat_lt (free_credits (state_of t) ring) (credits_of (state_of t) ring f) ≡ false
     → slice_get t.journal.items f ≡ Some r → skipped ≡ is_guilty (state_of t) r.job.entity
     → journal.items ≡ changed_at t.journal.items f (λ r. record r { phase = Scheduled; is_skipped = skipped || r.is_skipped })
-    → fences.list ≡ map fence_of journal.items → vec_capacity journal ≡ vec_capacity t.journal → fences.places ≡ t.fences.places
-    → slice_get t.rings.items ring ≡ Some row → ring_of_row new ≡ put_in f now (ring_of_row row) → vec_capacity new.pending ≡ vec_capacity row.pending → IsPopped journal.items t.entities entities
+    → fences.list ≡ map fence_state_of journal.items → vec_capacity journal ≡ vec_capacity t.journal → fences.places ≡ t.fences.places
+    → slice_get t.rings.items ring ≡ Some row → ring_state_of new ≡ put_in f now (ring_state_of row) → vec_capacity new.pending ≡ vec_capacity row.pending → IsPopped journal.items t.entities entities
     → (pick_refusal (state_of t) ring ≡ None)
     × (pick_outcome (state_of t) ring now ≡ (answer.Picked f skipped, state_of (picked_tables t ring journal fences new entities)))
     × IsWhole (picked_tables t ring journal fences new entities)
@@ -202,7 +202,7 @@ pick_done t ring now f r skipped journal fences row new entities w there is fits
     ∙ (ap (λ b. let q : Left = (answer.Picked f b, picked_device d ring now f) in q) (sym guilt)
     ∙ (ap (λ j. let q : Left = (answer.Picked f skipped, record d { journal = j; rings = ring_changed d.rings ring (put_in f now) }) in q) (sym given)
     ∙ (ap (λ rs. let q : Left = (answer.Picked f skipped, record d { journal = journal.items; rings = rs }) in q) (sym rings)
-    ∙ ap (λ es. let q : Left = (answer.Picked f skipped, record d { journal = journal.items; rings = map ring_of_row (set t.rings.items ring new); entities = es }) in q) (sym left_queue.marks_same)))) in
+    ∙ ap (λ es. let q : Left = (answer.Picked f skipped, record d { journal = journal.items; rings = map ring_state_of (set t.rings.items ring new); entities = es }) in q) (sym left_queue.marks_same)))) in
     let may = pick_may d ring f is fits in (
       may,
       takes,

@@ -18,7 +18,7 @@ use Rattle.drm_entity.specs.Rows.{EntityRow, EntityRows, queue_at, row_changed, 
 use Rattle.drm_core.specs.declared.event.Answer.TheVariants as answer
 use Rattle.drm_core.specs.declared.event.Refusal.TheVariants.{Nothing, Waits}
 use Rattle.drm_core.specs.declared.journal.JobRecord.{JobRecord}
-use Rattle.drm_core.specs.declared.table.RingRow.{RingRow}
+use Rattle.drm_core.specs.declared.table.RingJobs.{RingJobs}
 use Rattle.drm_core.specs.declared.table.Table.{Table}
 use Rattle.drm_core.specs.State.{EntityState}
 use Rattle.drm_core.specs.Arming.{ring_of}
@@ -31,14 +31,14 @@ use Rattle.drm_core.specs.Plain.{marks, QueuesStand}
 use Rattle.drm_core.specs.Ring.{is_stopped, pending_of}
 use Rattle.drm_core.specs.Lawful.{IsPendingList}
 use Rattle.drm_core.specs.Stopping.{may_end_after}
-use Rattle.drm_core.specs.Tables.{state_of, fence_of, IsWhole}
+use Rattle.drm_core.specs.Tables.{state_of, fence_state_of, IsWhole}
 use Rattle.drm_core.proofs.CallsAre.{Left}
-use Rattle.drm_core.proofs.Candidates.{at_index, head_number, head_found, queued_goes_on}
+use Rattle.drm_core.proofs.Candidates.{head_number, head_found, queued_goes_on}
 use Rattle.drm_core.proofs.ChoiceIs.{get_numbered, get_take, all_of_filter, in_filter, head_of_queue}
 use Rattle.drm_core.proofs.DeviceSteps.{IsKept, cancel_kept, reap_kept}
 use Rattle.drm_core.proofs.LatestStands.{all_at, all_from, same_test, in_front, latest_stand, ended_goes_down}
 use Rattle.drm_core.proofs.Pending.{contains_at, place_of}
-use Rattle.drm_core.proofs.Records.{stands_within, at_test, changed_is}
+use Rattle.drm_core.proofs.Records.{stands_within, at_test, changed_is, at_index}
 use Rattle.drm_core.proofs.PickDone.{ring_there}
 use Rattle.drm_core.proofs.TableFacts.{entity_row_there, row_found, row_pending, whole_kept}
 use Rattle.drm_core.proofs.Queues.{IsFront, front_is, marks_changed, stands_marked, stands_popped, IsPopped}
@@ -170,7 +170,7 @@ must_wait_is t entity number ring r deps w front is there ring_is at_deps =
     ∙ ap (λ b. list_all (λ (d : ℕ × ℕ). is_at js d.1 (λ r. has_ended r.phase)) deps && b) others))
 
 -- whether a reap is refused, by the dependencies that are kept for the front of the queue
-pub reap_refused : (t : Table) (entity number ring : ℕ) (row : RingRow) (deps : List (ℕ × ℕ)) (may : Bool) → IsWhole t → is_stopped (state_of t) entity ≡ true
+pub reap_refused : (t : Table) (entity number ring : ℕ) (row : RingJobs) (deps : List (ℕ × ℕ)) (may : Bool) → IsWhole t → is_stopped (state_of t) entity ≡ true
     → head_number t.journal.items entity ≡ Some number → ring < length t.spec.rings → ring ≡ ring_of (state_of t) entity → row ≡ get_or t.rings.items ring row
     → deps ≡ get_or t.waits.items number deps → may_end_after t.journal.items deps row.pending.items entity ≡ may
     → reap_refusal (state_of t) entity ≡ first_of (when (not may) Waits ∷ [])
@@ -207,7 +207,7 @@ front_popped t entity number items new result w there is ended some none =
 -- a reap that is not refused
 pub reap_done : (t : Table) (entity number : ℕ) (journal : Vec JobRecord Global) (fences : Fences) (entities : EntityRows) → IsWhole t
     → head_number t.journal.items entity ≡ Some number → reap_refusal (state_of t) entity ≡ None
-    → journal.items ≡ ended_at t.journal.items number outcome.Stopped → fences.list ≡ map fence_of journal.items
+    → journal.items ≡ ended_at t.journal.items number outcome.Stopped → fences.list ≡ map fence_state_of journal.items
     → vec_capacity journal ≡ vec_capacity t.journal → fences.places ≡ t.fences.places → IsPopped journal.items t.entities entities
     → (reap_outcome (state_of t) entity ≡ (answer.Reaped number, state_of (record t { journal = journal; fences = fences; entities = entities })))
     × IsWhole (record t { journal = journal; fences = fences; entities = entities })

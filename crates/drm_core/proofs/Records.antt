@@ -1,7 +1,8 @@
 -- Records of a journal, and their turns.
-use Rattle.std.proofs.Common.{◌≡◌, ℕ, zero, suc, ◌<◌, Bool, false, List, [], ◌∷◌, length, map, set, Some, refl, ap, ◌∙◌, arith, slice_get}
+use Rattle.std.proofs.Common.{◌≡◌, ℕ, zero, suc, ◌<◌, Bool, false, List, [], ◌∷◌, length, map, set, get_or, Some, refl, sym, ap, ◌∙◌, arith, slice_get}
 use Rattle.std.specs.Option.{option_map_or}
 use Rattle.std.proofs.lemmas.List.{map-set}
+use Rattle.std.proofs.lemmas.Option.{slice_get-get_or}
 use Rattle.drm_serial.specs.Serial.{Turn}
 use Rattle.drm_core.specs.declared.journal.JobRecord.{JobRecord}
 use Rattle.drm_core.specs.Journal.{turns, is_at, changed_at}
@@ -43,3 +44,7 @@ at_test journal f r test is = ap (λ o. option_map_or test o false) is
 pub turns_changed : (journal : List JobRecord) (f : ℕ) (r : JobRecord) (change : JobRecord → JobRecord) → slice_get journal f ≡ Some r
     → turns (changed_at journal f change) ≡ set (turns journal) f (turn_of (change r))
 turns_changed journal f r change is = ap turns (changed_is journal f r change is) ∙ map-set turn_of journal f (change r)
+
+-- what an index gave stands there
+pub at_index : {X : Type 0} (xs : List X) (i : ℕ) (x : X) → x ≡ get_or xs i x → i < length xs → slice_get xs i ≡ Some x
+at_index xs i x is lt = slice_get-get_or xs i x lt ∙ ap (λ z. Some z) (sym is)

@@ -7,7 +7,7 @@ use Rattle.drm_types.specs.Usages.{wanted_usage}
 use Rattle.drm_job.specs.declared.Draft.{Draft}
 use Rattle.drm_resv.specs.Entries.{entries_of}
 use Rattle.drm_resv.specs.Noting.{all_noted}
-use Rattle.drm_core.proofs.Candidates.{at_index}
+use Rattle.drm_core.proofs.Records.{at_index}
 use Rattle.drm_core.proofs.ChoiceIs.{get_take}
 use Rattle.std.specs.Prelude.{IsTrue}
 use Rattle.std.proofs.lemmas.List.{length-set}

@@ -10,8 +10,8 @@ use Rattle.drm_core.specs.declared.table.Table.{Table}
 use Rattle.drm_core.specs.declared.event.Answer.TheVariants as answer
 use Rattle.drm_core.specs.Ring.{current_of}
 use Rattle.drm_core.specs.Outcomes.{must_stall, step_outcome}
-use Rattle.drm_core.specs.Tables.{state_of, fence_of, IsWhole}
-use Rattle.drm_core.proofs.Candidates.{at_index}
+use Rattle.drm_core.specs.Tables.{state_of, fence_state_of, IsWhole}
+use Rattle.drm_core.proofs.Records.{at_index}
 use Rattle.drm_core.proofs.DeviceSteps.{IsKept, step_kept}
 use Rattle.drm_core.proofs.TableFacts.{IsRunning, fence_tie, whole_kept}
 use Rattle.drm_core.proofs.CallsAre.{Left, step_runs}
@@ -32,9 +32,9 @@ step_done t ring f x y p memory fences w there is run x_is next going ran sizes 
     let left_by : JobRecord → Left = λ z. (answer.Ran f y.ran, record (state_of t) { memory = memory; journal = set t.journal.items f (record z { ran = y.ran + 1 }) }) in
     let outcome : step_outcome (state_of t) ring ≡ left_by x =
     subst (λ z. step_outcome (state_of t) ring ≡ left_by z) same (step_runs (state_of t) ring f y p memory is run.current.at next going ran) in
-    let tie : fences.list ≡ map fence_of (set t.journal.items f (record x { ran = y.ran + 1 })) =
+    let tie : fences.list ≡ map fence_state_of (set t.journal.items f (record x { ran = y.ran + 1 })) =
     list ∙ fence_tie t.journal.items t.fences.list f y (record x { ran = y.ran + 1 }) (λ s. record s { ran = s.ran + 1 }) w.fences run.current.at
-    (ap (λ (z : JobRecord). fence_of (record z { ran = y.ran + 1 })) same) in (
+    (ap (λ (z : JobRecord). fence_state_of (record z { ran = y.ran + 1 })) same) in (
       outcome,
       whole_kept t (ran_tables t f x y.ran memory fences) w
           (subst (λ (q : Left). IsKept (state_of t) q.1) outcome (step_kept (state_of t) ring w.steady there))

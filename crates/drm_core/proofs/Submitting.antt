@@ -1,10 +1,10 @@
 -- What a submission and a plan find: room, dependencies, and plans of other contexts that stand.
 use Rattle.std.proofs.Common.{◌≡◌, ℕ, ◌<◌, true, false, ◌==◌, List, [], ◌∷◌, length, map, Some, None, Option, Result, Ok, Err, refl, sym, ap, subst, ◌∙◌, inl, inr, slice_get, get_or}
 use Rattle.std.specs.declared.alloc.Global.{Global}
-use Rattle.std.specs.Prelude.{Vec, vec_len, OnOk, is_err, IsTrue, option_map, option_and_then, find}
+use Rattle.std.specs.Prelude.{Vec, vec_len, OnOk, is_err, is_some, IsTrue, option_map, option_and_then, find}
 use Rattle.std.specs.Option.{option_map_or}
 use Rattle.std.specs.Vec.{with_items}
-use Rattle.std.proofs.lemmas.Bool.{eq-eqb, both_ways}
+use Rattle.std.proofs.lemmas.Bool.{both_ways}
 use Rattle.std.proofs.lemmas.Option.{slice_get_within, slice_get-get_or}
 use Rattle.std.proofs.lemmas.List.{length-map, with_items_is}
 use Rattle.drm_types.specs.declared.access.Access.{Access}
@@ -29,8 +29,8 @@ use Rattle.drm_core.specs.Outcomes.{outcome_of_event, armed_core}
 use Rattle.drm_core.specs.Step.{unless_refused, reply, Step}
 use Rattle.drm_core.specs.Steady.{IsSteadyCore}
 use Rattle.drm_core.specs.Reservation.{usage_at, Fits}
-use Rattle.drm_core.specs.Cores.{core_state, plan_at, PlanStands, IsCore}
-use Rattle.drm_core.specs.Planning.{MoreRoom, HasRoomFor, AreRoomy, AreApart, is_held_in}
+use Rattle.drm_core.specs.Cores.{core_state, planned_by, PlanStands, IsCore}
+use Rattle.drm_core.specs.Planning.{MoreRoom, HasRoomFor, AreRoomy, ShareNoBuffer, is_held_in}
 use Rattle.drm_core.specs.Tables.{state_of}
 use Rattle.drm_core.specs.declared.table.Table.{Table}
 use Rattle.drm_core.specs.declared.cores.ContextRow.{ContextRow}
@@ -119,13 +119,13 @@ roomy_from job rs has k r usage at is =
 pub held_by : (s : CoreState) (ctx buffer : ℕ) → holds s ctx buffer ≡ true → is_held s buffer ≡ true
 held_by s ctx buffer is = by_holder (option_and_then (λ o. o) (slice_get s.holders buffer)) is
   where
-    by_holder : (o : Option ℕ) → option_map_or (λ h. h == ctx) o false ≡ true → option_map_or (λ h. h == h) o false ≡ true
+    by_holder : (o : Option ℕ) → option_map_or (λ h. h == ctx) o false ≡ true → is_some o ≡ true
     by_holder None none = none
-    by_holder (Some h) some = eq-eqb h h refl
+    by_holder (Some h) some = refl
 
 -- a plan shares no buffer with a job whose buffers nobody holds
 pub free_apart : (c : CoreTable) (job : Draft) → IsCore c → find (is_held (core_state c)) (buffers_of job) ≡ None
-    → (ctx : ℕ) (other : Plan) → plan_at c ctx ≡ Some other → AreApart job other.job
+    → (ctx : ℕ) (other : Plan) → planned_by c ctx ≡ Some other → ShareNoBuffer job other.job
 free_apart c job core none ctx other is i j d e at_d at_e same =
     let s = core_state c in
     let free = each_fails (is_held s) (buffers_of job) i d.0 none (to_map (λ (x : ℕ × Access). x.0) job.declared i d at_d) in
@@ -194,5 +194,5 @@ submit_armed c n m draft job f none is same table job_is late number armed =
     ∙ sym (reply_is (core_state c) (event.Submit draft) (submit_early (core_state c) draft None none is) may)))
 
 -- the plans are those of the state before, where nothing but the room changed
-pub plans_same : (c n : CoreTable) (ctx : ℕ) (other : Plan) → n.contexts ≡ c.contexts → plan_at n ctx ≡ Some other → plan_at c ctx ≡ Some other
+pub plans_same : (c n : CoreTable) (ctx : ℕ) (other : Plan) → n.contexts ≡ c.contexts → planned_by n ctx ≡ Some other → planned_by c ctx ≡ Some other
 plans_same c n ctx other same is = subst (λ cs. option_map_or (λ o. option_map_or (λ (row : ContextRow). row.plan) o None) (slice_get cs.items ctx) None ≡ Some other) same is

@@ -4,14 +4,14 @@ use Rattle.std.specs.Option.{option_map_or}
 use Rattle.drm_types.specs.declared.spec.RingSpec.{RingSpec}
 use Rattle.drm_types.specs.declared.spec.DeviceSpec.{DeviceSpec}
 use Rattle.drm_types.specs.Limits.{spec_fault}
-use Rattle.drm_core.specs.declared.table.RingRow.{RingRow}
+use Rattle.drm_core.specs.declared.table.RingJobs.{RingJobs}
 use Rattle.drm_core.specs.declared.machine.BuildError.{BuildError}
 use Rattle.drm_core.specs.declared.machine.BuildError.TheVariants.{Spec, Memory}
 
 -- each ring has room for as many pending jobs as its credits allow
-abbrev pub HaveRoomFor : List RingSpec → List RingRow → Type 0
+abbrev pub HaveRoomFor : List RingSpec → List RingJobs → Type 0
 HaveRoomFor specs rows =
-    (ring : ℕ) (row : RingRow) → slice_get rows ring ≡ Some row
+    (ring : ℕ) (row : RingJobs) → slice_get rows ring ≡ Some row
     → option_map_or (λ spec. spec.credit_limit) (slice_get specs ring) 0 ≤ vec_capacity row.pending
 
 -- the refusal names the first part of the description that is out of its limits, and memory is refused only where there is none

@@ -41,8 +41,8 @@ pub record DepsCover (device : DeviceState) (job : Draft) (deps : List (ℕ × �
   pub of_jobs : All (MeetsPlan device.journal job) deps
 
 -- the plan of a context
-abbrev pub plan_at : CoreTable → ℕ → Option Plan
-plan_at c ctx = option_map_or (λ o. option_map_or (λ (row : ContextRow). row.plan) o None) (slice_get c.contexts.items ctx) None
+abbrev pub planned_by : CoreTable → ℕ → Option Plan
+planned_by c ctx = option_map_or (λ o. option_map_or (λ (row : ContextRow). row.plan) o None) (slice_get c.contexts.items ctx) None
 
 -- each plan covers, its context holds all that it declares, and these reservations have room
 pub record PlanStands (c : CoreTable) (ctx : ℕ) (plan : Plan) : Type 0 where
@@ -54,7 +54,7 @@ pub record PlanStands (c : CoreTable) (ctx : ℕ) (plan : Plan) : Type 0 where
 pub record IsCore (c : CoreTable) : Type 0 where
   pub steady : IsSteadyCore (core_state c)
   pub whole : IsWhole c.table
-  pub plans : (ctx : ℕ) (plan : Plan) → plan_at c ctx ≡ Some plan → PlanStands c ctx plan
+  pub plans : (ctx : ℕ) (plan : Plan) → planned_by c ctx ≡ Some plan → PlanStands c ctx plan
   pub reservation_count : length c.reservations.items ≡ length c.table.spec.buffers
   pub holder_count : length c.holders.items ≡ length c.table.spec.buffers
   pub context_count : length c.contexts.items ≡ 64

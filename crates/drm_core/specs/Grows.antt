@@ -31,12 +31,12 @@ pub record EntityGrows (old new : EntityState) : Type 0 where
   pub guilty : IsTrue old.is_guilty → IsTrue new.is_guilty
 
 -- each element of a list stands in the other at its place, related to it
-abbrev pub Each : {X : Type 0} → (X → X → Type 0) → List X → List X → Type 0
-Each {X} Related olds news =
+abbrev pub EachInPlace : {X : Type 0} → (X → X → Type 0) → List X → List X → Type 0
+EachInPlace {X} Related olds news =
     (i : ℕ) (old : X) → slice_get olds i ≡ Some old → (new : X) × (slice_get news i ≡ Some new) × Related old new
 
 -- how a device may change
 pub record Grows (old new : DeviceState) : Type 0 where
   pub spec : new.spec ≡ old.spec
-  pub journal : Each RecordGrows old.journal new.journal
-  pub entities : Each EntityGrows old.entities new.entities
+  pub journal : EachInPlace RecordGrows old.journal new.journal
+  pub entities : EachInPlace EntityGrows old.entities new.entities

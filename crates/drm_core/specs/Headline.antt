@@ -15,13 +15,14 @@ use Rattle.drm_core.specs.declared.event.Answer.TheVariants as answer
 use Rattle.drm_core.specs.declared.event.Event.{Event}
 use Rattle.drm_core.specs.declared.event.Event.TheVariants as event
 use Rattle.drm_core.specs.declared.event.Refusal.{Refusal}
-use Rattle.drm_core.specs.declared.event.Refusal.TheVariants.{Memory}
+use Rattle.drm_core.specs.declared.event.Refusal.TheVariants.{Memory, Idle}
 use Rattle.drm_core.specs.declared.journal.JobRecord.{JobRecord}
 use Rattle.drm_core.specs.State.{CoreState, opened}
 use Rattle.drm_core.specs.Journal.{turns, is_over}
 use Rattle.drm_core.specs.Order.{comes_after, HasPlace}
 use Rattle.drm_core.specs.Reservation.{usage_at}
 use Rattle.drm_core.specs.Ring.{used_credits}
+use Rattle.drm_core.specs.Chosen.{IsLeast, NoneMayBegin}
 use Rattle.drm_core.specs.Context.{holds}
 use Rattle.drm_core.specs.Names.{names_exist}
 use Rattle.drm_core.specs.Refusals.{plan_of}
@@ -128,6 +129,11 @@ pub record Promises (spec : DeviceSpec) (state : CoreState) : Type 0 where
       → (fence : ℕ) (old : JobRecord) → IsArmed state fence old → (new : JobRecord) × IsArmed next fence new × StaysFinal old new
   -- a ring's pending jobs count no more credits than its limit
   pub credits : (ring : ℕ) (limits : RingSpec) → slice_get spec.rings ring ≡ Some limits → used_credits state.device ring ≤ limits.credit_limit
+  -- a pick gives the ring the least of all jobs that may begin on it, by the priority of the entity and then by the number
+  pub picks : (ring now fence : ℕ) (skipped : Bool) (next : CoreState) → Step state (event.Pick ring now) (answer.Picked fence skipped) next
+      → IsLeast state.device ring fence
+  -- and finds the ring idle only where no job may begin on it
+  pub idles : (ring now : ℕ) (next : CoreState) → Step state (event.Pick ring now) (answer.Refused Idle) next → NoneMayBegin state.device ring
   -- the jobs of an entity begin in arming order
   pub begin_order : (i j : ℕ) (earlier later : JobRecord) → AreArmed state i earlier j later → earlier.job.entity ≡ later.job.entity
       → IsFalse (is_queued later.phase) → IsFalse (is_queued earlier.phase)

@@ -1,21 +1,25 @@
+-- The theorem: what the laws and the contracts of a core say, whatever code keeps it.
 pub mod State
 pub mod Journal
 pub mod Order
-pub mod Reservation
 pub mod Choice
 pub mod Ring
+pub mod Reservation
 pub mod Arming
 pub mod Context
 pub mod Refusals
 pub mod Outcomes
 pub mod Step
+pub mod Names
+pub mod Run
 pub mod Lawful
 pub mod Grows
-pub mod Run
-pub mod Names
 pub mod Steady
+pub mod Chosen
+pub mod Headline
+-- What helps the bodies, and the words of a device's calls: no promise of a core rests on these.
 pub mod Waits
-pub mod Keys
+pub mod Candidates
 pub mod Plain
 pub mod Answers
 pub mod Tables
@@ -25,5 +29,4 @@ pub mod Stopping
 pub mod Building
 pub mod Planning
 pub mod Claims
-pub mod Headline
 pub mod Held

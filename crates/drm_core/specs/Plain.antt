@@ -4,11 +4,11 @@ use Rattle.drm_types.specs.declared.spec.DeviceSpec.{DeviceSpec}
 use Rattle.drm_fence.specs.Phases.{has_ended}
 use Rattle.drm_entity.specs.Rows.{EntityRow, EntityRows, queue_at}
 use Rattle.drm_core.specs.declared.journal.JobRecord.{JobRecord}
-use Rattle.drm_core.specs.declared.choice.Key.{Key}
+use Rattle.drm_core.specs.declared.choice.Candidate.{Candidate}
 use Rattle.drm_core.specs.State.{EntityState, DeviceState}
 use Rattle.drm_core.specs.Order.{is_ready}
 use Rattle.drm_core.specs.Choice.{queue_of}
-use Rattle.drm_core.specs.Keys.{IsHeadKey, comes_before}
+use Rattle.drm_core.specs.Candidates.{IsHeadCandidate, goes_first}
 use Rattle.drm_core.specs.Waits.{DepsStand}
 
 -- the part of a device that decides which job a ring takes next
@@ -40,20 +40,13 @@ pub record WaitsStand (journal : List JobRecord) (waits : List (List (ℕ × ℕ
 abbrev pub IsReady : DeviceState → ℕ → Bool → Type 0
 IsReady device number answer = (r : JobRecord) → slice_get device.journal number ≡ Some r → is_ready device.journal number r ≡ answer
 
--- the entity's head with its key, where it may begin on the ring and is ready
-abbrev pub IsCandidate : DeviceState → ℕ → ℕ → Option Key → Type 0
-IsCandidate device ring entity None = (key : Key) → IsHeadKey device ring entity key → IsReady device key.age false
-IsCandidate device ring entity (Some key) = IsHeadKey device ring entity key × IsReady device key.age true
+-- the entity's head, where it may begin on the ring and is ready
+abbrev pub IsCandidate : DeviceState → ℕ → ℕ → Option Candidate → Type 0
+IsCandidate device ring entity None = (key : Candidate) → IsHeadCandidate device ring entity key → IsReady device key.number false
+IsCandidate device ring entity (Some key) = IsHeadCandidate device ring entity key × IsReady device key.number true
 
--- the key that comes before, the old one where they are alike
-abbrev pub better_key : Option Key → Option Key → Option Key
-better_key None new = new
-better_key (Some old) None = Some old
-better_key (Some old) (Some key) = if comes_before key old then Some key else Some old
-
--- the best of the first entities
-abbrev pub IsBest : DeviceState → ℕ → ℕ → Option Key → Type 0
-IsBest device ring count None = (other : ℕ) (key : Key) → other < count → IsHeadKey device ring other key → IsReady device key.age false
-IsBest device ring count (Some best) =
-    ((entity : ℕ) × IsHeadKey device ring entity best) × IsReady device best.age true
-    × ((other : ℕ) (key : Key) → other < count → IsHeadKey device ring other key → IsTrue (comes_before key best) → IsReady device key.age false)
+-- the candidate that goes first, the old one where they are alike
+abbrev pub better_candidate : Option Candidate → Option Candidate → Option Candidate
+better_candidate None new = new
+better_candidate (Some old) None = Some old
+better_candidate (Some old) (Some key) = if goes_first key old then Some key else Some old

@@ -1,5 +1,5 @@
 -- What a plan takes from the reservations that its context holds.
-use Rattle.std.specs.Prelude.{◌≡◌, ℕ, Bool, false, ◌==◌, IsTrue, List, [], length, fold, Some, None, Option, option_and_then, slice_get}
+use Rattle.std.specs.Prelude.{◌≡◌, ℕ, Bool, false, ◌==◌, IsTrue, List, [], length, fold, Some, None, Option, is_some, option_and_then, slice_get}
 use Rattle.std.specs.Option.{option_map_or}
 use Rattle.drm_types.specs.declared.access.Access.{Access}
 use Rattle.drm_types.specs.Usages.{wanted_usage}
@@ -12,7 +12,7 @@ use Rattle.drm_core.specs.Reservation.{usage_at}
 
 -- whether a context holds the buffer
 abbrev pub is_held_in : List (Option ℕ) → ℕ → Bool
-is_held_in holders buffer = option_map_or (λ h. h == h) (option_and_then (λ o. o) (slice_get holders buffer)) false
+is_held_in holders buffer = is_some (option_and_then (λ o. o) (slice_get holders buffer))
 
 -- whether this context holds it
 abbrev pub holds_in : List (Option ℕ) → ℕ → ℕ → Bool
@@ -61,6 +61,6 @@ pub record HeldHaveUses (ended : ℕ → Bool) (fence : ℕ) (job : Draft) (old 
       → (m : ℕ × WithRoom) × (slice_get new k ≡ Some m) × (m.0 ≡ h.0) × HasUse ended fence job h.0 h.1 m.1
 
 -- the two jobs declare no buffer in common
-abbrev pub AreApart : Draft → Draft → Type 0
-AreApart job other =
+abbrev pub ShareNoBuffer : Draft → Draft → Type 0
+ShareNoBuffer job other =
     (i j : ℕ) (d e : ℕ × Access) → slice_get job.declared i ≡ Some d → slice_get other.declared j ≡ Some e → d.0 ≡ e.0 → ⊥

@@ -1,5 +1,5 @@
 -- Why an event is refused: of the causes, in their order, the first that applies.
-use Rattle.std.specs.Prelude.{ℕ, ◌^◌, Bool, true, false, not, ◌||◌, ◌==◌, nat_lt, nat_le, is_none, List, [], ◌∷◌, ◌++◌, length, take, Option, Some, None, find, option_map, slice_get}
+use Rattle.std.specs.Prelude.{ℕ, ◌^◌, Bool, true, false, not, ◌||◌, ◌==◌, nat_lt, nat_le, is_some, is_none, List, [], ◌∷◌, ◌++◌, length, take, Option, Some, None, find, option_map, slice_get}
 use Rattle.std.specs.Option.{option_map_or}
 use Rattle.std.specs.List.{filter}
 use Rattle.drm_types.specs.Firsts.{when, first_of}
@@ -93,7 +93,7 @@ abbrev pub early_refusal : CoreState → Event → Option Refusal
 early_refusal s (event.Submit draft) =
     first_of (option_map Faulty (job_fault s.device.spec draft) ∷ option_map Held (find (is_held s) (buffers_of draft)) ∷ [])
 early_refusal s (event.Begin ctx) =
-    first_of (when (not (is_none (context_of s ctx))) CtxBusy ∷ when (s.next_ticket == 2 ^ 63) TicketsOut ∷ [])
+    first_of (when (is_some (context_of s ctx)) CtxBusy ∷ when (s.next_ticket == 2 ^ 63) TicketsOut ∷ [])
 early_refusal s (event.Try ctx buffer) =
     first_of (idle_refusal s ctx ∷ sealed_refusal s ctx ∷ when (holds s ctx buffer) Already ∷ [])
 early_refusal s (event.Done ctx) = first_of (idle_refusal s ctx ∷ sealed_refusal s ctx ∷ [])

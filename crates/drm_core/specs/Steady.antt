@@ -1,5 +1,5 @@
 -- What holds of every device beside its laws, and from which they follow at the next event.
-use Rattle.std.specs.Prelude.{◌≡◌, ℕ, ◌<◌, ◌⊎◌, IsTrue, IsFalse, Bool, not, List, length, Option, Some, is_none, option_and_then, slice_get, Contains}
+use Rattle.std.specs.Prelude.{◌≡◌, ℕ, ◌<◌, ◌⊎◌, IsTrue, IsFalse, Bool, List, length, Option, Some, is_some, option_and_then, slice_get, Contains}
 use Rattle.drm_core.specs.declared.journal.JobRecord.{JobRecord}
 use Rattle.drm_core.specs.State.{DeviceState, Context, CoreState}
 use Rattle.drm_resv.specs.Reservation.{Reservation}
@@ -49,7 +49,7 @@ PlansHeld state =
 
 -- whether the context has begun
 abbrev pub begun_in : List (Option Context) → ℕ → Bool
-begun_in contexts ctx = not (is_none (option_and_then (λ o. o) (slice_get contexts ctx)))
+begun_in contexts ctx = is_some (option_and_then (λ o. o) (slice_get contexts ctx))
 
 -- who holds a buffer has begun
 abbrev pub HoldersBegun : CoreState → Type 0

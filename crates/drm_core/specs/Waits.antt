@@ -1,10 +1,9 @@
 -- What an armed job keeps of the fences that it waits for: the latest of each entity.
-use Rattle.std.specs.Prelude.{◌≡◌, ℕ, ◌<◌, ◌≤◌, not, IsTrue, IsFalse, List, length, filter, Some, slice_get, Contains, All}
+use Rattle.std.specs.Prelude.{◌≡◌, ℕ, ◌<◌, ◌≤◌, IsTrue, IsFalse, List, Some, slice_get, Contains, All}
 use Rattle.drm_fence.specs.Phases.{has_ended}
 use Rattle.drm_job.specs.declared.Draft.{Draft}
 use Rattle.drm_core.specs.declared.journal.JobRecord.{JobRecord}
-use Rattle.drm_core.specs.Journal.{is_at}
-use Rattle.drm_core.specs.Order.{comes_after, is_met}
+use Rattle.drm_core.specs.Order.{comes_after}
 
 -- a dependency (entity, fence) of job j: an earlier job of that entity that it comes after
 abbrev pub IsDependency : List JobRecord → ℕ → Draft → ℕ × ℕ → Type 0
@@ -17,7 +16,3 @@ pub record DepsStand (journal : List JobRecord) (j : ℕ) (job : Draft) (deps : 
   pub covers : (i : ℕ) (x : JobRecord) → i < j → slice_get journal i ≡ Some x → IsTrue (comes_after job i x.job) → IsFalse (has_ended x.phase)
       → (f : ℕ) × Contains deps (x.job.entity, f) × (i ≤ f)
   pub of_jobs : All (IsDependency journal j job) deps
-
--- how many of them are not met for a job of the ring
-abbrev pub unmet_of : List JobRecord → ℕ → List (ℕ × ℕ) → ℕ
-unmet_of journal ring deps = length (filter (λ d. not (is_at journal d.1 (is_met ring))) deps)

@@ -1,12 +1,12 @@
 ghost use Rattle.std.specs.Prelude.{◌≡◌, [], None, IfOk, map, replicate};
 ghost use Rattle.drm_types.specs.Limits.{spec_fault};
 ghost use Rattle.drm_core.specs.State.{opened_device, opened};
-ghost use Rattle.drm_core.specs.Tables.{ring_of_row, state_of, IsWhole};
+ghost use Rattle.drm_core.specs.Tables.{ring_state_of, state_of, IsWhole};
 ghost use Rattle.drm_core.specs.Cores.{core_state, IsCore};
 ghost use Rattle.drm_core.specs.Building.{HaveRoomFor};
 
 use crate::cores::{ContextRow, CoreTable};
-use crate::table::{RingRow, Table};
+use crate::table::{RingJobs, Table};
 use drm_buffer::Memory;
 use drm_entity::Entities;
 use drm_fence::Timeline;
@@ -15,14 +15,14 @@ use drm_types::{CtxId, DeviceSpec, RingSpec};
 use std::alloc::{AllocError, Global};
 
 // A row for each ring: nothing is pending, and there is room for as many jobs as its credits allow.
-fn blank_rings(alloc: Global, specs: &[RingSpec]) -> Result<Vec<RingRow>, AllocError>
-    ensures rows { IfOk result (λ rows. map ring_of_row rows.items ≡ map (λ ring. record { pending = []; since = 0 }) specs.now) }
+fn blank_rings(alloc: Global, specs: &[RingSpec]) -> Result<Vec<RingJobs>, AllocError>
+    ensures rows { IfOk result (λ rows. map ring_state_of rows.items ≡ map (λ ring. record { pending = []; since = 0 }) specs.now) }
     ensures room { IfOk result (λ rows. HaveRoomFor specs.now rows.items) }
 {
     let mut rows = Vec::with_capacity(alloc, specs.len())?;
     for ring in specs {
         let pending = Vec::with_capacity(alloc, ring.credit_limit as usize)?;
-        rows.push(RingRow { pending, since: 0 })?;
+        rows.push(RingJobs { pending, since: 0 })?;
     }
     Ok(rows)
 }

@@ -1,13 +1,13 @@
-ghost use Rattle.std.specs.Prelude.{◌≡◌, ◌<◌, ◌≤◌, length, option_map};
+ghost use Rattle.std.specs.Prelude.{◌≡◌, ◌<◌, ◌≤◌, ◌==◌, ◌&&◌, not, length, option_map, slice_get, IfSome};
 ghost use Rattle.std.specs.List.{list_all};
 ghost use Rattle.drm_fence.specs.Phases.{is_queued as is_queued_phase};
 ghost use Rattle.drm_core.specs.Journal.{is_at};
 ghost use Rattle.drm_core.specs.Order.{is_met as is_met_on};
 ghost use Rattle.drm_core.specs.Choice.{choice};
-ghost use Rattle.drm_core.specs.Keys.{comes_before as comes_before_key};
+ghost use Rattle.drm_core.specs.Candidates.{goes_first as goes_first_of};
 ghost use Rattle.drm_core.specs.State.{DeviceState};
 ghost use Rattle.drm_core.specs.Steady.{IsSteady};
-ghost use Rattle.drm_core.specs.Plain.{tables, marks, WaitsStand, QueuesStand, IsCandidate, better_key};
+ghost use Rattle.drm_core.specs.Plain.{tables, marks, WaitsStand, QueuesStand, IsCandidate, better_candidate};
 
 use crate::journal::JobRecord;
 use drm_entity::Entities;
@@ -16,18 +16,18 @@ use drm_resv::Deps;
 use drm_types::{DeviceSpec, EntityId, FenceId, Priority, RingId};
 
 /// What decides between the heads of two entities: the higher priority, then the lower number.
-#[derive(Clone, Copy, Debug, PartialEq, Eq)]
-pub struct Key {
+#[derive(Clone, Copy)]
+pub struct Candidate {
     pub priority: Priority,
-    pub age: FenceId,
+    pub number: FenceId,
 }
 
-impl Key {
-    fn comes_before(self, other: Key) -> bool
-        ensures { result ≡ comes_before_key self other }
+impl Candidate {
+    fn goes_first(self, other: Candidate) -> bool
+        ensures { result ≡ goes_first_of self other }
     {
         let (rank, other_rank) = (self.priority.rank(), other.priority.rank());
-        rank < other_rank || (rank == other_rank && self.age < other.age)
+        rank < other_rank || (rank == other_rank && self.number < other.number)
     }
 }
 
@@ -63,15 +63,30 @@ fn are_met(journal: &[JobRecord], deps: &Deps, ring: RingId) -> bool
         .all(|dep| is_met(journal, dep.1, ring))
 }
 
-// The entity's head with its key, where it may begin on the ring and is ready.
-fn candidate(
+// Whether the entity's jobs are picked: it is not stopped.
+fn is_active(entities: &Entities, entity: EntityId) -> bool
+    requires { entity < length entities.now.rows }
+    ensures { IfSome (slice_get entities.now.rows entity) (λ row. result ≡ not row.is_stopped) }
+{
+    !entities.is_stopped(entity)
+}
+
+// Whether the job runs on the ring, and all fences that it waits for are met there.
+fn can_run(journal: &[JobRecord], head: &JobRecord, deps: &Deps, ring: RingId) -> bool
+    ensures { result ≡ ((head.now.ring == ring) && list_all (λ d. is_at journal.now d.1 (is_met_on ring)) deps.now) }
+{
+    head.ring == ring && are_met(journal, deps, ring)
+}
+
+// The entity's first queued job, where it may begin on the ring.
+fn candidate_of(
     spec: &DeviceSpec,
     journal: &[JobRecord],
     waits: &[Deps],
     entities: &Entities,
     ring: RingId,
     entity: EntityId,
-) -> Option<Key>
+) -> Option<Candidate>
     requires there { entity < length spec.now.entities }
     requires marked { length entities.now.rows ≡ length spec.now.entities }
     requires steady { (d : DeviceState) × IsSteady d × (tables d.spec d.journal d.entities ≡ tables spec.now journal.now (marks entities.now)) }
@@ -79,19 +94,16 @@ fn candidate(
     requires queues { QueuesStand journal.now entities.now }
     ensures { IsCandidate (tables spec.now journal.now (marks entities.now)) ring entity result }
 {
-    if entities.is_stopped(entity) {
+    if !is_active(entities, entity) {
         return None;
     }
-    let age = entities.head(entity)?;
-    let head = &journal[age as usize];
-    if head.ring != ring {
-        return None;
-    }
-    if !are_met(journal, &waits[age as usize], ring) {
+    let number = entities.head(entity)?;
+    let head = &journal[number as usize];
+    if !can_run(journal, head, &waits[number as usize], ring) {
         return None;
     }
     let priority = spec.entities.as_slice()[entity as usize].priority;
-    Some(Key { priority, age })
+    Some(Candidate { priority, number })
 }
 
 /// The job that the ring takes next: of the entities that may begin on it, the ready head of the highest
@@ -110,29 +122,29 @@ pub(crate) fn choose(
     requires queues { QueuesStand journal.now entities.now }
     ensures { result ≡ choice (tables spec.now journal.now (marks entities.now)) ring }
 {
-    let mut best: Option<Key> = None;
+    let mut best: Option<Candidate> = None;
     for entity in 0..entities.len() {
         best = better(
             best,
-            candidate(spec, journal, waits, entities, ring, entity as u32),
+            candidate_of(spec, journal, waits, entities, ring, entity as u32),
         );
     }
-    age_of(best)
+    number_of(best)
 }
 
-fn age_of(best: Option<Key>) -> Option<FenceId>
-    ensures { result ≡ option_map (λ key. key.age) best }
+fn number_of(best: Option<Candidate>) -> Option<FenceId>
+    ensures { result ≡ option_map (λ key. key.number) best }
 {
-    best.map(|key| key.age)
+    best.map(|key| key.number)
 }
 
 // The one that comes before, the old one where they are alike.
-fn better(best: Option<Key>, new: Option<Key>) -> Option<Key>
-    ensures { result ≡ better_key best new }
+fn better(best: Option<Candidate>, new: Option<Candidate>) -> Option<Candidate>
+    ensures { result ≡ better_candidate best new }
 {
     match (best, new) {
         (Some(old), Some(key)) => {
-            if key.comes_before(old) {
+            if key.goes_first(old) {
                 Some(key)
             } else {
                 Some(old)

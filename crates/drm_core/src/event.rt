@@ -43,7 +43,7 @@ pub enum Event {
 }
 
 /// Why an event was refused. It changed nothing.
-#[derive(Clone, Copy, Debug, PartialEq, Eq)]
+#[derive(Clone, Copy)]
 pub enum Refusal {
     /// The draft is no job of the device.
     Faulty(JobFault),

@@ -1,4 +1,5 @@
 //! Laws over the definitions, on functions that do nothing.
+ghost use Rattle.drm_core.specs.Chosen.{ChoiceIsLeast};
 ghost use Rattle.drm_core.specs.Headline.{Headline};
 ghost use Rattle.drm_core.specs.Run.{EveryRunIsLawful};
 
@@ -12,4 +13,10 @@ pub fn every_run_is_lawful()
 /// `specs/Headline.antt` states each promise by itself.
 pub fn headline()
     ensures { Headline }
+{}
+
+/// The job that a ring takes next is the least that may begin on it, by the priority of its entity and then by its
+/// number, and there is none exactly where none may begin.
+pub fn choice_is_least()
+    ensures { ChoiceIsLeast }
 {}

@@ -28,8 +28,6 @@ mod running;
 mod stopping;
 mod submission;
 mod table;
-#[cfg(test)]
-mod tests;
 
 pub use answer::{Expired, Finished, Picked, Stepped};
 pub use cores::{Held, Plan};
@@ -37,5 +35,5 @@ pub use device_calls::Device;
 pub use drm_fence::Phase;
 pub use event::{Answer, Event, Refusal};
 pub use journal::JobRecord;
-pub use laws::{every_run_is_lawful, headline};
+pub use laws::{choice_is_least, every_run_is_lawful, headline};
 pub use machine::{BuildError, Closed, Core};

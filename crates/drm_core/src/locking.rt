@@ -1,4 +1,4 @@
-ghost use Rattle.std.specs.Prelude.{◌≡◌, ◌==◌, ◌<◌, ◌≤◌, None, is_none, not, true, false, find, position, length, option_map, option_and_then, slice_get, IfSome};
+ghost use Rattle.std.specs.Prelude.{◌≡◌, ◌==◌, ◌^◌, ◌<◌, ◌≤◌, None, is_some, true, false, find, position, length, option_map, option_and_then, slice_get, IfSome};
 ghost use Rattle.std.specs.List.{enumerate_from};
 ghost use Rattle.std.specs.Option.{option_map_or};
 ghost use Rattle.drm_core.specs.declared.event.Event.TheVariants as event;
@@ -13,6 +13,13 @@ use drm_types::{BufferId, CtxId, Ticket};
 
 /// No ticket from this one on is drawn.
 const TICKET_LIMIT: Ticket = 1 << 63;
+
+// Whether no ticket is left to be drawn.
+fn are_out(next_ticket: Ticket) -> bool
+    ensures { result ≡ (next_ticket == 2 ^ 63) }
+{
+    next_ticket == TICKET_LIMIT
+}
 
 // The ticket of the context and whether it is sealed, where it has begun.
 fn row_of(contexts: &[Option<ContextRow>], ctx: CtxId) -> Option<(Ticket, bool)>
@@ -81,7 +88,7 @@ impl CoreTable {
 
     // Whether the context has begun.
     pub(crate) fn has_begun(&self, ctx: CtxId) -> bool
-        ensures { result ≡ not (is_none (context_of (core_state self.now) ctx)) }
+        ensures { result ≡ is_some (context_of (core_state self.now) ctx) }
     {
         self.context(ctx).is_some()
     }
@@ -113,7 +120,7 @@ impl CoreTable {
         if self.has_begun(ctx) {
             return Answer::Refused(Refusal::CtxBusy);
         }
-        if self.next_ticket == TICKET_LIMIT {
+        if are_out(self.next_ticket) {
             return Answer::Refused(Refusal::TicketsOut);
         }
         let ticket = self.next_ticket;
@@ -177,14 +184,15 @@ impl CoreTable {
         ensures reply { reply (core_state self.old) (event.Done ctx) ≡ (result, core_state self.new) }
         ensures core { IsCore self.new }
     {
-        match self.context(ctx) {
-            None => Answer::Refused(Refusal::CtxIdle),
-            Some((_, true)) => Answer::Refused(Refusal::Sealed),
-            Some((_, false)) => {
-                seal(&mut self.contexts[ctx as usize]);
-                Answer::Ok
-            }
+        let (_, is_sealed) = match self.context(ctx) {
+            Some(context) => context,
+            None => return Answer::Refused(Refusal::CtxIdle),
+        };
+        if is_sealed {
+            return Answer::Refused(Refusal::Sealed);
         }
+        seal(&mut self.contexts[ctx as usize]);
+        Answer::Ok
     }
 
     /// The context lets the buffer's reservation go (`ww_mutex_unlock`), and with it what it has planned.

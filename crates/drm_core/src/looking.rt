@@ -5,7 +5,7 @@ ghost use Rattle.drm_core.specs.declared.event.Refusal.TheVariants as refusal;
 ghost use Rattle.drm_core.specs.declared.event.Event.TheVariants as event;
 ghost use Rattle.drm_core.specs.Refusals.{busy_fence};
 ghost use Rattle.drm_core.specs.Step.{reply, Step};
-ghost use Rattle.drm_core.specs.Tables.{fence_of};
+ghost use Rattle.drm_core.specs.Tables.{fence_state_of};
 ghost use Rattle.drm_core.specs.Cores.{core_state, IsCore};
 
 use crate::cores::CoreTable;
@@ -19,7 +19,7 @@ impl Table {
     /// The least fence without an outcome among the reservation's entries of WRITE and stronger: a read of the
     /// buffer has to wait for it.
     pub(crate) fn busy_fence(&self, resv: &Resv) -> Option<FenceId>
-        requires { self.now.fences.list ≡ map fence_of self.now.journal.items }
+        requires { self.now.fences.list ≡ map fence_state_of self.now.journal.items }
         ensures { result ≡ busy_fence self.now.journal.items resv.now.kept }
     {
         resv.least_active(Usage::Write, &self.fences)

@@ -7,7 +7,7 @@ ghost use Rattle.drm_core.specs.Journal.{is_at, changed_at};
 ghost use Rattle.drm_core.specs.Outcomes.{must_stall as must_stall_at, pick_outcome, step_outcome, finish_outcome, ended_at};
 ghost use Rattle.drm_core.specs.Refusals.{pick_refusal, step_refusal, finish_refusal};
 ghost use Rattle.drm_core.specs.Answers.{picked, stepped, finished};
-ghost use Rattle.drm_core.specs.Tables.{state_of, fence_of, ending, IsWhole};
+ghost use Rattle.drm_core.specs.Tables.{state_of, fence_state_of, ending, IsWhole};
 
 use crate::answer::{Finished, Picked, Stepped};
 use crate::choice;
@@ -48,9 +48,9 @@ fn final_outcome(journal: &[JobRecord], fence: FenceId) -> Option<Outcome>
 // The job was given to its ring.
 fn schedule_job(journal: &mut Vec<JobRecord>, fences: &mut Timeline, number: FenceId, skipped: bool)
     requires queued { IsTrue (is_at journal.old.items number (λ r. is_queued r.phase)) }
-    requires tied { fences.old.list ≡ map fence_of journal.old.items }
+    requires tied { fences.old.list ≡ map fence_state_of journal.old.items }
     ensures journal { journal.new.items ≡ changed_at journal.old.items number (λ r. record r { phase = Phase.Scheduled; is_skipped = skipped || r.is_skipped }) }
-    ensures tied { fences.new.list ≡ map fence_of journal.new.items }
+    ensures tied { fences.new.list ≡ map fence_state_of journal.new.items }
     ensures room { vec_capacity journal.new ≡ vec_capacity journal.old }
     ensures places { fences.new.places ≡ fences.old.places }
 {
@@ -68,9 +68,9 @@ pub(crate) fn end_job(
     outcome: Outcome,
 )
     requires going { IsTrue (is_at journal.old.items number (λ r. not (has_ended r.phase))) }
-    requires tied { fences.old.list ≡ map fence_of journal.old.items }
+    requires tied { fences.old.list ≡ map fence_state_of journal.old.items }
     ensures journal { journal.new.items ≡ ended_at journal.old.items number outcome }
-    ensures tied { fences.new.list ≡ map fence_of journal.new.items }
+    ensures tied { fences.new.list ≡ map fence_state_of journal.new.items }
     ensures room { vec_capacity journal.new ≡ vec_capacity journal.old }
     ensures places { fences.new.places ≡ fences.old.places }
 {
@@ -81,6 +81,7 @@ pub(crate) fn end_job(
 impl Table {
     // The job that the ring takes next.
     fn choice(&self, ring: RingId) -> Option<FenceId>
+        requires there { ring < length self.now.spec.rings }
         requires whole { IsWhole self.now }
         ensures { result ≡ choice (state_of self.now) ring }
     {

@@ -6,8 +6,8 @@ ghost use Rattle.drm_core.specs.declared.cores.Plan.{Plan as PlanOf};
 ghost use Rattle.drm_core.specs.Outcomes.{armed_core};
 ghost use Rattle.drm_core.specs.Refusals.{arm_refusal};
 ghost use Rattle.drm_core.specs.Tables.{state_of};
-ghost use Rattle.drm_core.specs.Cores.{core_state, plan_at, DepsCover, IsCore};
-ghost use Rattle.drm_core.specs.Planning.{AreRoomy, AreApart};
+ghost use Rattle.drm_core.specs.Cores.{core_state, planned_by, DepsCover, IsCore};
+ghost use Rattle.drm_core.specs.Planning.{AreRoomy, ShareNoBuffer};
 
 use crate::cores::{CoreTable, Plan};
 use crate::event::{Answer, Refusal};
@@ -24,7 +24,7 @@ impl CoreTable {
         requires covers { DepsCover (state_of self.old.table) plan.job plan.deps }
         requires may { arm_refusal (state_of self.old.table) plan.job ≡ None }
         requires roomy { AreRoomy plan.job self.old.reservations.items }
-        requires apart { (ctx : ℕ) (other : PlanOf) → plan_at self.old ctx ≡ Some other → AreApart plan.job other.job }
+        requires apart { (ctx : ℕ) (other : PlanOf) → planned_by self.old ctx ≡ Some other → ShareNoBuffer plan.job other.job }
         requires core { IsCore self.old }
         ensures number { result ≡ length self.old.table.journal.items }
         ensures armed { core_state self.new ≡ armed_core (core_state self.old) plan.job }

@@ -15,7 +15,7 @@ use drm_types::{DeviceSpec, EntityId, FenceId, Moment, RingId, RingSpec};
 
 /// A ring: the numbers of its pending jobs in order, and the moment from which its head's age counts.
 #[derive(Drop)]
-pub struct RingRow {
+pub struct RingJobs {
     pub pending: Vec<FenceId>,
     pub since: Moment,
 }
@@ -29,16 +29,16 @@ pub struct Table {
     /// The fences that each job waits for, by number.
     pub waits: Vec<Deps>,
     pub fences: Timeline,
-    pub rings: Vec<RingRow>,
+    pub rings: Vec<RingJobs>,
     /// The queued jobs of each entity, and its marks.
     pub entities: Entities,
 }
 
 /// Whether the ring is done with the job: all its packets ran, or it is skipped.
-pub(crate) fn is_complete(record: &JobRecord) -> bool
-    ensures { result ≡ is_complete_record record.now }
+pub(crate) fn is_complete(armed: &JobRecord) -> bool
+    ensures { result ≡ is_complete_record armed.now }
 {
-    record.is_skipped || record.job.packets().len() <= record.ran as usize
+    armed.is_skipped || armed.job.packets().len() <= armed.ran as usize
 }
 
 // Whether the job is there and has packets to run.
@@ -82,13 +82,13 @@ fn sum_of_credits(journal: &[JobRecord], pending: &[FenceId], limit: u16) -> u32
         .sum()
 }
 
-impl RingRow {
-    ghost use Rattle.drm_core.specs.Tables.{ring_of_row, put_in, popped_at};
+impl RingJobs {
+    ghost use Rattle.drm_core.specs.Tables.{ring_state_of, put_in, popped_at};
 
     // One more pending job. The age of the first one counts from now.
     pub(crate) fn put(&mut self, number: FenceId, now: Moment)
         requires room { vec_len self.old.pending < vec_capacity self.old.pending }
-        ensures row { ring_of_row self.new ≡ put_in number now (ring_of_row self.old) }
+        ensures row { ring_state_of self.new ≡ put_in number now (ring_state_of self.old) }
         ensures room { vec_capacity self.new.pending ≡ vec_capacity self.old.pending }
     {
         if self.pending.is_empty() {
@@ -100,7 +100,7 @@ impl RingRow {
     // The head leaves. The age of the next one counts from now.
     pub(crate) fn pop(&mut self, now: Moment)
         requires head { 0 < vec_len self.old.pending }
-        ensures row { ring_of_row self.new ≡ popped_at now (ring_of_row self.old) }
+        ensures row { ring_state_of self.new ≡ popped_at now (ring_state_of self.old) }
         ensures room { vec_capacity self.new.pending ≡ vec_capacity self.old.pending }
     {
         if self.pending.len() != 1 {

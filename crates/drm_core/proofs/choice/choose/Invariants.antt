@@ -1,4 +1,5 @@
-use Rattle.drm_core.specs.Plain.{tables, marks, IsBest}
+use Rattle.drm_core.specs.Plain.{tables, marks}
+use Rattle.drm_core.proofs.Best.{IsBest}
 use Rattle.drm_core.proofs.choice.choose.Given as goal
 
 abbrev pub invariant-loop-entity : goal.invariant-loop-entity

@@ -1,4 +1,4 @@
-use Rattle.std.proofs.Common.{◌≡◌, ◌∙◌, ap, sym, subst, Some, None}
+use Rattle.std.proofs.Common.{rules, ◌≡◌, ◌∙◌, ap, sym, subst, Some, None}
 use Rattle.drm_core.specs.Lawful.{EachTwo, KeepsEntityOrder}
 use Rattle.drm_core.specs.Refusals.{busy_fence}
 use Rattle.drm_core.specs.State.{DeviceState}
@@ -20,3 +20,6 @@ returns-in-None-clause-writers c =
     let free : busy_fence c.args.self.now.journal c.args.resv.now.kept ≡ None =
     ap (λ (d : DeviceState). busy_fence d.journal c.args.resv.now.kept) (sym c.self.view_is) ∙ (sym c.busy_fence.ensures ∙ c.in-None.is) in
     writers_ended c.args.buffer c.args.self.now.journal c.args.resv.now.kept order c.requires.fits free
+
+pub returns-in-None-clause-read : goal.returns-in-None-clause-read
+returns-in-None-clause-read c = search rules

@@ -3,7 +3,7 @@ use Rattle.std.proofs.lemmas.List.{length-map}
 use Rattle.drm_reset.specs.Blame.{Counts}
 use Rattle.drm_entity.specs.Rows.{IsFresh, pushed}
 use Rattle.drm_core.specs.Arming.{ring_of, new_record}
-use Rattle.drm_core.specs.Tables.{state_of, fence_of}
+use Rattle.drm_core.specs.Tables.{state_of, fence_state_of}
 use Rattle.drm_core.specs.Cores.{all_named}
 use Rattle.drm_core.proofs.ArmDone.{few_entities, arm_done}
 use Rattle.drm_core.proofs.Queues.{is_fresh}
@@ -40,7 +40,7 @@ returns-clause-armed c =
 pub returns-clause-number : goal.returns-clause-number
 returns-clause-number c =
     let t = c.args.self.now in
-    c.arm.ensures.number ∙ (ap length c.requires.whole.fences ∙ length-map t.journal.items fence_of)
+    c.arm.ensures.number ∙ (ap length c.requires.whole.fences ∙ length-map t.journal.items fence_state_of)
 
 pub returns-clause-whole : goal.returns-clause-whole
 returns-clause-whole c =

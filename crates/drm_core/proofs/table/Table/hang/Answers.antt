@@ -3,8 +3,8 @@ use Rattle.std.proofs.lemmas.Option.{slice_get_within}
 use Rattle.drm_core.specs.declared.journal.JobRecord.{JobRecord}
 use Rattle.drm_core.specs.Recovery.{all_skipped}
 use Rattle.drm_core.specs.Tables.{state_of}
+use Rattle.drm_core.proofs.Records.{at_index}
 use Rattle.drm_core.proofs.ArmDone.{few_entities}
-use Rattle.drm_core.proofs.Candidates.{at_index}
 use Rattle.drm_core.proofs.Pending.{contains_at}
 use Rattle.drm_core.proofs.FinishLawful.{head_is}
 use Rattle.drm_core.proofs.Hanging.{is_blamed, blamed_pending, same_pending, resumed_done, guilty_done}

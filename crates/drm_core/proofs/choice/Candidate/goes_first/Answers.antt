@@ -1,0 +1,6 @@
+use Rattle.std.proofs.Common.{rules, arith}
+use Rattle.std.proofs.lemmas.Grind.{common_steps}
+use Rattle.drm_core.proofs.choice.Candidate.goes_first.Goals as goal
+
+pub returns-then-rank-other_rank-2 : goal.returns-then-rank-other_rank-2
+returns-then-rank-other_rank-2 c = search rules

@@ -1,0 +1,6 @@
+use Rattle.std.proofs.Common.{rules, arith}
+use Rattle.std.proofs.lemmas.Grind.{common_steps}
+use Rattle.drm_core.proofs.event.Event.names_exist.Goals as goal
+
+pub returns-in-Begin : goal.returns-in-Begin
+returns-in-Begin c = search rules

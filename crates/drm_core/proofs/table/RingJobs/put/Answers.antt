@@ -1,0 +1,6 @@
+use Rattle.std.proofs.Common.{rules, arith}
+use Rattle.std.proofs.lemmas.Grind.{common_steps}
+use Rattle.drm_core.proofs.table.RingJobs.put.Goals as goal
+
+pub returns-clause-row : goal.returns-clause-row
+returns-clause-row c = search rules
