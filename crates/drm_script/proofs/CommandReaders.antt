@@ -1,7 +1,7 @@
 -- Command lines are read as they are written, and as nothing else.
 use Rattle.std.proofs.Common.{◌≡◌, ℕ, ◌+◌, ◌-◌, ◌^◌, ◌<◌, ◌≤◌, true, List, [], ◌∷◌, ◌++◌, append_assoc, length, map, Some, Result, Ok, refl, sym, ap, subst, ◌∙◌, arith}
 use Rattle.std.specs.Prelude.{codes}
-use Rattle.std.specs.List.{AllByRecursion, join_with_byte}
+use Rattle.std.specs.List.{AllByRecursion, join_with_byte, list_all}
 use Rattle.std.specs.Fmt.{decimal}
 use Rattle.std.proofs.lemmas.List.{append-nil}
 use Rattle.drm_core.specs.declared.event.Event.{Event}
@@ -24,7 +24,7 @@ use Rattle.drm_text.specs.Lines.{start_at, last_line, out_of_order}
 use Rattle.drm_text.specs.Reading.{◌>>=◌, or_fault}
 use Rattle.drm_text.specs.Words.{last_number_at, name_at, last_name_at}
 use Rattle.drm_text.proofs.LineReaders.{AreWords, start_takes, start_again, last_takes, cut_lines, keyword_is_word}
-use Rattle.drm_text.proofs.Spelled.{passes, is_graphic, passes-joined, decimal_graphic, byte_graphic}
+use Rattle.drm_text.proofs.Spelled.{is_graphic, passes-joined, decimal_graphic, byte_graphic}
 use Rattle.drm_text.proofs.WordReaders.{bind_ok, ok_is, or_fault_ok, ReadsWord, ReadsLine, names_read, last_names_read, last_numbers_read}
 use Rattle.drm_script.specs.Commands.{context_and_buffer_at, ring_and_moment_at, plan_at, event_at, command_of, event_line, events_of}
 use Rattle.drm_script.specs.Grammar.{IsNumber, IsMoment, declaration_word, packet_pieces, packet_word, PacketFits, item_words, job_words, ItemsFit, JobFits, command_words, CommandFits}
@@ -33,10 +33,10 @@ use Rattle.drm_script.proofs.JobReaders.{jobs_read}
 
 -- ---- words of jobs are words
 
-number_graphic : (n : ℕ) → IsNumber n → passes is_graphic (decimal n) ≡ true
+number_graphic : (n : ℕ) → IsNumber n → list_all is_graphic (decimal n) ≡ true
 number_graphic n small = decimal_graphic n (omega arith)
 
-declaration_graphic : (d : ℕ × Access) → IsNumber d.0 → passes is_graphic (declaration_word d) ≡ true
+declaration_graphic : (d : ℕ × Access) → IsNumber d.0 → list_all is_graphic (declaration_word d) ≡ true
 declaration_graphic (buffer, access.Read) small = number_graphic buffer small
 declaration_graphic (buffer, access.Write) small = number_graphic buffer small
 
@@ -177,7 +177,7 @@ record Written (spec : DeviceSpec) (e : Event) : Type 0 where
   are : AreWords fields
   again : (words : Words) → words.rest.parts ≡ fields → event_at spec name words ≡ Ok e
 
-name_graphic : (count n : ℕ) → IsName count n → passes is_graphic (decimal n) ≡ true
+name_graphic : (count n : ℕ) → IsName count n → list_all is_graphic (decimal n) ≡ true
 name_graphic count n fits = number_graphic n fits.0
 
 one_again : (spec : DeviceSpec) (count n : ℕ) (make : ℕ → Event) (words : Words) → IsName count n → words.rest.parts ≡ decimal n ∷ [] → (last_name_at count words >>= λ n. Ok (make n)) ≡ Ok (make n)
@@ -191,7 +191,7 @@ moments_again : (spec : DeviceSpec) (a b : ℕ) (make : ℕ → ℕ → Event) (
     → (ring_and_moment_at spec words >>= λ p. Ok (make p.0 p.1)) ≡ Ok (make a b)
 moments_again spec a b make words p q is = rw ((rings_and_moments spec).again words (a, b) is (p, q)) refl
 
-moment_graphic : (n : ℕ) → IsMoment n → passes is_graphic (decimal n) ≡ true
+moment_graphic : (n : ℕ) → IsMoment n → list_all is_graphic (decimal n) ≡ true
 moment_graphic n small = decimal_graphic n (omega arith)
 
 written : (spec : DeviceSpec) (e : Event) → CommandFits spec e → Written spec e

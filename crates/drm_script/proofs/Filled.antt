@@ -20,7 +20,7 @@ passed_over : {A : Type 0} (b : Bool) (a : A) (rest : Option A) → cond (not b)
 passed_over true a rest is = (refl, is)
 passed_over false a rest is = absurd (cc (is))
 
--- where none fails, each passes
+-- where none fails, each list_all
 each_passes : {X : Type 0} (p : X → Bool) (n : ℕ) (xs : List X) → position_from (λ y. not (p y)) n xs ≡ None → AllByRecursion (λ x. p x ≡ true) xs
 each_passes p n [] none = tt
 each_passes p n (x ∷ xs) none =

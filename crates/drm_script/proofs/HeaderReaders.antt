@@ -2,7 +2,7 @@
 use Rattle.std.proofs.Common.{◌≡◌, ℕ, ◌+◌, ◌-◌, ◌^◌, ◌<◌, ◌≤◌, Bool, true, false, cond, List, [], ◌∷◌, ◌++◌, append_assoc, length, map, Some, None, Option, Result, Ok, Err, refl, sym, ap, subst, ◌∙◌, arith, inl, inr}
 use Rattle.std.specs.Prelude.{codes, replicate}
 use Rattle.std.specs.Str.{bytes_eq}
-use Rattle.std.specs.List.{AllByRecursion, join_with_byte}
+use Rattle.std.specs.List.{AllByRecursion, join_with_byte, list_all}
 use Rattle.std.specs.Fmt.{decimal}
 use Rattle.std.proofs.lemmas.List.{append-nil}
 use Rattle.drm_types.specs.Limits.{spec_fault}
@@ -23,7 +23,7 @@ use Rattle.drm_text.specs.Lines.{start_at, last_line, out_of_order}
 use Rattle.drm_text.specs.Reading.{◌>>=◌, or_fault, or_bad_device}
 use Rattle.drm_text.specs.Words.{word_at, number_at, last_number_at, end_at, fault_here}
 use Rattle.drm_text.proofs.LineReaders.{AreWords, start_takes, start_again}
-use Rattle.drm_text.proofs.Spelled.{passes, is_graphic, decimal_graphic, bytes_graphic}
+use Rattle.drm_text.proofs.Spelled.{is_graphic, decimal_graphic, bytes_graphic}
 use Rattle.drm_text.proofs.WordReaders.{bind_ok, ok_is, or_fault_ok, ReadsLine, any_word, no_word, numbers_read, last_numbers_read, last_bytes_read}
 use Rattle.drm_script.specs.declared.header.Section.{Section}
 use Rattle.drm_script.specs.declared.header.Section.TheVariants as section
@@ -83,7 +83,7 @@ priority_again priority.High = refl
 priority_again priority.Normal = refl
 priority_again priority.Low = refl
 
-pub priority_is_word : (p : Priority) → (0 < length (priority_word p)) × (passes is_graphic (priority_word p) ≡ true)
+pub priority_is_word : (p : Priority) → (0 < length (priority_word p)) × (list_all is_graphic (priority_word p) ≡ true)
 priority_is_word priority.Kernel = (omega arith, refl)
 priority_is_word priority.High = (omega arith, refl)
 priority_is_word priority.Normal = (omega arith, refl)

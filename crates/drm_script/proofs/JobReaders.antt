@@ -1,6 +1,6 @@
 -- Jobs are read as they are written, and as nothing else.
 use Rattle.std.proofs.Common.{◌≡◌, ℕ, ◌+◌, ◌-◌, ◌^◌, ◌==◌, Bool, true, false, not, ◌||◌, cond, List, [], ◌∷◌, ◌++◌, append_assoc, length, map, Some, None, Option, Result, Ok, Err, refl, sym, ap, subst, ◌∙◌, arith, inl, inr}
-use Rattle.std.specs.List.{AllByRecursion, list_any}
+use Rattle.std.specs.List.{AllByRecursion, list_any, list_all}
 use Rattle.std.specs.Fmt.{decimal}
 use Rattle.std.proofs.lemmas.Bool.{and_parts, eqb-true}
 use Rattle.std.proofs.lemmas.List.{append-nil}
@@ -16,7 +16,7 @@ use Rattle.drm_text.specs.declared.fault.TextFault.TheVariants as what
 use Rattle.drm_text.specs.Number.{number_up_to}
 use Rattle.drm_text.specs.Reading.{◌>>=◌, or_fault, fault_at}
 use Rattle.drm_text.specs.Words.{number_at}
-use Rattle.drm_text.proofs.Spelled.{passes, is_no_colon, decimal_no_colon}
+use Rattle.drm_text.proofs.Spelled.{is_no_colon, decimal_no_colon}
 use Rattle.drm_text.proofs.WordReaders.{bind_ok, ok_is, or_fault_ok, ReadsLine, numbers_read}
 use Rattle.drm_script.specs.declared.job.Kind.{Kind}
 use Rattle.drm_script.specs.declared.job.Kind.TheVariants as kind
@@ -30,7 +30,7 @@ pub not_true : (b : Bool) → not b ≡ true → b ≡ false
 not_true true e = absurd (cc)
 not_true false e = refl
 
-has_no_colon : (word : List ℕ) → passes is_no_colon word ≡ true → list_any (λ b. b == 58) word ≡ false
+has_no_colon : (word : List ℕ) → list_all is_no_colon word ≡ true → list_any (λ b. b == 58) word ≡ false
 has_no_colon [] is = refl
 has_no_colon (byte ∷ word) is =
     let parts = and_parts _ _ is in

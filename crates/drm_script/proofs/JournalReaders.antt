@@ -2,7 +2,7 @@
 use Rattle.std.proofs.Common.{◌≡◌, ℕ, suc, ◌+◌, ◌-◌, ◌^◌, ◌<◌, ◌≤◌, ◌==◌, Bool, true, false, not, cond, List, [], ◌∷◌, ◌++◌, append_assoc, length, map, take, Some, None, Option, Result, Ok, Err, refl, sym, ap, subst, ◌∙◌, arith, inl, inr, eq-eqb}
 use Rattle.std.specs.Prelude.{codes, nat_lt, IfOk, IsTrue, ◌&&◌, slice_get, option_map}
 use Rattle.std.specs.Str.{bytes_eq}
-use Rattle.std.specs.List.{AllByRecursion, join_with_byte}
+use Rattle.std.specs.List.{AllByRecursion, join_with_byte, list_all}
 use Rattle.std.specs.Fmt.{decimal}
 use Rattle.std.proofs.Math.Seq.{take-length}
 use Rattle.std.proofs.lemmas.Bool.{and_parts, eqb-true, ltb-false, le-ltb}
@@ -28,7 +28,7 @@ use Rattle.drm_text.specs.Lines.{start_at, last_line, out_of_order, lines_of}
 use Rattle.drm_text.specs.Reading.{◌>>=◌, or_fault, Gives}
 use Rattle.drm_text.specs.Words.{word_at, number_at, end_at, fault_here}
 use Rattle.drm_text.proofs.LineReaders.{AreWords, AreLines, start_takes, start_again, last_takes, cut_lines}
-use Rattle.drm_text.proofs.Spelled.{passes, is_graphic, decimal_graphic, bytes_graphic}
+use Rattle.drm_text.proofs.Spelled.{is_graphic, decimal_graphic, bytes_graphic}
 use Rattle.drm_text.proofs.WordReaders.{bind_ok, ok_is, or_fault_ok, test_ok, ReadsLine, any_word, no_word, numbers_read, bytes_read}
 use Rattle.drm_script.specs.declared.journal.JournalJob.{JournalJob}
 use Rattle.drm_script.specs.declared.journal.Reading.{Reading}
@@ -68,7 +68,7 @@ status_again (Some outcome.Good) = refl
 status_again (Some outcome.Cancelled) = refl
 status_again (Some outcome.Stopped) = refl
 
-status_is_word : (o : Option Outcome) → (0 < length (status_word o)) × (passes is_graphic (status_word o) ≡ true)
+status_is_word : (o : Option Outcome) → (0 < length (status_word o)) × (list_all is_graphic (status_word o) ≡ true)
 status_is_word None = (omega arith, refl)
 status_is_word (Some outcome.Good) = (omega arith, refl)
 status_is_word (Some outcome.Cancelled) = (omega arith, refl)

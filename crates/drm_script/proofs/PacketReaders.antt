@@ -2,7 +2,7 @@
 use Rattle.std.proofs.Common.{◌≡◌, ℕ, ◌-◌, ◌^◌, ◌≤◌, Bool, true, false, cond, List, [], ◌∷◌, Some, None, Option, Ok, Err, refl, sym, ap, subst, ◌∙◌, arith, inl, inr, ◌⊎◌}
 use Rattle.std.specs.Prelude.{codes}
 use Rattle.std.specs.Str.{bytes_eq}
-use Rattle.std.specs.List.{AllByRecursion, join_with_byte}
+use Rattle.std.specs.List.{AllByRecursion, join_with_byte, list_all}
 use Rattle.std.specs.Fmt.{decimal}
 use Rattle.std.proofs.lemmas.List.Splits.{join_with_byte-slice_split}
 use Rattle.std.proofs.lemmas.Slice.Eq.{bytes_eq-Decides}
@@ -19,7 +19,7 @@ use Rattle.drm_text.proofs.Digits.{number_small}
 use Rattle.drm_text.proofs.NumberLaws.{number_takes}
 use Rattle.drm_text.proofs.NumbersWritten.{number_written}
 use Rattle.drm_text.proofs.PartsJoined.{joined_cut}
-use Rattle.drm_text.proofs.Spelled.{passes, is_no_colon, decimal_no_colon, byte_no_colon, all_free}
+use Rattle.drm_text.proofs.Spelled.{is_no_colon, decimal_no_colon, byte_no_colon, all_free}
 use Rattle.drm_text.proofs.WordReaders.{bind_ok, ok_is, or_fault_ok}
 use Rattle.drm_script.specs.declared.job.Route.{Route}
 use Rattle.drm_script.specs.Grammar.{IsNumber, packet_pieces, packet_word, PacketFits}
@@ -187,10 +187,10 @@ packet_takes at word packet e =
     let f = from_takes at (parts_of 58 word) packet e in
     (sym (join_with_byte-slice_split 58 word) ∙ ap (join_with_byte 58) f.0, f.1)
 
-decimals_no_colon : (n : ℕ) → IsNumber n → passes is_no_colon (decimal n) ≡ true
+decimals_no_colon : (n : ℕ) → IsNumber n → list_all is_no_colon (decimal n) ≡ true
 decimals_no_colon n small = decimal_no_colon n (omega arith)
 
-pieces_no_colon : (packet : Packet) → PacketFits packet → AllByRecursion (λ word. passes is_no_colon word ≡ true) (packet_pieces packet)
+pieces_no_colon : (packet : Packet) → PacketFits packet → AllByRecursion (λ word. list_all is_no_colon word ≡ true) (packet_pieces packet)
 pieces_no_colon (Fill buffer offset len byte) fits =
     (refl, (decimals_no_colon buffer fits.0, (decimals_no_colon offset fits.1, (decimals_no_colon len fits.2, (byte_no_colon byte fits.3, tt)))))
 pieces_no_colon (Copy a b c d x) fits =
@@ -209,7 +209,7 @@ from_again at (Add a b c d x) fits =
     rw (number_again a fits.0, number_again b fits.1, number_again c fits.2, number_again d fits.3, number_again x fits.4) refl
 from_again at (Stall resets) fits = rw (number_written 65535 resets (omega arith) fits) refl
 
-pieces_cut : (name : List ℕ) (pieces : List (List ℕ)) → AllByRecursion (λ word. passes is_no_colon word ≡ true) (name ∷ pieces)
+pieces_cut : (name : List ℕ) (pieces : List (List ℕ)) → AllByRecursion (λ word. list_all is_no_colon word ≡ true) (name ∷ pieces)
     → parts_of 58 (join_with_byte 58 (name ∷ pieces)) ≡ name ∷ pieces
 pieces_cut name pieces all = joined_cut 58 name pieces (all_free is_no_colon 58 refl (name ∷ pieces) all)
 

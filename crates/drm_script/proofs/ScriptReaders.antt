@@ -1,7 +1,7 @@
 -- Scripts are read as they are spelled, and as nothing else.
 use Rattle.std.proofs.Common.{◌≡◌, ℕ, ◌<◌, ◌≤◌, Bool, true, false, cond, ◌==◌, List, [], ◌∷◌, ◌++◌, length, map, Result, Ok, Err, refl, sym, ap, subst, ◌∙◌, arith, inl, inr}
 use Rattle.std.specs.Prelude.{nat_lt, IfOk}
-use Rattle.std.specs.List.{AllByRecursion, join_with_byte}
+use Rattle.std.specs.List.{AllByRecursion, join_with_byte, list_all}
 use Rattle.std.specs.Fmt.{decimal}
 use Rattle.std.proofs.lemmas.Bool.{ltb-false, le-ltb}
 use Rattle.std.proofs.lemmas.List.Splits.{length-slice_split}
@@ -18,7 +18,7 @@ use Rattle.drm_text.specs.declared.fault.TextFault.TheVariants as what
 use Rattle.drm_text.specs.Lines.{left_of, lines_of}
 use Rattle.drm_text.specs.Reading.{◌>>=◌, Gives}
 use Rattle.drm_text.proofs.LineReaders.{AreWords, AreLines, cut_lines, lines_cut, lines_make_text}
-use Rattle.drm_text.proofs.Spelled.{passes, is_graphic, decimal_graphic, bytes_graphic}
+use Rattle.drm_text.proofs.Spelled.{is_graphic, decimal_graphic, bytes_graphic}
 use Rattle.drm_text.proofs.WordReaders.{bind_ok, ok_is}
 use Rattle.drm_script.specs.declared.script.Script.{Script}
 use Rattle.drm_script.specs.Commands.{events_of}
@@ -64,7 +64,7 @@ lines_are text header rest are also is =
 
 -- ---- words of lines are words
 
-number_graphic : (n : ℕ) → IsNumber n → passes is_graphic (decimal n) ≡ true
+number_graphic : (n : ℕ) → IsNumber n → list_all is_graphic (decimal n) ≡ true
 number_graphic n small = decimal_graphic n (omega arith)
 
 buffer_graphic : (words : Line) (bytes : List ℕ) → SpellsBuffer words bytes → AreWords words

@@ -1,6 +1,6 @@
 //! The words of a job.
 
-ghost use Rattle.std.specs.Prelude.{◌≡◌, ◌≤◌, ◌==◌, length};
+ghost use Rattle.std.specs.Prelude.{◌≡◌, ◌≤◌, ◌==◌, [], length};
 ghost use Rattle.std.specs.List.{list_any};
 ghost use Rattle.std.specs.Option.{option_map};
 ghost use Rattle.drm_text.specs.Reading.{Reads, Gives};
@@ -282,6 +282,19 @@ fn add_words(draft: Draft, words: &mut Words) -> Result<Draft, ReadError>
     Ok(draft)
 }
 
+/// A draft that declares nothing, waits for nothing and runs nothing.
+fn bare_draft(alloc: Global, entity: u32, credits: u16) -> Draft
+    ensures { result ≡ record { entity = entity; credits = credits; declared = []; after = []; packets = [] } }
+{
+    Draft {
+        entity,
+        credits,
+        declared: Sequence::new(alloc),
+        after: Sequence::new(alloc),
+        packets: Sequence::new(alloc),
+    }
+}
+
 /// The job that the words left spell.
 #[tactic(auto, unfolding(crate::specs::Job::job_at))]
 pub fn read_job(alloc: Global, words: &mut Words) -> Result<Draft, ReadError>
@@ -289,12 +302,6 @@ pub fn read_job(alloc: Global, words: &mut Words) -> Result<Draft, ReadError>
 {
     let entity = words.number(u64::from(u32::MAX))?;
     let credits = words.number(65535)?;
-    let draft = Draft {
-        entity: entity as u32,
-        credits: credits as u16,
-        declared: Sequence::new(alloc),
-        after: Sequence::new(alloc),
-        packets: Sequence::new(alloc),
-    };
+    let draft = bare_draft(alloc, entity as u32, credits as u16);
     add_words(draft, words)
 }

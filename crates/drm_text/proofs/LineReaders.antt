@@ -1,6 +1,6 @@
 -- Lines that are read, and lines that are written.
 use Rattle.std.proofs.Common.{◌≡◌, ◌≢◌, ℕ, ◌+◌, ◌≤◌, ◌<◌, ◌==◌, true, false, List, [], ◌∷◌, ◌++◌, length, map, append_assoc, Ok, Err, refl, sym, ap, subst, ◌∙◌, arith, eq-eqb, le-leb}
-use Rattle.std.specs.List.{All, AllByRecursion, join_with_byte}
+use Rattle.std.specs.List.{All, AllByRecursion, join_with_byte, list_all}
 use Rattle.std.proofs.lemmas.Bool.{and_parts, leb-true, ne_eqb}
 use Rattle.std.proofs.lemmas.List.Elements.{All-weaker, All-from_recursion}
 use Rattle.std.proofs.lemmas.List.Splits.{slice_split_at, join_with_byte-slice_split}
@@ -18,12 +18,13 @@ use Rattle.drm_text.specs.Reading.{◌>>=◌, or_fault}
 use Rattle.drm_text.specs.Words.{word_at}
 use Rattle.drm_text.proofs.KeywordsWritten.{keyword_takes, keyword_written}
 use Rattle.drm_text.proofs.PartsJoined.{joined_cut}
-use Rattle.drm_text.proofs.Spelled.{passes, is_graphic, passes-joined, free_from, all_free}
+use Rattle.drm_text.proofs.Printed.{no_fault}
+use Rattle.drm_text.proofs.Spelled.{is_graphic, passes-joined, free_from, all_free}
 use Rattle.drm_text.proofs.WordReaders.{bind_ok, ok_is, or_fault_ok, any_word}
 
 -- words that have only bytes that words may have
 abbrev pub AreWords : List (List ℕ) → Type 0
-AreWords words = AllByRecursion (λ word. passes is_graphic word ≡ true) words
+AreWords words = AllByRecursion (λ word. list_all is_graphic word ≡ true) words
 
 printable : (byte : ℕ) → is_graphic byte ≡ true → is_printable byte ≡ true
 printable byte is =
@@ -32,24 +33,17 @@ printable byte is =
     let high : byte ≤ 126 = leb-true _ _ parts.1 in
     rw (le-leb 32 byte (omega arith), le-leb byte 126 high) refl
 
-passes-printable : (word : List ℕ) → passes is_graphic word ≡ true → passes is_printable word ≡ true
+passes-printable : (word : List ℕ) → list_all is_graphic word ≡ true → list_all is_printable word ≡ true
 passes-printable [] is = refl
 passes-printable (byte ∷ word) is =
     let parts = and_parts _ _ is in rw (printable byte parts.0, passes-printable word parts.1) refl
 
-all_printable : (words : List (List ℕ)) → AreWords words → AllByRecursion (λ word. passes is_printable word ≡ true) words
+all_printable : (words : List (List ℕ)) → AreWords words → AllByRecursion (λ word. list_all is_printable word ≡ true) words
 all_printable [] are = tt
 all_printable (word ∷ words) are = (passes-printable word are.0, all_printable words are.1)
 
-joined_printable : (words : List (List ℕ)) → AreWords words → passes is_printable (join_with_byte 32 words) ≡ true
+joined_printable : (words : List (List ℕ)) → AreWords words → list_all is_printable (join_with_byte 32 words) ≡ true
 joined_printable words are = passes-joined is_printable 32 refl words (all_printable words are)
-
-no_text_fault : (line column : ℕ) (bytes : List ℕ) → passes is_printable bytes ≡ true → text_fault line column bytes ≡ Ok tt
-no_text_fault line column [] is = refl
-no_text_fault line column (byte ∷ bytes) is =
-    let parts = and_parts _ _ is in
-    let first : is_printable byte ≡ true = parts.0 in
-    rw first (no_text_fault line (column + 1) bytes parts.1)
 
 abbrev all_words : ℕ → List ℕ → Words
 all_words line bytes = record { line = line; rest = cut_from 32 bytes 0 }
@@ -70,7 +64,7 @@ start_takes n bytes x e =
     subst (λ (y : Keyword × Words). bytes ≡ join_with_byte 32 (keyword_text y.0 ∷ y.1.rest.parts)) (ok_is (c.0, b.0.1) x c.2)
     (sym (join_with_byte-slice_split 32 bytes) ∙ ap (join_with_byte 32) parts)
 
-keyword_graphic : (keyword : Keyword) → (0 < length (keyword_text keyword)) × (passes is_graphic (keyword_text keyword) ≡ true)
+keyword_graphic : (keyword : Keyword) → (0 < length (keyword_text keyword)) × (list_all is_graphic (keyword_text keyword) ≡ true)
 keyword_graphic line.Buffer = (omega arith, refl)
 keyword_graphic line.Zero = (omega arith, refl)
 keyword_graphic line.Ring = (omega arith, refl)
@@ -97,7 +91,7 @@ keyword_graphic (line.Command command.Read) = (omega arith, refl)
 keyword_graphic (line.Command command.Fence) = (omega arith, refl)
 keyword_graphic (line.Command command.Dump) = (omega arith, refl)
 
-pub keyword_is_word : (keyword : Keyword) → passes is_graphic (keyword_text keyword) ≡ true
+pub keyword_is_word : (keyword : Keyword) → list_all is_graphic (keyword_text keyword) ≡ true
 keyword_is_word keyword = (keyword_graphic keyword).1
 
 -- a line that is written is begun
@@ -109,7 +103,7 @@ start_again n keyword rest are =
     let all : AreWords (keyword_text keyword ∷ rest) = (first.1, are) in
     let bytes = join_with_byte 32 (keyword_text keyword ∷ rest) in
     let parts : parts_of 32 bytes ≡ keyword_text keyword ∷ rest = joined_cut 32 (keyword_text keyword) rest (all_free is_graphic 32 refl (keyword_text keyword ∷ rest) all) in
-    let text : text_fault n 1 bytes ≡ Ok tt = no_text_fault n 1 bytes (joined_printable (keyword_text keyword ∷ rest) all) in
+    let text : text_fault n 1 bytes ≡ Ok tt = no_fault n 1 bytes (joined_printable (keyword_text keyword ∷ rest) all) in
     let word = any_word.again (all_words n bytes) (keyword_text keyword) rest (all_parts n bytes ∙ parts) first.0 in
     (word.0, rw (text, word.1, keyword_written keyword) refl, word.2)
 
