@@ -1,5 +1,5 @@
 -- What is read from a reader, and what is written to a writer.
-use Rattle.std.specs.Prelude.{◌≡◌, ◌≢◌, ℕ, List, Option, Result, Ok, Err, IfSome, take}
+use Rattle.std.specs.Prelude.{◌≡◌, ◌≢◌, ◌<◌, ◌≤◌, ℕ, List, Option, Some, Result, Ok, Err, IfSome, length, drop, take}
 use Rattle.std.specs.declared.io.ErrorKind.{ErrorKind}
 use Rattle.std.specs.declared.io.ErrorKind.TheVariants.{OutOfMemory}
 use Rattle.std.specs.Io.KnownBytes.{Appends}
@@ -27,6 +27,10 @@ abbrev pub input_error_of : ReadError → InputError
 input_error_of reading.Memory = input.Memory
 input_error_of (reading.Fault fault) = input.Fault fault
 
--- known bytes grow by a front of these
+-- known bytes lose at most their first `most`
+abbrev pub LosesAtMost : ℕ → Option (List ℕ) → Option (List ℕ) → Type 0
+LosesAtMost most old new = IfSome old (λ bytes. (n : ℕ) × (n ≤ most) × (new ≡ Some (drop n bytes)))
+
+-- known bytes grow by a front of these, and not by all of them
 abbrev pub AppendsFront : Option (List ℕ) → Option (List ℕ) → List ℕ → Type 0
-AppendsFront old new bytes = (n : ℕ) × Appends old new (take n bytes)
+AppendsFront old new bytes = (n : ℕ) × (n < length bytes) × Appends old new (take n bytes)

@@ -1,6 +1,6 @@
 //! Answers as text.
 
-ghost use Rattle.std.specs.Prelude.{◌≡◌, ◌++◌, ◌∷◌, [], ℕ, codes, map, IfOk, OnOk};
+ghost use Rattle.std.specs.Prelude.{◌≡◌, ◌++◌, ◌∷◌, [], ℕ, codes, decimal, map, IfOk, OnOk};
 ghost use Rattle.drm_script.specs.Answers.{separated, numbers, number_of_list, numbers_of_fault, numbers_of_refusal, text_of_pick, text_of_outcome, words_of, line_of, text_of_answers};
 
 use drm_core::{Answer, Refusal};
@@ -8,6 +8,18 @@ use drm_job::{DraftList, JobFault};
 use drm_text::put_bytes;
 use drm_types::Outcome;
 use std::alloc::{AllocError, Global};
+
+/// A number. Most are short, so their digits are put one by one.
+fn put_decimal(out: &mut Vec<u8>, value: u64) -> Result<(), AllocError>
+    ensures { OnOk result (out.new.items ≡ out.old.items ++ decimal value) }
+{
+    let mut buffer = itoa::Buffer::new();
+    let digits = buffer.format(value).as_bytes();
+    for digit in digits {
+        out.push(*digit)?;
+    }
+    Ok(())
+}
 
 /// A word, and numbers behind it, each after the separator.
 pub fn put_separated(
@@ -21,7 +33,7 @@ pub fn put_separated(
     out.extend_from_slice(word)?;
     for value in values {
         out.push(separator)?;
-        out.extend_from_slice(itoa::Buffer::new().format(*value).as_bytes())?;
+        put_decimal(out, *value)?;
     }
     Ok(())
 }

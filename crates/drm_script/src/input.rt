@@ -1,17 +1,18 @@
 //! From a reader to what its bytes spell.
 
-ghost use Rattle.std.specs.Prelude.{◌≡◌, List, None, take, IfOk, IfSome};
+ghost use Rattle.std.specs.Prelude.{◌≡◌, ◌+◌, ◌<◌, ◌≤◌, List, None, Some, length, drop, take, vec_len, IfOk, IfSome, OnErr, OnOk};
+ghost use Rattle.std.specs.Io.KnownBytes.{Consumes, IsAtEnd, Keeps};
 ghost use Rattle.std.specs.IoError.{error_kind};
 ghost use Rattle.drm_types.specs.Limits.{spec_fault};
 ghost use Rattle.drm_script.specs.Commands.{AllNamesExist};
 ghost use Rattle.drm_script.specs.Journal.{IsJournal, judge_journal};
 ghost use Rattle.drm_script.specs.Script.{judge_script};
-ghost use Rattle.drm_script.specs.Transfer.{IsFailure, IsReadOf, input_error_of};
+ghost use Rattle.drm_script.specs.Transfer.{IsFailure, IsReadOf, LosesAtMost, input_error_of};
 
 use crate::journal::{Journal, read_journal};
 use crate::script::{Script, read_script};
 use drm_text::{Fault, MAX_TEXT, ReadError};
-use std::alloc::Global;
+use std::alloc::{AllocError, Global};
 use std::io::{self, ErrorKind, Read};
 
 /// Why nothing was read from a reader.
@@ -46,19 +47,93 @@ fn to_input_error(error: ReadError) -> InputError
     }
 }
 
-/// The bytes of the reader, of which no more are read than show that they are too many for a text.
-#[tactic(auto, using(crate::proofs::Known::taken))]
+/// The most bytes that are read: one more than a text has.
+const MOST_READ: usize = MAX_TEXT + 1;
+
+/// How many bytes the first read may give. Each further room is for as many as were read.
+const FIRST_READ: usize = 8192;
+
+/// Makes room behind the first `len` bytes, where there is none.
+fn make_room(text: &mut Vec<u8>, len: usize) -> Result<(), AllocError>
+    requires within { len ≤ vec_len text.old }
+    requires bound { vec_len text.old ≤ 1048577 }
+    requires few { len < 1048577 }
+    ensures front { take len text.new.items ≡ take len text.old.items }
+    ensures room { OnOk result (len < vec_len text.new) }
+    ensures bound { vec_len text.new ≤ 1048577 }
+{
+    if len < text.len() {
+        return Ok(());
+    }
+    text.resize((2 * len).clamp(FIRST_READ, MOST_READ), 0)
+}
+
+fn read_behind<R: Read>(reader: &mut R, text: &mut [u8], len: usize) -> io::Result<usize>
+    requires { len < length text.old }
+    ensures front { take len text.new ≡ take len text.old }
+    ensures fits { IfOk result (λ count. len + count ≤ length text.new) }
+    ensures ok { IfOk result (λ count. Consumes (R.remaining reader.old) (R.remaining reader.new) (take count (drop len text.new))) }
+    ensures end { IfOk result (λ count. count ≡ 0 → IsAtEnd (R.remaining reader.new)) }
+    ensures err { OnErr result (Keeps (R.remaining reader.old) (R.remaining reader.new)) }
+{
+    let (_, room) = text.split_at_mut(len);
+    reader.read(room)
+}
+
+/// One read, of what comes behind the first `len` bytes.
+fn read_more<R: Read>(reader: &mut R, text: &mut Vec<u8>, len: usize) -> io::Result<usize>
+    requires within { len ≤ vec_len text.old }
+    requires bound { vec_len text.old ≤ 1048577 }
+    requires few { len < 1048577 }
+    ensures front { take len text.new.items ≡ take len text.old.items }
+    ensures fits { IfOk result (λ count. len + count ≤ vec_len text.new) }
+    ensures bound { vec_len text.new ≤ 1048577 }
+    ensures ok { IfOk result (λ count. Consumes (R.remaining reader.old) (R.remaining reader.new) (take count (drop len text.new.items))) }
+    ensures end { IfOk result (λ count. count ≡ 0 → IsAtEnd (R.remaining reader.new)) }
+    ensures err { OnErr result (Keeps (R.remaining reader.old) (R.remaining reader.new)) }
+{
+    make_room(text, len)?;
+    read_behind(reader, text.as_mut_slice(), len)
+}
+
+/// Reads until no more bytes are there, or as many as are read at most, and answers how many there are. They stand
+/// first; what stands behind them is room. Each read gives a byte at least, or is the last.
+fn fill<R: Read>(reader: &mut R, text: &mut Vec<u8>) -> io::Result<usize>
+    requires { vec_len text.old ≡ 0 }
+    ensures bound { IfOk result (λ len. (len ≤ vec_len text.new) × (len ≤ 1048577)) }
+    ensures ok { IfOk result (λ len. Consumes (R.remaining reader.old) (R.remaining reader.new) (take len text.new.items)) }
+    ensures end { IfOk result (λ len. len < 1048577 → IsAtEnd (R.remaining reader.new)) }
+    ensures err { OnErr result (LosesAtMost 1048577 (R.remaining reader.old) (R.remaining reader.new)) }
+{
+    let mut len = 0;
+    'reads: while len < MOST_READ {
+        let count = read_more(reader, text, len)?;
+        if count == 0 {
+            return Ok(len);
+        }
+        len += count;
+    }
+    Ok(len)
+}
+
+/// The bytes of the reader, of which no more are read than show that they are too many for a text. The first read
+/// that fails is the last, also where it was interrupted.
 pub fn read_input<R: Read>(alloc: Global, reader: &mut R) -> io::Result<Vec<u8>>
-    ensures { IfOk result (λ text. IfSome (R.remaining reader.old) (λ input. text.items ≡ take 1048577 input)) }
+    ensures text { IfOk result (λ text. IfSome (R.remaining reader.old) (λ input. text.items ≡ take 1048577 input)) }
+    ensures bound { IfOk result (λ text. vec_len text ≤ 1048577) }
+    ensures left { OnOk result (IfSome (R.remaining reader.old) (λ input. R.remaining reader.new ≡ Some (drop 1048577 input))) }
+    ensures most { LosesAtMost 1048577 (R.remaining reader.old) (R.remaining reader.new) }
 {
     let mut text = Vec::new(alloc);
-    reader.take(MAX_TEXT as u64 + 1).read_to_end(&mut text)?;
+    let len = fill(reader, &mut text)?;
+    text.truncate(len);
     Ok(text)
 }
 
 /// The script that all bytes of the reader spell.
 pub fn read_script_from<R: Read>(alloc: Global, reader: &mut R) -> Result<Script, InputError>
     ensures value { IsReadOf judge_script (R.remaining reader.old) result }
+    ensures most { LosesAtMost 1048577 (R.remaining reader.old) (R.remaining reader.new) }
     ensures fits { IfOk result (λ script. spec_fault script.spec ≡ None) }
     ensures exist { IfOk result (λ script. AllNamesExist script.spec script.lines) }
 {
@@ -72,6 +147,7 @@ pub fn read_script_from<R: Read>(alloc: Global, reader: &mut R) -> Result<Script
 /// The journal that all bytes of the reader spell.
 pub fn read_journal_from<R: Read>(alloc: Global, reader: &mut R) -> Result<Journal, InputError>
     ensures value { IsReadOf judge_journal (R.remaining reader.old) result }
+    ensures most { LosesAtMost 1048577 (R.remaining reader.old) (R.remaining reader.new) }
     ensures stands { IfOk result IsJournal }
 {
     let text = read_input(alloc, reader)?;

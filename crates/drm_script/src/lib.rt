@@ -17,8 +17,6 @@ mod journal_text;
 mod laws;
 mod output;
 mod script;
-#[cfg(test)]
-mod tests;
 
 pub use answers::write_answers;
 pub use drm_text::{Fault, ReadError, TextFault};

@@ -6,8 +6,8 @@ ghost use Rattle.drm_script.specs.Transfer.{AppendsFront};
 
 use std::io::{self, ErrorKind, Write};
 
-/// Writes all of the bytes, and tries again where a write was interrupted. What was written when it fails is a
-/// front of the bytes.
+/// Writes all of the bytes, and tries again where a write was interrupted. It fails only before all are written: what
+/// was written then is a front of the bytes.
 pub fn put_all<W: Write>(writer: &mut W, bytes: &[u8]) -> io::Result<()>
     ensures ok { OnOk result (Appends (W.contents writer.old) (W.contents writer.new) bytes.now) }
     ensures err { OnErr result (AppendsFront (W.contents writer.old) (W.contents writer.new) bytes.now) }
@@ -15,7 +15,7 @@ pub fn put_all<W: Write>(writer: &mut W, bytes: &[u8]) -> io::Result<()>
     let mut rest = bytes;
     'turn: for _ in 0..u64::MAX {
         if rest.is_empty() {
-            return Ok(());
+            break;
         }
         match writer.write(rest) {
             Ok(0) => break,
@@ -30,5 +30,9 @@ pub fn put_all<W: Write>(writer: &mut W, bytes: &[u8]) -> io::Result<()>
             }
         }
     }
-    Err(io::Error::from(ErrorKind::WriteZero))
+    if rest.is_empty() {
+        Ok(())
+    } else {
+        Err(io::Error::from(ErrorKind::WriteZero))
+    }
 }

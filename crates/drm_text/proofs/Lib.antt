@@ -1,8 +1,10 @@
 pub mod Cuts
 pub mod Digits
-pub mod Finding
+pub mod Filled
+pub mod Guessing
 pub mod NumberLaws
 pub mod Pairs
+pub mod Printed
 pub mod LineReaders
 pub mod WordReaders
 pub mod Spelled

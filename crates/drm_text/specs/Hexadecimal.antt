@@ -1,5 +1,5 @@
 -- Bytes as hexadecimal digits in lower case.
-use Rattle.std.specs.Prelude.{ℕ, ◌+◌, ◌-◌, ◌*◌, ◌&&◌, nat_le, nat_lt, ◌/◌, ◌%◌, List, [], ◌∷◌, ◌++◌, flat_map, Option, Some, None, Result, Ok, if◌then◌else◌}
+use Rattle.std.specs.Prelude.{ℕ, Bool, is_some, ◌+◌, ◌-◌, ◌*◌, ◌&&◌, nat_le, nat_lt, ◌/◌, ◌%◌, List, [], ◌∷◌, ◌++◌, flat_map, Option, Some, None, Result, Ok, if◌then◌else◌}
 use Rattle.drm_text.specs.declared.fault.Fault.{Fault}
 use Rattle.drm_text.specs.declared.fault.TextFault.TheVariants as what
 use Rattle.drm_text.specs.Cut.{Words}
@@ -12,6 +12,9 @@ hex_digit c =
     if nat_le 48 c && nat_le c 57 then Some (c - 48)
     else if nat_le 97 c && nat_le c 102 then Some (c - 97 + 10)
     else None
+
+abbrev pub is_hex_digit : ℕ → Bool
+is_hex_digit c = is_some (hex_digit c)
 
 abbrev pub byte_from : Option ℕ → Option ℕ → Option ℕ
 byte_from (Some high) (Some low) = Some (high * 16 + low)

@@ -1,5 +1,5 @@
 -- The first words of lines.
-use Rattle.std.specs.Prelude.{ℕ, List, [], ◌∷◌, Option, codes, find}
+use Rattle.std.specs.Prelude.{ℕ, ◌==◌, List, [], ◌∷◌, Option, codes, find, if◌then◌else◌}
 use Rattle.std.specs.Str.{bytes_eq}
 use Rattle.drm_text.specs.declared.keywords.Command.{Command}
 use Rattle.drm_text.specs.declared.keywords.Command.TheVariants as command
@@ -61,3 +61,23 @@ keywords =
 -- the line that begins with this word
 unfoldable pub keyword_of : List ℕ → Option Keyword
 keyword_of word = find (λ k. bytes_eq word (keyword_text k)) keywords
+
+-- the one word that can have these for its second and its last byte
+abbrev pub guess_of : ℕ → ℕ → Keyword
+guess_of second last =
+    if second == 117 then
+    (if last == 114 then line.Buffer else if last == 116 then line.Command command.Submit else line.Command command.Dump)
+    else if second == 101 then
+    (if last == 111 then line.Zero else if last == 110 then line.Command command.Begin else if last == 112 then line.Command command.Reap
+    else if last == 100 then line.Command command.Read else line.Command command.Fence)
+    else if second == 105 then
+    (if last == 103 then line.Ring else if last == 108 then line.Final else if last == 107 then line.Command command.Pick
+    else if last == 104 then line.Command command.Finish else line.Command command.Timeout)
+    else if second == 110 then (if last == 121 then line.Entity else line.Command command.End)
+    else if second == 111 then
+    (if last == 115 then line.Jobs else if last == 111 then line.Go else if last == 98 then line.Job else line.Command command.Done)
+    else if second == 114 then
+    (if last == 121 then line.Command command.Try else if last == 112 then line.Command command.Drop else line.Command command.Arm)
+    else if second == 108 then line.Command command.Plan
+    else if second == 116 then line.Command command.Step
+    else line.Command command.Cancel

@@ -1,5 +1,5 @@
 -- What a reader answers: what the definition says, or that memory ran out.
-use Rattle.std.specs.Prelude.{◌≡◌, Result, Ok, Err, Option, Some, None}
+use Rattle.std.specs.Prelude.{◌≡◌, IsOk, Result, Ok, Err, Option, Some, None}
 use Rattle.drm_types.specs.declared.spec.BadSpec.{BadSpec}
 use Rattle.drm_text.specs.declared.fault.Fault.{Fault}
 use Rattle.drm_text.specs.declared.fault.Fault.TheVariants.{Text, Device}
@@ -31,6 +31,12 @@ Fails (errors.Fault f) read = read ≡ Err f
 abbrev pub Gives : {X Y : Type 0} → (X → Y) → Result X ReadError → Result Y Fault → Type 0
 Gives view (Ok x) read = read ≡ Ok (view x)
 Gives view (Err e) read = Fails e read
+
+-- where memory was refused, the text has no fault up to there
+abbrev pub LacksMemoryAlone : {X Y : Type 0} → Result X ReadError → Result Y Fault → Type 0
+LacksMemoryAlone (Ok x) read = Unit {0}
+LacksMemoryAlone (Err errors.Memory) read = IsOk read
+LacksMemoryAlone (Err (errors.Fault f)) read = Unit {0}
 
 -- a fault of the word at this position
 abbrev pub fault_at : Position → TextFault → Fault

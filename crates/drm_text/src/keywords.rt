@@ -1,7 +1,7 @@
 //! The first words of lines.
 
 ghost use Rattle.std.specs.Prelude.{◌≡◌};
-ghost use Rattle.drm_text.specs.Keywords.{keyword_text, command_text, keyword_of};
+ghost use Rattle.drm_text.specs.Keywords.{keyword_text, command_text, guess_of, keyword_of};
 
 /// The first word of a line of a text. Each but `Command` is spelled as its name, in lower case.
 #[derive(Clone, Copy)]
@@ -39,34 +39,6 @@ pub enum Command {
     Fence,
     Dump,
 }
-
-const KEYWORDS: [Keyword; 25] = [
-    Keyword::Buffer,
-    Keyword::Zero,
-    Keyword::Ring,
-    Keyword::Entity,
-    Keyword::Jobs,
-    Keyword::Go,
-    Keyword::Job,
-    Keyword::Final,
-    Keyword::Command(Command::Submit),
-    Keyword::Command(Command::Begin),
-    Keyword::Command(Command::Try),
-    Keyword::Command(Command::Done),
-    Keyword::Command(Command::Drop),
-    Keyword::Command(Command::End),
-    Keyword::Command(Command::Plan),
-    Keyword::Command(Command::Arm),
-    Keyword::Command(Command::Pick),
-    Keyword::Command(Command::Step),
-    Keyword::Command(Command::Finish),
-    Keyword::Command(Command::Timeout),
-    Keyword::Command(Command::Cancel),
-    Keyword::Command(Command::Reap),
-    Keyword::Command(Command::Read),
-    Keyword::Command(Command::Fence),
-    Keyword::Command(Command::Dump),
-];
 
 fn text_of_command(command: Command) -> &'static [u8]
     ensures { result.now ≡ command_text command }
@@ -108,15 +80,62 @@ fn text_of(keyword: Keyword) -> &'static [u8]
     }
 }
 
+/// The one word that can have these for its second and its last byte.
+fn guess(second: u8, last: u8) -> Keyword
+    ensures { result ≡ guess_of second last }
+{
+    match second {
+        b'u' => match last {
+            b'r' => Keyword::Buffer,
+            b't' => Keyword::Command(Command::Submit),
+            _ => Keyword::Command(Command::Dump),
+        },
+        b'e' => match last {
+            b'o' => Keyword::Zero,
+            b'n' => Keyword::Command(Command::Begin),
+            b'p' => Keyword::Command(Command::Reap),
+            b'd' => Keyword::Command(Command::Read),
+            _ => Keyword::Command(Command::Fence),
+        },
+        b'i' => match last {
+            b'g' => Keyword::Ring,
+            b'l' => Keyword::Final,
+            b'k' => Keyword::Command(Command::Pick),
+            b'h' => Keyword::Command(Command::Finish),
+            _ => Keyword::Command(Command::Timeout),
+        },
+        b'n' => match last {
+            b'y' => Keyword::Entity,
+            _ => Keyword::Command(Command::End),
+        },
+        b'o' => match last {
+            b's' => Keyword::Jobs,
+            b'o' => Keyword::Go,
+            b'b' => Keyword::Job,
+            _ => Keyword::Command(Command::Done),
+        },
+        b'r' => match last {
+            b'y' => Keyword::Command(Command::Try),
+            b'p' => Keyword::Command(Command::Drop),
+            _ => Keyword::Command(Command::Arm),
+        },
+        b'l' => Keyword::Command(Command::Plan),
+        b't' => Keyword::Command(Command::Step),
+        _ => Keyword::Command(Command::Cancel),
+    }
+}
+
 /// The line that begins with this word.
-#[tactic(auto, using(crate::proofs::Finding::find_goes_on), unfolding(crate::specs::Keywords::keyword_of))]
 pub fn read_keyword(word: &[u8]) -> Option<Keyword>
     ensures { result ≡ keyword_of word.now }
 {
-    for keyword in &KEYWORDS {
-        if word == text_of(*keyword) {
-            return Some(*keyword);
-        }
+    if word.len() < 2 {
+        return None;
     }
-    None
+    let keyword = guess(word[1], word[word.len() - 1]);
+    if word == text_of(keyword) {
+        Some(keyword)
+    } else {
+        None
+    }
 }

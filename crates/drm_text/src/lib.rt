@@ -13,8 +13,6 @@ mod laws;
 mod lines;
 mod number;
 mod parts;
-#[cfg(test)]
-mod tests;
 mod words;
 
 pub use fault::{Fault, Position, ReadError, TextFault};

@@ -11,8 +11,22 @@ use std::marker::Model;
 /// The most bytes of a text.
 pub const MAX_TEXT: usize = 1_048_576;
 
-/// The place of the first such byte, or the length.
+/// The place of the first such byte, or the length. A line can be long, words and their pieces are short.
 fn end_of(bytes: &[u8], separator: u8) -> usize
+    ensures { result ≡ position_or_len (λ b. b == separator) bytes.now }
+{
+    if separator == b'\n' {
+        return end_of_line(bytes, separator);
+    }
+    let mut end = 0;
+    while end < bytes.len() && bytes[end] != separator {
+        end += 1;
+    }
+    end
+}
+
+#[inline(never)]
+fn end_of_line(bytes: &[u8], separator: u8) -> usize
     ensures { result ≡ position_or_len (λ b. b == separator) bytes.now }
 {
     memchr(separator, bytes).unwrap_or(bytes.len())

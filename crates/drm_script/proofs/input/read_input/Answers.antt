@@ -1,7 +1,14 @@
-use Rattle.drm_script.proofs.Known.{taken}
+use Rattle.std.proofs.Common.{rules}
+use Rattle.std.proofs.lemmas.List.{places}
+use Rattle.drm_script.proofs.Known.{reads_front}
 use Rattle.drm_script.proofs.input.read_input.Goals as goal
 
-pub returns : goal.returns
-returns g c =
-    let h = rw (c.take.ensures.limit, c.take.ensures.inner) at c.in_ok-read_to_end.ensures.bytes in
-    taken 1048577 (g.R.Read.remaining c.args.reader.now) c.read_to_end.new.buf.items (rw c.new-text.ensures.items at h)
+pub returns-clause-text : goal.returns-clause-text
+returns-clause-text g c =
+    let read = c.in_ok-len.ensures in
+    rw c.truncate.ensures.items (reads_front _ _ c.fill.new.text.items c.in_ok-len.len 1048577 (search (rules, places)) read.bound.1 read.end read.ok).0
+
+pub returns-clause-left : goal.returns-clause-left
+returns-clause-left g c =
+    let read = c.in_ok-len.ensures in
+    (reads_front _ _ c.fill.new.text.items c.in_ok-len.len 1048577 (search (rules, places)) read.bound.1 read.end read.ok).1

@@ -4,8 +4,8 @@ use Rattle.drm_script.proofs.input.read_script_from.Goals as goal
 
 pub returns-in-Ok-clause-value : goal.returns-in-Ok-clause-value
 returns-in-Ok-clause-value g c =
-    spelled judge_script judge_script_taken (g.R.Read.remaining c.args.reader.now) c.in_ok-text.text.items _ c.in_ok-text.ensures (rw (← c.deref.ensures.value) c.in-Ok.ensures.value)
+    spelled judge_script judge_script_taken (g.R.Read.remaining c.args.reader.now) c.in_ok-text.text.items _ c.in_ok-text.ensures.text (rw (← c.deref.ensures.value) c.in-Ok.ensures.value)
 
 pub returns-clause-value : goal.returns-clause-value
 returns-clause-value g c =
-    rw c.to_input_error.ensures (not_read judge_script judge_script_taken (g.R.Read.remaining c.args.reader.now) c.in_ok-text.text.items c.in-Err.error c.in_ok-text.ensures (rw (← c.deref.ensures.value) c.in-Err.ensures.value))
+    rw c.to_input_error.ensures (not_read judge_script judge_script_taken (g.R.Read.remaining c.args.reader.now) c.in_ok-text.text.items c.in-Err.error c.in_ok-text.ensures.text (rw (← c.deref.ensures.value) c.in-Err.ensures.value))

@@ -1,10 +1,13 @@
-use Rattle.std.proofs.Common.{◌∙◌, sym}
-use Rattle.std.specs.Str.{bytes_eq}
-use Rattle.drm_text.specs.declared.keywords.Keyword.TheVariants.{Buffer}
-use Rattle.drm_text.specs.Keywords.{keywords, keyword_text, keyword_of}
-use Rattle.drm_text.proofs.Finding.{find_goes_on}
+use Rattle.std.proofs.Common.{sym, ◌∙◌}
+use Rattle.drm_text.proofs.Guessing.{short_word, guess_right, guess_wrong}
 use Rattle.drm_text.proofs.keywords.read_keyword.Goals as goal
 
-pub loop-keyword-preserved : goal.loop-keyword-preserved
-loop-keyword-preserved c =
-    find_goes_on (λ k. bytes_eq c.args.word.now (keyword_text k)) keywords c.loop-keyword.keyword-index Buffer (keyword_of c.args.word.now) c.loop-keyword-test.true (rw (← c.text_of.ensures) (sym c.eq.ensures ∙ c.if-eq.false)) c.loop-keyword.invariant
+pub returns-then-word-lt2 : goal.returns-then-word-lt2
+returns-then-word-lt2 c = short_word c.args.word.now c.if-word-lt2.true
+
+pub returns-then-eq : goal.returns-then-eq
+returns-then-eq c = guess_right c.args.word.now c.guess-keyword.result (rw (← c.text_of.ensures) (sym c.eq.ensures ∙ c.if-eq.true))
+
+pub returns-else-eq : goal.returns-else-eq
+returns-else-eq c =
+    guess_wrong c.args.word.now c.guess-keyword.result c.guess-keyword.ensures (rw (← c.text_of.ensures) (sym c.eq.ensures ∙ c.if-eq.false))

@@ -1,0 +1,122 @@
+use drm_core::{Answer, Refusal};
+use drm_job::{DraftList, JobFault};
+use drm_script::write_answers;
+use drm_types::{BufferId, Outcome, Sequence};
+use std::test::Fail;
+
+#[test]
+fn answers_to_submitters(rt: HostRuntime) -> Result<(), Fail> {
+    let answers = [
+        Answer::Ok,
+        Answer::Armed { fence: 0 },
+        Answer::Ticket { ticket: 1 },
+        Answer::Held,
+        Answer::Older { holder: 1 },
+        Answer::Younger { holder: 2 },
+        Answer::Planned,
+    ];
+    let text = write_answers(rt.alloc(), &answers)?;
+    let want: &[u8] = b"ok\narmed 0\nticket 1\nheld\nolder 1\nyounger 2\nplanned\n";
+    assert!(rt; text.as_slice() == want);
+    Ok(())
+}
+
+#[test]
+fn answers_of_rings(rt: HostRuntime) -> Result<(), Fail> {
+    let answers = [
+        Answer::Picked {
+            fence: 0,
+            skipped: false,
+        },
+        Answer::Picked {
+            fence: 2,
+            skipped: true,
+        },
+        Answer::Ran {
+            fence: 0,
+            packet: 1,
+        },
+        Answer::Stalled { fence: 0 },
+        Answer::Finished {
+            fence: 0,
+            outcome: Outcome::Good,
+        },
+        Answer::Finished {
+            fence: 1,
+            outcome: Outcome::Cancelled,
+        },
+    ];
+    let text = write_answers(rt.alloc(), &answers)?;
+    let want: &[u8] =
+        b"picked 0 run\npicked 2 skip\nran 0 1\nstalled 0\nfinished 0 1\nfinished 1 -125\n";
+    assert!(rt; text.as_slice() == want);
+    Ok(())
+}
+
+#[test]
+fn answers_to_a_timer(rt: HostRuntime) -> Result<(), Fail> {
+    let answers = [
+        Answer::Empty,
+        Answer::NotYet { due_in: 10 },
+        Answer::Complete,
+        Answer::Resumed,
+        Answer::Guilty { entity: 0 },
+        Answer::Reaped { fence: 1 },
+    ];
+    let text = write_answers(rt.alloc(), &answers)?;
+    let want: &[u8] = b"empty\nnotyet 10\ncomplete\nresumed\nguilty 0\nreaped 1\n";
+    assert!(rt; text.as_slice() == want);
+    Ok(())
+}
+
+#[test]
+fn answers_to_readers(rt: HostRuntime) -> Result<(), Fail> {
+    let bytes = Sequence::from_vec(vec![in rt.alloc(); 0, 10, 255]?);
+    let answers = [
+        Answer::Bytes { bytes },
+        Answer::Status { status: -125 },
+        Answer::Status { status: 1 },
+        Answer::NotYet { due_in: u64::MAX },
+    ];
+    let text = write_answers(rt.alloc(), &answers)?;
+    let want: &[u8] = b"bytes 000aff\nfence -125\nfence 1\nnotyet 18446744073709551615\n";
+    assert!(rt; text.as_slice() == want);
+    Ok(())
+}
+
+#[test]
+fn refusals_of_jobs(rt: HostRuntime) -> Result<(), Fail> {
+    let answers = [
+        Answer::Refused(Refusal::Faulty(JobFault::NoEntity)),
+        Answer::Refused(Refusal::Faulty(JobFault::TooMany {
+            what: DraftList::Packets,
+        })),
+        Answer::Refused(Refusal::Faulty(JobFault::DeclaredTwice {
+            buffer: BufferId::new(3),
+        })),
+        Answer::Refused(Refusal::Faulty(JobFault::PacketRange { packet: 1 })),
+    ];
+    let text = write_answers(rt.alloc(), &answers)?;
+    let want: &[u8] = b"refused 10\nrefused 13 2\nrefused 15 3\nrefused 18 1\n";
+    assert!(rt; text.as_slice() == want);
+    Ok(())
+}
+
+#[test]
+fn refusals_of_events(rt: HostRuntime) -> Result<(), Fail> {
+    let answers = [
+        Answer::Refused(Refusal::Memory),
+        Answer::Refused(Refusal::NoFence { fence: 7 }),
+        Answer::Refused(Refusal::NoCredit { need: 2, free: 1 }),
+        Answer::Refused(Refusal::Busy { fence: 0 }),
+        Answer::Refused(Refusal::StillHolds {
+            buffer: BufferId::new(0),
+        }),
+        Answer::Refused(Refusal::Already),
+    ];
+    let text = write_answers(rt.alloc(), &answers)?;
+    let want: &[u8] =
+        b"refused 12\nrefused 20 7\nrefused 41 2 1\nrefused 46 0\nrefused 56 0\nrefused 114\n";
+    assert!(rt; text.as_slice() == want);
+    Ok(())
+}

@@ -1,0 +1,211 @@
+use crate::joined;
+use drm_core::Event;
+use drm_packet::Packet;
+use drm_script::{Script, read_script, read_script_from};
+use drm_text::{Fault, ReadError};
+use drm_types::{Access, BufferId, Priority};
+use std::alloc::Global;
+use std::test::Fail;
+
+const DEVICE: &[u8] = b"buffer 00000000\nring 4 10 0\nentity 0 normal\njobs 8\ngo\n";
+
+/// Column and number of a script's first fault, if it is in the first line behind the header.
+fn fault_of(alloc: Global, text: &[u8]) -> Option<(u32, u32)> {
+    match read_script(alloc, text) {
+        Err(
+            ReadError::Fault(
+                Fault::Text {
+                    line: 6,
+                    column,
+                    what,
+                },
+            ),
+        ) => Some((column, what.number())),
+        _ => None,
+    }
+}
+
+#[test]
+fn faults_of_commands(rt: HostRuntime) -> Result<(), Fail> {
+    let table: [(&[u8], u32, u32); 19] = [
+        (b"pick 0\n", 7, 70),
+        (b"pick 1 0\n", 6, 72),
+        (b"pick 00 0\n", 6, 71),
+        (b"pick  0\n", 6, 70),
+        (b"step 0 \n", 8, 70),
+        (b"step 0 0\n", 8, 70),
+        (b"dump 0", 7, 75),
+        (b"dump\t0", 5, 76),
+        (b"dump 0 0", 9, 75),
+        (b"dump 1\n", 6, 72),
+        (b"begin 64\n", 7, 72),
+        (b"try 0 1\n", 7, 72),
+        (b"reap 1\n", 6, 72),
+        (b"fence 4294967296\n", 7, 71),
+        (b"finish 0 18446744073709551616\n", 10, 71),
+        (b"ring 4 10 0\n", 1, 73),
+        (b"final 00\n", 1, 73),
+        (b"hello\n", 1, 70),
+        (b"\n", 1, 70),
+    ];
+    for (text, column, number) in table {
+        let all = joined(rt.alloc(), DEVICE, text)?;
+        assert_eq!(rt; fault_of(rt.alloc(), &all), Some((column, number)));
+    }
+    Ok(())
+}
+
+#[test]
+fn faults_of_jobs(rt: HostRuntime) -> Result<(), Fail> {
+    let table: [(&[u8], u32, u32); 5] = [
+        (b"submit 0 1 a0 w9x\n", 15, 70),
+        (b"submit 0 65536\n", 10, 71),
+        (b"submit 0 1 w0 fill:0:0:4\n", 15, 70),
+        (b"submit 0 1 w0 fill:0:0:4:0G\n", 15, 71),
+        (b"submit 0 1 x\n", 12, 70),
+    ];
+    for (text, column, number) in table {
+        let all = joined(rt.alloc(), DEVICE, text)?;
+        assert_eq!(rt; fault_of(rt.alloc(), &all), Some((column, number)));
+    }
+    Ok(())
+}
+
+/// The place of a command in their order, and its numbers.
+fn numbers_of(event: &Event) -> (u32, u64, u64) {
+    match event {
+        Event::Submit { draft } => (1, u64::from(draft.entity), u64::from(draft.credits)),
+        Event::Begin { ctx } => (2, u64::from(*ctx), 0),
+        Event::Try { ctx, buffer } => (3, u64::from(*ctx), u64::from(buffer.number())),
+        Event::Done { ctx } => (4, u64::from(*ctx), 0),
+        Event::Drop { ctx, buffer } => (5, u64::from(*ctx), u64::from(buffer.number())),
+        Event::End { ctx } => (6, u64::from(*ctx), 0),
+        Event::Plan { ctx, draft } => (7, u64::from(*ctx), u64::from(draft.credits)),
+        Event::Arm { ctx } => (8, u64::from(*ctx), 0),
+        Event::Pick { ring, now } => (9, u64::from(*ring), *now),
+        Event::Step { ring } => (10, u64::from(*ring), 0),
+        Event::Finish { ring, now } => (11, u64::from(*ring), *now),
+        Event::Timeout { ring, now } => (12, u64::from(*ring), *now),
+        Event::Cancel { entity } => (13, u64::from(*entity), 0),
+        Event::Reap { entity } => (14, u64::from(*entity), 0),
+        Event::Read { ctx, buffer } => (15, u64::from(*ctx), u64::from(buffer.number())),
+        Event::Status { fence } => (16, u64::from(*fence), 0),
+        Event::Dump { buffer } => (17, u64::from(buffer.number()), 0),
+    }
+}
+
+const ALL_COMMANDS: &[u8] = b"buffer 0a\nzero 2\nring 4 10 0\nring 5 4294967295 1000\n\
+entity 1 kernel\nentity 0 high\njobs 65535\ngo\n\
+submit 1 65535 w0 r1 a7 a6 fill:0:0:1:ff copy:1:0:0:2:3 add:1:4:0:5:6 stall:65535\nbegin 63\ntry 1 1\ndone 2\n\
+drop 3 0\nend 4\nplan 5 1 9\narm 6\npick 1 18446744073709551615\nstep 0\nfinish 1 2\ntimeout 0 3\ncancel 1\n\
+reap 0\nread 7 1\nfence 4294967295\ndump 1\n";
+
+fn all_commands(alloc: Global) -> Option<Script> {
+    let mut text = ALL_COMMANDS;
+    read_script_from(alloc, &mut text).ok()
+}
+
+#[test]
+fn the_header_of_all_commands(rt: HostRuntime) -> Result<(), Fail> {
+    let Some(script) = all_commands(rt.alloc()) else {
+        panic!(rt; "refused");
+    };
+    assert_eq!(rt; script.spec.max_jobs, 65535);
+    let sizes = [1, 2];
+    for (bytes, size) in script.spec.buffers.as_slice().iter().zip(&sizes) {
+        assert_eq!(rt; bytes.len(), *size);
+    }
+    let priorities = [Priority::Kernel, Priority::High];
+    for (entity, priority) in script.spec.entities.as_slice().iter().zip(&priorities) {
+        assert_eq!(rt; entity.priority, *priority);
+    }
+    Ok(())
+}
+
+#[test]
+fn the_events_of_all_commands(rt: HostRuntime) -> Result<(), Fail> {
+    let Some(script) = all_commands(rt.alloc()) else {
+        panic!(rt; "refused");
+    };
+    let want = [
+        (1, 1, 65535),
+        (2, 63, 0),
+        (3, 1, 1),
+        (4, 2, 0),
+        (5, 3, 0),
+        (6, 4, 0),
+        (7, 5, 9),
+        (8, 6, 0),
+        (9, 1, u64::MAX),
+        (10, 0, 0),
+        (11, 1, 2),
+        (12, 0, 3),
+        (13, 1, 0),
+        (14, 0, 0),
+        (15, 7, 1),
+        (16, 4294967295, 0),
+        (17, 1, 0),
+    ];
+    assert_eq!(rt; script.lines.len(), want.len());
+    for (event, want) in script.lines.as_slice().iter().zip(&want) {
+        assert_eq!(rt; numbers_of(event), *want);
+    }
+    Ok(())
+}
+
+#[test]
+fn words_of_a_job(rt: HostRuntime) -> Result<(), Fail> {
+    let Some(script) = all_commands(rt.alloc()) else {
+        panic!(rt; "refused");
+    };
+    let Some(Event::Submit { draft }) = script.lines.as_slice().first() else {
+        panic!(rt; "no job");
+    };
+    assert_eq!(rt; draft.declared.len(), 2);
+    assert!(rt; draft.declared.as_slice().first() == Some(&(BufferId::new(0), Access::Write)));
+    assert!(rt; draft.after.as_slice().first() == Some(&7));
+    Ok(())
+}
+
+/// The packets of the first job of all commands.
+fn packets() -> [Packet; 4] {
+    [
+        Packet::Fill {
+            buffer: BufferId::new(0),
+            offset: 0,
+            len: 1,
+            byte: 255,
+        },
+        Packet::Copy {
+            source: BufferId::new(1),
+            source_offset: 0,
+            target: BufferId::new(0),
+            target_offset: 2,
+            len: 3,
+        },
+        Packet::Add {
+            source: BufferId::new(1),
+            source_offset: 4,
+            target: BufferId::new(0),
+            target_offset: 5,
+            len: 6,
+        },
+        Packet::Stall { resets: 65535 },
+    ]
+}
+
+#[test]
+fn packets_of_a_job(rt: HostRuntime) -> Result<(), Fail> {
+    let Some(script) = all_commands(rt.alloc()) else {
+        panic!(rt; "refused");
+    };
+    let Some(Event::Submit { draft }) = script.lines.as_slice().first() else {
+        panic!(rt; "no job");
+    };
+    let want = packets();
+    assert_eq!(rt; draft.packets.len(), want.len());
+    for (packet, want) in draft.packets.as_slice().iter().zip(&want) {
+        assert_eq!(rt; *packet, *want);
+    }
+    Ok(())
+}

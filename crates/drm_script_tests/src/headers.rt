@@ -1,0 +1,49 @@
+use drm_script::read_script;
+use drm_text::{Fault, ReadError};
+use std::alloc::Global;
+use std::test::Fail;
+
+/// Line, column and number of a text's first fault; a refused device has its part, its index and 1.
+fn fault_of(alloc: Global, text: &[u8]) -> Option<(u32, u32, u32)> {
+    match read_script(alloc, text) {
+        Err(ReadError::Fault(Fault::Text { line, column, what })) => {
+            Some((line, column, what.number()))
+        }
+        Err(ReadError::Fault(Fault::Device(bad))) => Some((bad.part, bad.index, 1)),
+        _ => None,
+    }
+}
+
+#[test]
+fn faults_of_headers(rt: HostRuntime) {
+    let table: [(&[u8], u32, u32, u32); 8] = [
+        (b"", 1, 1, 73),
+        (b"buffer 00000000\nring 65536 10 0\n", 2, 6, 71),
+        (b"buffer 000\n", 1, 8, 71),
+        (b"buffer 0A\n", 1, 8, 71),
+        (b"zero 65536\n", 1, 6, 71),
+        (b"go\n", 1, 1, 73),
+        (b"ring 4 10 0\nbuffer 00\n", 2, 1, 73),
+        (b"entity 0 middle\n", 1, 10, 70),
+    ];
+    for (text, line, column, number) in table {
+        assert_eq!(rt; fault_of(rt.alloc(), text), Some((line, column, number)));
+    }
+}
+
+#[test]
+fn faults_of_devices(rt: HostRuntime) {
+    let no_credits = b"buffer 00\nring 0 10 0\nentity 0 low\njobs 8\ngo\n";
+    assert_eq!(rt; fault_of(rt.alloc(), no_credits), Some((3, 0, 1)));
+    let no_entity = b"buffer 00\nring 4 10 0\njobs 8\ngo\nhello";
+    assert_eq!(rt; fault_of(rt.alloc(), no_entity), Some((6, 0, 1)));
+}
+
+#[test]
+fn texts_have_a_greatest_length(rt: HostRuntime) -> Result<(), Fail> {
+    let long = vec![in rt.alloc(); 0u8; 1_048_577]?;
+    assert_eq!(rt; fault_of(rt.alloc(), &long), Some((0, 0, 74)));
+    let full = vec![in rt.alloc(); b'\n'; 1_048_576]?;
+    assert_eq!(rt; fault_of(rt.alloc(), &full), Some((1, 1, 70)));
+    Ok(())
+}

@@ -1,0 +1,100 @@
+use crate::joined;
+use drm_script::{Journal, read_journal, read_journal_from, write_journal};
+use drm_text::{Fault, ReadError};
+use std::alloc::{AllocError, Global};
+use std::test::Fail;
+
+const HEADER: &[u8] = b"buffer 00\nbuffer 01\nring 4 10 1\nentity 0 normal\njobs 8\ngo\n";
+
+const FIRST_JOB: &[u8] = b"job 2 -125 0 1 w0 r1 add:1:0:0:0:1 add:1:0:0:0:1 add:1:0:0:0:1\n";
+
+const SECOND_JOB: &[u8] = b"job 1 1 0 1 w1 r0 add:0:0:1:0:1\n";
+
+const FINALS: &[u8] = b"final 02\nfinal 03\nend\n";
+
+/// The journal of the worked example.
+fn example(alloc: Global) -> Result<Vec<u8>, AllocError> {
+    let mut text = joined(alloc, HEADER, FIRST_JOB)?;
+    text.extend_from_slice(SECOND_JOB)?;
+    text.extend_from_slice(FINALS)?;
+    Ok(text)
+}
+
+fn read_example(alloc: Global, text: &[u8]) -> Option<Journal> {
+    read_journal(alloc, text).ok()
+}
+
+#[test]
+fn a_journal_is_written_as_it_was_read(rt: HostRuntime) -> Result<(), Fail> {
+    let text = example(rt.alloc())?;
+    let Some(journal) = read_example(rt.alloc(), &text) else {
+        panic!(rt; "refused");
+    };
+    assert_eq!(rt; journal.jobs().len(), 2);
+    let written = write_journal(rt.alloc(), &journal)?;
+    assert!(rt; written.as_slice() == text.as_slice());
+    Ok(())
+}
+
+#[test]
+fn a_journal_is_read_from_a_reader(rt: HostRuntime) -> Result<(), Fail> {
+    let text = example(rt.alloc())?;
+    let mut reader = text.as_slice();
+    let Ok(journal) = read_journal_from(rt.alloc(), &mut reader) else {
+        panic!(rt; "refused");
+    };
+    assert_eq!(rt; journal.spec().max_jobs, 8);
+    assert_eq!(rt; journal.finals().len(), 2);
+    Ok(())
+}
+
+/// Line, column and number of the first fault of a journal, whose header is a front and these lines.
+fn fault_of(
+    alloc: Global,
+    first: &[u8],
+    rest: &[u8],
+) -> Result<Option<(u32, u32, u32)>, AllocError> {
+    let mut text = joined(alloc, HEADER, first)?;
+    text.extend_from_slice(rest)?;
+    match read_journal(alloc, &text) {
+        Err(ReadError::Fault(Fault::Text { line, column, what })) => {
+            Ok(Some((line, column, what.number())))
+        }
+        _ => Ok(None),
+    }
+}
+
+#[test]
+fn faults_of_journals_jobs(rt: HostRuntime) -> Result<(), Fail> {
+    let table: [(&[u8], u32, u32); 6] = [
+        (b"job 4 -125 0 1\n", 1, 77),
+        (b"job 1 -3 0 1 w0 fill:0:0:1:01\n", 1, 77),
+        (b"job 1 1 0 1\n", 1, 77),
+        (b"job 0 0 0 1 a0\n", 1, 77),
+        (b"job 0 0 1 1\n", 1, 77),
+        (b"job 0 2 0 1\n", 7, 70),
+    ];
+    for (job, column, number) in table {
+        let told = fault_of(rt.alloc(), job, FINALS)?;
+        assert_eq!(rt; told, Some((7, column, number)));
+    }
+    Ok(())
+}
+
+#[test]
+fn faults_of_journals_ends(rt: HostRuntime) -> Result<(), Fail> {
+    let table: [(&[u8], u32, u32, u32); 7] = [
+        (b"final 0203\nfinal 03\nend\n", 7, 7, 71),
+        (b"final 02\nfinal 03\n", 9, 1, 73),
+        (b"final 02\nend\n", 8, 1, 73),
+        (b"final 02\nfinal 03\nfinal 04\n", 9, 1, 73),
+        (b"final 02\njob 0 0 0 1\n", 8, 1, 73),
+        (b"final 02\nfinal 03\nend\nend\n", 10, 1, 73),
+        (b"final 02\nfinal 03\nend\nmore\n", 10, 1, 70),
+    ];
+    for (rest, line, column, number) in table {
+        let told = fault_of(rt.alloc(), b"", rest)?;
+        assert_eq!(rt; told, Some((line, column, number)));
+    }
+    Ok(())
+}

@@ -1,0 +1,37 @@
+use crate::fault_at;
+use drm_text::{Lines, TextFault, order_fault};
+
+#[test]
+fn lines_end_with_a_line_feed(rt: HostRuntime) {
+    let mut lines = Lines::new(b"go\nfence 0");
+    assert_eq!(rt; lines.number(), 1);
+    assert!(rt; lines.next() == Some(b"go".as_slice()));
+    assert_eq!(rt; lines.number(), 2);
+    assert!(rt; lines.next().is_none());
+    assert_eq!(rt; lines.end(), Err(fault_at(2, 8, TextFault::NoEnd)));
+}
+
+#[test]
+fn no_line_is_left_of_nothing(rt: HostRuntime) {
+    assert_eq!(rt; Lines::new(b"").end(), Ok(()));
+    assert_eq!(rt; order_fault(9), fault_at(9, 1, TextFault::Order));
+}
+
+#[test]
+fn faults_have_their_numbers(rt: HostRuntime) {
+    let faults = [
+        TextFault::Word,
+        TextFault::Number,
+        TextFault::NoSuch,
+        TextFault::Order,
+        TextFault::TooLong,
+        TextFault::NoEnd,
+        TextFault::NotText,
+        TextFault::BadJob,
+    ];
+    let mut expected = 70;
+    for fault in faults {
+        assert_eq!(rt; fault.number(), expected);
+        expected += 1;
+    }
+}
