@@ -1,5 +1,5 @@
 -- A command line of two words, the program's name and the word of an engine.
-use Rattle.std.proofs.Common.{◌≡◌, ℕ, true, List, [], ◌∷◌, Some, refl, ap, arith, slice_index, ◌==◌}
+use Rattle.std.proofs.Common.{◌≡◌, true, [], ◌∷◌, Some, refl, ap, slice_index, ◌==◌}
 use Rattle.std.proofs.lemmas.Bool.{true≢false}
 use Rattle.clap.specs.Words.{Text, takes, is_simple, is_simple_and_free}
 use Rattle.clap.proofs.OnLiterals.{clap_on_literals}

@@ -1,6 +1,5 @@
 use Rattle.std.proofs.Common.{◌≡◌, ◌∙◌, ap, map, subst}
 use Rattle.std.specs.String.{string_bytes}
-use Rattle.drm_engine.specs.Engines.{Runs}
 use Rattle.drm_engine.specs.declared.engine.Engine.{Engine}
 use Rattle.drm_engine.specs.declared.ending.Ending.TheVariants.{NoMemory}
 use Rattle.drmsim.specs.Statuses.{EndsAs, status_of_error}

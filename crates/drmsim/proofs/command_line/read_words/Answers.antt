@@ -1,8 +1,7 @@
 use Rattle.std.specs.String.{string_bytes}
-use Rattle.std.proofs.Common.{rules, map, ◌≡◌, ◌∙◌, ap, ap₂, true, sym}
+use Rattle.std.proofs.Common.{rules, map, ◌∙◌, ap₂, sym}
 use Rattle.std.proofs.lemmas.Option.{same_Some}
 use Rattle.clap.specs.Words.{takes}
-use Rattle.drmsim.specs.CommandLine.{program_app, word_entered}
 use Rattle.drmsim.proofs.Taken.{is_taken, is_entered, names_one, names_some}
 use Rattle.drmsim.proofs.Entered.{engine_entered, none_refused, word_found}
 use Rattle.drmsim.proofs.command_line.read_words.Goals as goal
