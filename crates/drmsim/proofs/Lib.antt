@@ -1,2 +1,3 @@
-pub mod Fitting
-pub mod Places
+pub mod Entered
+pub mod Taken
+pub mod Statuses

@@ -1,5 +1,2 @@
-pub mod Endings
-pub mod Replaying
-pub mod Leaving
-pub mod Comparing
-pub mod Journals
+pub mod CommandLine
+pub mod Statuses

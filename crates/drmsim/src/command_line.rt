@@ -1,18 +1,19 @@
 //! The command line.
 
+ghost use Rattle.std.specs.Prelude.{◌≡◌, IfOk, Some, false, map};
+ghost use Rattle.std.specs.String.{string_bytes};
+ghost use Rattle.clap.specs.Words.{FailsBy, app_of, fault_of, new_app};
+ghost use Rattle.clap.specs.declared.builder.command.Command.TheViews.{out-Command};
+ghost use Rattle.drm_engine.specs.Engines.{word_of};
+ghost use Rattle.drm_engine.specs.declared.engine.Engine.{Engine as EngineOf};
+ghost use Rattle.drmsim.specs.CommandLine.{GivesAlone, IsCommandLineOf, program_app, top_app, word_entered};
+
 use clap::{Command, Error};
+use drm_engine::Engine;
 use std::alloc::{AllocError, Global};
 
-/// What the words of the command line ask for.
-#[derive(Clone, Copy, Debug, PartialEq, Eq)]
-pub enum Engine {
-    /// Answers the commands of a script.
-    Replay,
-    /// Runs the jobs of a journal one after another.
-    Serial,
-    /// Compares a journal's last bytes with those that its jobs leave one after another.
-    Check,
-}
+/// The version of the program, and the toolchain that it is proved with, as `rt version` tells it.
+const VERSION: &str = "0.1.0 (rattle-kit-13b logic dac8208d650f15bf)";
 
 const REPLAY_HELP: &str = "\
 Reads a script from standard input: a header that describes the device, and one command on each further line. \
@@ -56,34 +57,69 @@ Exit status:
 
 With status 2 or 3 nothing was written. docs/FORMATS.md is the manual of scripts, answers and journals.";
 
-fn program<'a>(alloc: Global) -> Result<Command<'a>, AllocError> {
-    let replay = Command::new(alloc, "replay")
-        .about("Answers the commands of a script")
-        .long_about(REPLAY_HELP);
-    let serial = Command::new(alloc, "serial")
-        .about("Runs the jobs of a journal one after another and writes the buffers")
-        .long_about(SERIAL_HELP);
-    let check = Command::new(alloc, "check")
-        .about("Compares these buffers with the last bytes that the journal tells")
-        .long_about(CHECK_HELP);
+/// A command that runs an engine.
+fn command<'a>(alloc: Global, name: &'a str, about: &'a str, help: &'a str) -> Command<'a>
+    ensures app { app_of result ≡ new_app name.entry.now }
+    ensures local { (out-Command result).has_globals ≡ false }
+{
+    Command::new(alloc, name).about(about).long_about(help)
+}
+
+/// The program without its commands.
+fn bare_program<'a>(alloc: Global) -> Command<'a>
+    ensures app { app_of result ≡ top_app }
+    ensures local { (out-Command result).has_globals ≡ false }
+{
     Command::new(alloc, "drmsim")
+        .version(VERSION)
         .about(
             "Runs the scheduler of a simulated GPU: from a text on standard input to lines on standard output",
         )
         .after_help(STATUS_HELP)
         .subcommand_required(true)
+}
+
+/// The program with its commands.
+fn program<'a>(alloc: Global) -> Result<Command<'a>, AllocError>
+    ensures { IfOk result (λ command. app_of command ≡ program_app) }
+{
+    let replay = command(
+        alloc,
+        "replay",
+        "Answers the commands of a script",
+        REPLAY_HELP,
+    );
+    let serial = command(
+        alloc,
+        "serial",
+        "Runs the jobs of a journal one after another and writes the buffers",
+        SERIAL_HELP,
+    );
+    let check = command(
+        alloc,
+        "check",
+        "Compares these buffers with the last bytes that the journal tells",
+        CHECK_HELP,
+    );
+    bare_program(alloc)
         .subcommand(replay)?
         .subcommand(serial)?
         .subcommand(check)
 }
 
 /// What the words ask for, the program's name first. An error is what `clap` says of words that ask for nothing
-/// known, of a request for help, and of refused memory.
-pub fn read_words(alloc: Global, words: &[String]) -> Result<Engine, Error> {
+/// known, of a request for help or the version, and of refused memory.
+pub fn read_words(alloc: Global, words: &[String]) -> Result<Engine, Error>
+    ensures named { IfOk result (λ engine. word_entered (map string_bytes words.now) ≡ Some (word_of engine)) }
+    ensures command { (engine : EngineOf) → IsCommandLineOf engine (map string_bytes words.now) → GivesAlone engine result }
+    ensures kinds { FailsBy (fault_of program_app (map string_bytes words.now)) result }
+{
     let matches = program(alloc)?.try_get_matches_from(words)?;
     match matches.subcommand_name() {
-        Some("serial") => Ok(Engine::Serial),
-        Some("check") => Ok(Engine::Check),
-        _ => Ok(Engine::Replay),
+        Some(name) => match Engine::of_word(name) {
+            Some(engine) => Ok(engine),
+            None => unreachable!(),
+        },
+        None => unreachable!(),
     }
 }

@@ -1,48 +1,36 @@
 //! drmsim: the scheduler of a simulated GPU, driven by texts.
 //!
-//! Each command is an engine from standard input to standard output. `replay` answers the commands of a script;
-//! `serial` runs the jobs of a journal one after another and writes the buffers that they leave; `check` compares
-//! these with the last bytes that the journal tells. An engine works between any reader and any writer, and its clause
-//! says what was read and written for each way in which it ends. This file only reads the command line and tells the
-//! ending.
+//! Each command runs an engine of `drm_engine` from standard input to standard output. This program only reads the
+//! command line (`command_line`), runs the engine that it names, and tells how the engine ended: by the exit status,
+//! and by a line on standard error unless standard output has told it. `obey` does all that between any reader and any
+//! writer, and its clauses are what the program promises.
 #![tactic(auto)]
 
-ghost use Rattle.std.specs.Prelude.{◌≡◌};
+ghost use Rattle.std.specs.Prelude.{◌≡◌, ◌≢◌, [], Bool, map};
+ghost use Rattle.std.specs.Io.KnownBytes.{Keeps};
+ghost use Rattle.std.specs.IoError.{error_kind};
 ghost use Rattle.std.specs.Process.{exit_status};
-ghost use Rattle.drmsim.specs.Endings.{status_of};
+ghost use Rattle.std.specs.String.{string_bytes};
+ghost use Rattle.clap.specs.Words.{fault_of, kind_of};
+ghost use Rattle.drm_engine.specs.Endings.{status_of};
+ghost use Rattle.drm_engine.specs.declared.engine.Engine.{Engine as EngineOf};
+ghost use Rattle.drmsim.specs.CommandLine.{IsCommandLineOf, program_app};
+ghost use Rattle.drmsim.specs.Statuses.{EndsAs, IsObeyed, IsRefusal, status_of_error};
 
-mod check;
 mod command_line;
-mod comparison;
-mod ending;
-mod leaving;
-mod replay;
-mod serial;
 #[cfg(test)]
 mod tests;
 
-use check::check;
-use command_line::{Engine, read_words};
-use ending::Ending;
-use replay::replay;
-use serial::serial;
+use clap::error::ErrorKind as WordsError;
+use command_line::read_words;
+use drm_engine::Ending;
 use std::env;
-use std::io::{self, ErrorKind};
+use std::io::{self, ErrorKind, Read, Write};
 use std::process::ExitCode;
 
 /// The words of the command line, the program's name first.
 fn words(rt: &HostRuntime) -> io::Result<Vec<String>> {
     Ok(env::args(rt)?.collect(rt.alloc())?)
-}
-
-/// Runs the engine between standard input and standard output.
-fn run(rt: &HostRuntime, engine: Engine) -> Ending {
-    let (mut reader, mut writer) = (rt.stdin(), rt.stdout());
-    match engine {
-        Engine::Replay => replay(rt.alloc(), &mut reader, &mut writer),
-        Engine::Serial => serial(rt.alloc(), &mut reader, &mut writer),
-        Engine::Check => check(rt.alloc(), &mut reader, &mut writer),
-    }
 }
 
 /// Tells the ending on standard error, unless standard output has; nothing is left to do where that can't be written.
@@ -55,9 +43,23 @@ fn tell(rt: &HostRuntime, ending: &Ending) -> ExitCode
     ExitCode::from(ending.status())
 }
 
-/// Prints help on standard output, and on standard error what is wrong with the command line.
-fn explain(rt: &HostRuntime, error: &clap::Error) -> ExitCode {
-    if error.kind() == clap::error::ErrorKind::OutOfMemory {
+/// Tells that the words of the command line could not be had.
+fn tell_unread(rt: &HostRuntime, error: &io::Error) -> ExitCode
+    ensures memory { error_kind error.now ≡ ErrorKind.OutOfMemory → exit_status result ≡ 3 }
+    ensures other { error_kind error.now ≢ ErrorKind.OutOfMemory → exit_status result ≡ 2 }
+{
+    if error.kind() == ErrorKind::OutOfMemory {
+        return tell(rt, &Ending::NoMemory);
+    }
+    eprintln!(rt; "the command line: {error}").ok();
+    ExitCode::from(2)
+}
+
+/// Prints help and the version on standard output, and on standard error what is wrong with the command line.
+fn explain(rt: &HostRuntime, error: &clap::Error) -> ExitCode
+    ensures { (is_printed : Bool) × (exit_status result ≡ status_of_error (kind_of error.now) is_printed) }
+{
+    if error.kind() == WordsError::OutOfMemory {
         return tell(rt, &Ending::NoMemory);
     }
     let printed = error.print(rt);
@@ -67,19 +69,31 @@ fn explain(rt: &HostRuntime, error: &clap::Error) -> ExitCode {
     ExitCode::from(error.exit_code() as u8)
 }
 
+/// Does what the words ask for, between the reader and the writer.
+fn obey<R: Read, W: Write>(
+    rt: &HostRuntime,
+    words: &[String],
+    reader: &mut R,
+    writer: &mut W,
+) -> ExitCode
+    ensures commands { (engine : EngineOf) → IsCommandLineOf engine (map string_bytes words.now)
+        → EndsAs engine (R.remaining reader.old) (W.contents writer.old) (W.contents writer.new) (exit_status result) }
+    ensures accepted { fault_of program_app (map string_bytes words.now) ≡ []
+        → IsObeyed (map string_bytes words.now) (R.remaining reader.old) (W.contents writer.old) (W.contents writer.new) (exit_status result) }
+    ensures untouched { fault_of program_app (map string_bytes words.now) ≢ []
+        → Keeps (W.contents writer.old) (W.contents writer.new) }
+    ensures refused { fault_of program_app (map string_bytes words.now) ≢ []
+        → IsRefusal (fault_of program_app (map string_bytes words.now)) (exit_status result) }
+{
+    match read_words(rt.alloc(), words) {
+        Ok(engine) => tell(rt, &engine.run(rt.alloc(), reader, writer)),
+        Err(error) => explain(rt, &error),
+    }
+}
+
 fn main(rt: HostRuntime) -> ExitCode {
-    let words = match words(&rt) {
-        Ok(words) => words,
-        Err(error) if error.kind() == ErrorKind::OutOfMemory => {
-            return tell(&rt, &Ending::NoMemory);
-        }
-        Err(error) => {
-            eprintln!(rt; "the command line: {error}").ok();
-            return ExitCode::from(2);
-        }
-    };
-    match read_words(rt.alloc(), &words) {
-        Ok(engine) => tell(&rt, &run(&rt, engine)),
-        Err(error) => explain(&rt, &error),
+    match words(&rt) {
+        Ok(words) => obey(&rt, &words, &mut rt.stdin(), &mut rt.stdout()),
+        Err(error) => tell_unread(&rt, &error),
     }
 }

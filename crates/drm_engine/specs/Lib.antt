@@ -1,0 +1,6 @@
+pub mod Endings
+pub mod Replaying
+pub mod Leaving
+pub mod Comparing
+pub mod Journals
+pub mod Engines

@@ -1,0 +1,31 @@
+-- A replay: what is written answers the script that is read.
+use Rattle.std.specs.Prelude.{◌≡◌, ℕ, List, Option, Ok, Err, IfSome}
+use Rattle.std.specs.Io.KnownBytes.{Appends, Keeps}
+use Rattle.drm_core.specs.declared.event.Answer.{Answer}
+use Rattle.drm_core.specs.State.{CoreState, opened}
+use Rattle.drm_core.specs.Run.{LawfulRun}
+use Rattle.drm_core.specs.Headline.{Promises}
+use Rattle.drm_script.specs.declared.script.Script.{Script}
+use Rattle.drm_script.specs.Answers.{text_of_answers}
+use Rattle.drm_script.specs.Script.{judge_script}
+use Rattle.drm_script.specs.Transfer.{AppendsFront}
+use Rattle.drm_engine.specs.declared.ending.Ending.{Ending}
+use Rattle.drm_engine.specs.declared.ending.Ending.TheVariants as ending
+
+-- these answers are given to the events of the script by a core that begins as its device, in a lawful run that leaves it as promised
+abbrev pub AreAnswers : Script → List Answer → Type 0
+AreAnswers script answers = (final : CoreState) × LawfulRun (opened script.spec) script.lines answers final × Promises script.spec final
+
+-- a script that the input spells where it is known, and answers to its events, of which this holds
+abbrev pub Answers : Option (List ℕ) → (List Answer → Type 0) → Type 0
+Answers input Hold =
+    (script : Script) × IfSome input (λ text. judge_script text ≡ Ok script) × ((answers : List Answer) × AreAnswers script answers × Hold answers)
+
+-- what each ending says of the input and of what the writer holds before and after
+abbrev pub Replays : Option (List ℕ) → Option (List ℕ) → Option (List ℕ) → Ending → Type 0
+Replays input old new ending.Done = Answers input (λ answers. Appends old new (text_of_answers answers))
+Replays input old new ending.Differs = ⊥
+Replays input old new (ending.Fault fault) = IfSome input (λ text. judge_script text ≡ Err fault) × Keeps old new
+Replays input old new ending.NoInput = Keeps old new
+Replays input old new ending.NoMemory = Keeps old new
+Replays input old new ending.NoOutput = Answers input (λ answers. AppendsFront old new (text_of_answers answers))

@@ -1,0 +1,78 @@
+//! How a run of an engine ended, and how the program tells it.
+
+ghost use Rattle.std.specs.Prelude.{◌≡◌, Some};
+ghost use Rattle.drm_engine.specs.Endings.{ending_of_input, is_told, status_of, text_of_ending};
+
+use drm_script::{Fault, InputError};
+use drm_types::BadSpec;
+use std::fmt;
+
+/// How a run of an engine ended.
+#[derive(Debug, Drop)]
+pub enum Ending {
+    /// All was read, and all that was asked for was written.
+    Done,
+    /// All was read and compared, and where it differs was written.
+    Differs,
+    /// The first fault of the text, or the first part of the device that is out of its limits. Nothing was written.
+    Fault(Fault),
+    /// A read failed. Nothing was written.
+    NoInput,
+    /// Memory was refused outside of an event. Nothing was written.
+    NoMemory,
+    /// A write failed. What was written is the front of what was to be written.
+    NoOutput,
+}
+
+impl Ending {
+    /// Where an input could not be read: what that is to the engine.
+    pub fn of_input(error: InputError) -> Ending
+        ensures { result ≡ ending_of_input error }
+    {
+        match error {
+            InputError::Failed => Ending::NoInput,
+            InputError::Memory => Ending::NoMemory,
+            InputError::Fault(fault) => Ending::Fault(fault),
+        }
+    }
+
+    /// Whether standard output has told it all, and standard error stays empty.
+    pub fn is_told(&self) -> bool
+        ensures { result ≡ is_told self.now }
+    {
+        matches!(self, Ending::Done | Ending::Differs)
+    }
+
+    /// The exit status of a program that ends so.
+    pub fn status(&self) -> u8
+        ensures { result ≡ status_of self.now }
+    {
+        match self {
+            Ending::Done => 0,
+            Ending::Differs => 1,
+            Ending::Fault(_) => 2,
+            Ending::NoMemory => 3,
+            Ending::NoInput | Ending::NoOutput => 4,
+        }
+    }
+}
+
+impl fmt::Display for Ending {
+    ghost output = { λ ending. Some (text_of_ending ending) };
+
+    fn fmt<W: fmt::Write>(&self, f: &mut fmt::Formatter<W>) -> fmt::Result {
+        match self {
+            Ending::Done => write!(f, "done"),
+            Ending::Differs => write!(f, "differs"),
+            Ending::Fault(Fault::Text { line, column, what }) => {
+                write!(f, "line {line} column {column}: fault {}", what.number())
+            }
+            Ending::Fault(Fault::Device(BadSpec { part, index })) => {
+                write!(f, "refused 1 {part} {index}")
+            }
+            Ending::NoMemory => write!(f, "out of memory"),
+            Ending::NoInput => write!(f, "input failed"),
+            Ending::NoOutput => write!(f, "output failed"),
+        }
+    }
+}

@@ -1,0 +1,21 @@
+//! The engines, which read a text to its end and write lines, between any reader and any writer.
+//!
+//! `replay` answers the commands of a script. `serial` runs the jobs of a journal one after another and writes the
+//! buffers that they leave; `check` compares these with the last bytes that the journal tells. The clause of an engine
+//! says what was read and written for each way in which it ends: the whole text is judged before anything is written.
+//! `Ending` has the exit status and the text of each such way. An `Engine` is what a word of the command line names.
+#![tactic(auto)]
+
+mod checking;
+mod comparison;
+mod ending;
+mod engine;
+mod leaving;
+mod replaying;
+mod serializing;
+
+pub use checking::check;
+pub use ending::Ending;
+pub use engine::Engine;
+pub use replaying::replay;
+pub use serializing::serial;

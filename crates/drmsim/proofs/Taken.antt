@@ -1,0 +1,45 @@
+-- A command line of two words, the program's name and the word of an engine.
+use Rattle.std.proofs.Common.{◌≡◌, true, [], ◌∷◌, Some, refl, ap, slice_index, ◌==◌}
+use Rattle.std.proofs.lemmas.Bool.{true≢false}
+use Rattle.clap.specs.Words.{Text, takes, is_simple, is_simple_and_free}
+use Rattle.clap.proofs.OnLiterals.{clap_on_literals}
+use Rattle.drm_engine.specs.Engines.{NamesNone, word_of}
+use Rattle.drm_engine.specs.declared.engine.Engine.{Engine}
+use Rattle.drm_engine.specs.declared.engine.Engine.TheVariants as engine
+use Rattle.drmsim.specs.CommandLine.{program_app, word_entered}
+
+pub is_simple_program : is_simple program_app ≡ true
+is_simple_program = refl
+
+pub is_free_program : is_simple_and_free program_app ≡ true
+is_free_program = refl
+
+pub is_taken : (name : Text) (engine : Engine) → takes program_app (name ∷ word_of engine ∷ []) ≡ true
+unfolding clap_on_literals
+is_taken name engine.Replay = refl
+is_taken name engine.Serial = refl
+is_taken name engine.Check = refl
+
+pub is_entered : (name : Text) (engine : Engine) → word_entered (name ∷ word_of engine ∷ []) ≡ Some (word_of engine)
+unfolding clap_on_literals
+is_entered name engine.Replay = refl
+is_entered name engine.Serial = refl
+is_entered name engine.Check = refl
+
+-- a word names one engine
+pub names_one : (a b : Engine) → word_of a ≡ word_of b → a ≡ b
+names_one engine.Replay engine.Replay same = refl
+names_one engine.Serial engine.Serial same = refl
+names_one engine.Check engine.Check same = refl
+names_one engine.Replay engine.Serial same = absurd (true≢false (ap (λ (t : Text). slice_index t 0 == 114) same))
+names_one engine.Replay engine.Check same = absurd (true≢false (ap (λ (t : Text). slice_index t 0 == 114) same))
+names_one engine.Serial engine.Replay same = absurd (true≢false (ap (λ (t : Text). slice_index t 0 == 115) same))
+names_one engine.Serial engine.Check same = absurd (true≢false (ap (λ (t : Text). slice_index t 0 == 115) same))
+names_one engine.Check engine.Replay same = absurd (true≢false (ap (λ (t : Text). slice_index t 0 == 99) same))
+names_one engine.Check engine.Serial same = absurd (true≢false (ap (λ (t : Text). slice_index t 0 == 99) same))
+
+-- a word that names an engine does not name none
+pub names_some : (engine : Engine) (word : Text) → word ≡ word_of engine → NamesNone word → ⊥
+names_some engine.Replay word is none = none.0 is
+names_some engine.Serial word is none = none.1 is
+names_some engine.Check word is none = none.2 is

@@ -1,0 +1,30 @@
+-- The exit status of the program.
+use Rattle.std.specs.Prelude.{◌≡◌, ◌⊎◌, ℕ, Bool, List, Option, Some, if◌then◌else◌}
+use Rattle.clap.specs.Words.{IsAmong, Kinds, Text}
+use Rattle.clap.specs.declared.error.kind.ErrorKind.{ErrorKind}
+use Rattle.clap.specs.declared.error.kind.ErrorKind.TheVariants as kind
+use Rattle.drm_engine.specs.declared.ending.Ending.{Ending}
+use Rattle.drm_engine.specs.declared.engine.Engine.{Engine}
+use Rattle.drm_engine.specs.Endings.{status_of}
+use Rattle.drm_engine.specs.Engines.{Runs, word_of}
+use Rattle.drmsim.specs.CommandLine.{word_entered}
+
+-- the engine ran to an ending, of which this is the exit status
+abbrev pub EndsAs : Engine → Option (List ℕ) → Option (List ℕ) → Option (List ℕ) → ℕ → Type 0
+EndsAs engine input old new status = (ending : Ending) × Runs engine input old new ending × (status ≡ status_of ending)
+
+-- the words name the command of an engine, which ended as this exit status tells
+abbrev pub IsObeyed : List Text → Option (List ℕ) → Option (List ℕ) → Option (List ℕ) → ℕ → Type 0
+IsObeyed words input old new status = (engine : Engine) × (word_entered words ≡ Some (word_of engine)) × EndsAs engine input old new status
+
+-- the exit status after an error of the words, which was printed or could not be: help and the version are asked for
+abbrev pub status_of_error : ErrorKind → Bool → ℕ
+status_of_error kind.OutOfMemory is_printed = 3
+status_of_error kind.DisplayHelp is_printed = if is_printed then 0 else 4
+status_of_error kind.DisplayVersion is_printed = if is_printed then 0 else 4
+status_of_error _ is_printed = 2
+
+-- the exit status of words that are refused by one of these kinds, or for want of memory
+abbrev pub IsRefusal : Kinds → ℕ → Type 0
+IsRefusal kinds status =
+    (found : ErrorKind) × ((found ≡ kind.OutOfMemory) ⊎ IsAmong found kinds) × ((is_printed : Bool) × (status ≡ status_of_error found is_printed))
