@@ -1,5 +1,7 @@
 -- Each step keeps the rule of the board.
 use Rattle.std.proofs.Common.{◌≡◌, ◌≢◌, ℕ, ◌+◌, ◌^◌, ◌<◌, ◌≤◌, eqb, List, [], ◌∷◌, ◌++◌, map, length, get_or, set, sym, refl, ap, ◌∙◌, subst, ◌⊎◌, arith, length-set, get_or-set_other, get_or-set_same, eq-eqb, ne_eqb, true, false}
+use Rattle.std.proofs.lemmas.List.Sorted.{IsPermutation-sym}
+use Rattle.std.proofs.lemmas.Bool.{false_from_ne_true}
 use mathlib.Core.Logic.{dite}
 use mathlib.Core.Option.{none, some}
 use mathlib.Core.Option as maybe
@@ -16,8 +18,8 @@ use Rattle.ww_lock.specs.declared.board.PivotView.{PivotView}
 use Rattle.ww_lock.specs.declared.board.Slot.{Slot}
 use Rattle.ww_lock.specs.declared.board.Slot.TheVariants.{Pivot, Value}
 use Rattle.ww_lock.specs.Rule.{In, At, Locks, Pivots, Keeps, lock_of, pivot_of, idle, saw}
-use Rattle.ww_lock.specs.Steps.{Sat, drawn, claimed, released, entered, left, left_as, settled, with_entry, with_exit, number_of, with_ticket, with_claim, with_met, with_release, right_half, joined, spent}
-use Rattle.ww_lock.proofs.Lists.{key_in}
+use Rattle.ww_lock.specs.Steps.{Sat, drawn, exhausted, with_end, claimed, released, entered, left, left_as, settled, with_entry, with_exit, number_of, with_ticket, with_claim, with_met, with_release, right_half, joined, spent}
+use Rattle.ww_lock.proofs.Lists.{key_in, in_permutation}
 use Rattle.ww_lock.proofs.LocksKept as lk
 use Rattle.ww_lock.proofs.PivotsKept as pk
 use Rattle.ww_lock.proofs.LooksKept as fk
@@ -85,7 +87,7 @@ module _ {P X T : Type 0} (good : P → Type 0) (fits : ℕ → P → X → Type
         subst (λ b. Rule (stepped s 0 (either b (old + 1) n) id me.1 (with_ticket old me.0) keeps)) (sym (eq-eqb n old hit))
             (lock_step s r 0 (old + 1) id me.0 _ s.homes at (λ e. omega arith) (omega arith) refl refl
             (lk.draws (Fit r.shown) r.n s.words s.homes (map lock_of s.views) r.locks id me.0.lock (at_map lock_of s.views id me.0 at) (wider s r) r.deep old small hit bare)),
-        ((λ _. (ap (λ (z : ℕ). (with_ticket z me.0, me.1)) (sym hit), r.locks.counter.0)), λ not. absurd (not hit)),
+        ((λ _. (ap (λ (z : ℕ). (with_ticket z me.0, me.1)) (sym hit), let at' = at_map lock_of s.views id me.0 at in (r.locks.counter.0, r.locks.tickets id me.0.lock at', r.locks.known id me.0.lock at', false_from_ne_true me.0.lock.ended (λ t. let e = r.locks.ended id me.0.lock at' t in omega arith)))), λ not. absurd (not hit)),
       ))
       (λ miss. (
         me.0,
@@ -94,6 +96,20 @@ module _ {P X T : Type 0} (good : P → Type 0) (fits : ℕ → P → X → Type
         subst (λ b. Rule (stepped s 0 (either b (old + 1) n) id me.1 me.0 keeps)) (sym (ne_eqb n old miss)) (unmoved s r 0 id me.0 at),
         ((λ hit. absurd (miss hit)), λ _. refl),
       ))
+
+  pub exhausts : (slots id : ℕ) (me : Sat P X T) → Allows Rule slots id me 0 (λ n. n) (exhausted (step slots 0 0 0 none) me)
+  exhausts slots id me s r deep at _ = let n : ℕ = get_or s.words 0 0 in
+      dite (ℕ_discrete n (2 ^ 63))
+      (λ full. let w : View P X T = with_end me.0 in (
+        w,
+        keeps,
+        tt,
+        lock_step s r 0 n id me.0 _ s.homes at (λ e. omega arith) (omega arith) refl refl
+            (subst (λ (ws : List ℕ). Locks (Fit r.shown) r.n ws s.homes (set (map lock_of s.views) id w.lock)) (sym (set-get_or s.words 0 0))
+            (lk.ends (Fit r.shown) r.n s.words s.homes (map lock_of s.views) r.locks id me.0.lock (at_map lock_of s.views id me.0 at) (wider s r) r.deep full)),
+        ((λ _. refl), λ not. absurd (not full)),
+      ))
+      (λ ne. (me.0, keeps, tt, unmoved s r 0 id me.0 at, ((λ full. absurd (ne full)), λ _. refl)))
 
   pub claims : (slots id : ℕ) (me : Sat P X T) (b t : ℕ) → b + 1 < slots → me.0.lock.ticket ≡ t → 0 < t → ((x : X) → In (b, x) me.0.lock.owes → ⊥)
       → Allows Rule slots id me (b + 2) (λ n. either (eqb n 0) t n) (claimed (step slots (b + 2) 0 t none) me)
@@ -258,7 +274,7 @@ module _ {P X T : Type 0} (good : P → Type 0) (fits : ℕ → P → X → Type
           looks = subst (Looks (posted r.shown) r.n posts s.words) (sym (looked_again s id me.0 w at refl)) r.looks;
           tasks = tasks_same s r id me.0 w at refl;
         },
-        (shared.0, c.0, refl, c.1, c.2, mine, above, λ d h. let l = own.lefts d ((c.2 d).1 h) in trans _ _ _ l.2 (above l.0 l.1)),
+        (shared.0, c.0, refl, c.1, c.2, mine, above, λ d h. let l = own.lefts d (in_permutation d c.0 me.0.pivot.mine (IsPermutation-sym me.0.pivot.mine c.0 c.2) h) in trans _ _ _ l.2 (above l.0 l.1)),
       )
 
   -- who is inside reads the word of a fence
@@ -279,7 +295,7 @@ module _ {P X T : Type 0} (good : P → Type 0) (fits : ℕ → P → X → Type
   )
 
   -- a look at the word of a fence
-  pub looks_on : (slots id : ℕ) (me : Sat P X T) (f : ℕ) → f < posts → Allows Rule slots id me (slots + 1 + f) (λ n. n) (looks_at posted (step slots (slots + 1 + f) 0 0 none) me)
+  pub looks_on : (slots id : ℕ) (me : Sat P X T) (f : ℕ) → f < posts → Allows Rule slots id me (slots + 1 + f) (λ n. n) (looks_at good grows posted busy (step slots (slots + 1 + f) 0 0 none) me)
   looks_on slots id me f low s r deep at _ = let tall = r.deep in let pivots = r.pivots in let looks = r.looks in let own = pivots.each id me.0.pivot (at_map pivot_of s.views id me.0 at) in
       let place : slots + 1 + f ≡ r.n + 2 + f = omega arith in let x : ℕ = get_or s.words (slots + 1 + f) 0 in let w : View P X T = with_look f x me.0 in let at' = at_map looked_of s.views id me.0 at in
       let is : x ≡ posted r.shown f = ap (λ (k : ℕ). get_or s.words k 0) place ∙ looks.at f low in (
@@ -299,8 +315,7 @@ module _ {P X T : Type 0} (good : P → Type 0) (fits : ℕ → P → X → Type
         },
         λ g e. let g_is : f ≡ g = omega arith in (
           ap (λ (k : ℕ). (with_look k x me.0, me.1)) g_is,
-          λ p h. subst (λ (k : ℕ). NotBack (posted p k) x) g_is (subst (NotBack (posted p f)) (sym is) (onward p r.shown (own.grown p h) f)),
-          λ y h. subst (NotBack y) (sym is) (looks.past id me.0.looked f y at' (subst (λ (k : ℕ). In (k, y) me.0.looked) (sym g_is) h)),
+          (r.shown, (pivots.is_good, own.grown, λ k y h. looks.past id me.0.looked k y at' h, λ t e. r.tasks.each id t (at_map task_of s.views id me.0 at ∙ ap some e)), is ∙ ap (posted r.shown) g_is),
         ),
       )
 

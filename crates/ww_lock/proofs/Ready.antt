@@ -1,5 +1,5 @@
 -- What a caller that may lock keeps at each call.
-use Rattle.std.proofs.Common.{◌≡◌, ℕ, ◌<◌, ◌≤◌, suc, List, [], ◌∷◌, length, sym, ap, ◌∙◌, subst, ⊎_elim, arith, eq-eqb, ne_eqb, Bool, false, Result, Ok, Err}
+use Rattle.std.proofs.Common.{◌≡◌, ℕ, ◌<◌, ◌≤◌, suc, List, [], ◌∷◌, ◌++◌, length, sym, ap, ◌∙◌, subst, ⊎_elim, arith, eq-eqb, ne_eqb, Bool, false, Result, Ok, Err}
 use Rattle.std.specs.Prelude.{if◌then◌else◌}
 use mathlib.Core.Logic.{dite}
 use native.Mathlib.Decide.{ℕ_discrete}
@@ -13,7 +13,9 @@ use Rattle.ww_lock.specs.Held.{IsApart}
 use Rattle.ww_lock.specs.Acquiring.{HoldsOutside, IsSameAcquire, Waited, Claimed, AnswersLock, view}
 use Rattle.ww_lock.specs.declared.lifetime.Seat.{Seat}
 use Rattle.ww_lock.specs.declared.board.TaskChange.TheVariants.{Same}
-use Rattle.ww_lock.specs.Begun.{IsOutside, IsSameSeat, sees}
+use Rattle.ww_lock.specs.Begun.{IsOutside, GivesBack, sees}
+use Rattle.ww_lock.specs.declared.begin.BeginError.{BeginError}
+use Rattle.ww_lock.specs.declared.begin.BeginError.TheVariants.{Memory, TicketsOut}
 use Rattle.ww_lock.specs.Threads.{IsReady, IsIdle}
 use Rattle.ww_lock.proofs.Lists.{in_last, in_without}
 use Rattle.ww_lock.proofs.Trying.{lacks_same}
@@ -41,8 +43,18 @@ module _ {A : Type 0} where
       subst (λ (k : Bool). length (if k then without b xs else q ∷ without b xs) < suc (length xs)) (sym (ne_eqb q.0 b ne)) (omega arith))
 
 module _ {P X T : Type 0} (z : TableId) where
-  pub idle_same : (s t : Seat P X T) → IsIdle z s → IsSameSeat s t → IsIdle z t
-  idle_same s t i e = (
+  abbrev pub seat_of : BeginError P X T → Seat P X T
+  seat_of (Memory s) = s
+  seat_of (TicketsOut s) = s
+
+  -- a seat that got no ticket
+  pub idle_back : (s : Seat P X T) (e : BeginError P X T) → IsIdle z s → GivesBack s e → IsIdle z (seat_of e)
+  idle_back s (Memory t) i e = (
+    (e.0 ∙ i.0.0, ap (λ m. m.1) e.2 ∙ i.0.1, ap (λ m. m.0.lock.owes) e.2 ∙ i.0.2, ap (λ m. m.0.pivot.inside) e.2 ∙ i.0.3),
+    ap (λ m. m.0.task) e.2 ∙ i.1,
+    (i.2.0, i.2.1, ap (λ m. m.0.pivot.seen) e.2 ∙ i.2.2),
+  )
+  idle_back s (TicketsOut t) i e = (
     (e.0 ∙ i.0.0, ap (λ m. m.1) e.2 ∙ i.0.1, ap (λ m. m.0.lock.owes) e.2 ∙ i.0.2, ap (λ m. m.0.pivot.inside) e.2 ∙ i.0.3),
     ap (λ m. m.0.task) e.2 ∙ i.1,
     (i.2.0, i.2.1, ap (λ m. m.0.pivot.seen) e.2 ∙ i.2.2),
@@ -59,7 +71,7 @@ module _ {P X T : Type 0} (z : TableId) where
 
 module _ {P X T : Type 0} (fits : ℕ → P → X → Type 0) (z : TableId) where
   pub claimed : (b : ℕ) (a a' : Acquire P X T) → IsReady fits z a → HoldsOutside z a' → Claimed b a a' → IsReady fits z a'
-  claimed b a a' r h c = let x = c.3.0 in let v = c.3.2 in let e = c.3.3 in record {
+  claimed b a a' r h c = let x = c.3.0 in let v = c.3.3 in let e = c.3.4 in record {
     holds = h;
     unsealed = c.2.1 ∙ r.unsealed;
     owed = λ d y w i j p f.
@@ -72,8 +84,8 @@ module _ {P X T : Type 0} (fits : ℕ → P → X → Type 0) (z : TableId) wher
     saw = (r.saw.0, r.saw.1, ap (λ u. u.pivot.seen) v ∙ r.saw.2);
   }
 
-  pub waited : (a a' : Acquire P X T) → IsReady fits z a → HoldsOutside z a' → Waited a a' → IsReady fits z a'
-  waited a a' r h t = let v = t.2.1 in record {
+  pub waited : (ms : List (ℕ × ℕ)) (a a' : Acquire P X T) → IsReady fits z a → HoldsOutside z a' → Waited ms a a' → IsReady fits z a'
+  waited ms a a' r h t = let v = t.2 in record {
     holds = h;
     unsealed = t.0.1 ∙ r.unsealed;
     owed = λ d y w i j p f. r.owed d y w (subst (λ u. In (d, y) u.lock.owes) v i) (subst (λ u. In (d, w) u.items) t.1 j) p f;
@@ -119,4 +131,4 @@ module _ {P X T : Type 0} (fits : ℕ → P → X → Type 0) (z : TableId) wher
   locked b a a' (Ok u) r h t = claimed b a a' r h t
   locked b a a' (Err Sealed) r h t = subst (IsReady fits z) (sym t.1) r
   locked b a a' (Err Already) r h t = subst (IsReady fits z) (sym t.2) r
-  locked b a a' (Err (Backoff k)) r h t = waited a a' r h t.5
+  locked b a a' (Err (Backoff k)) r h t = waited (t.4.0 ++ (b, k) ∷ []) a a' r h t.4.2

@@ -64,18 +64,22 @@ AnswersTry {P} {X} b a a' (Ok u) = (a.sealed ≡ false) × Lacks b a.held.items 
 AnswersTry b a a' (Err (Older h)) = (a.sealed ≡ false) × Lacks b a.held.items × IsSameAcquire a a' × (h < a.ticket) × (view a' ≡ with_met b h (view a)) × (a'.held ≡ a.held)
 AnswersTry b a a' (Err (Younger h)) = (a.sealed ≡ false) × Lacks b a.held.items × IsSameAcquire a a' × (a.ticket < h) × (view a' ≡ with_met b h (view a)) × (a'.held ≡ a.held)
 
--- the tries that failed have been noted, and nothing else has changed
-abbrev pub Waited : {P X T : Type 0} → Acquire P X T → Acquire P X T → Type 0
-Waited a a' = IsSameAcquire a a' × (a'.held ≡ a.held) × ((ms : List (ℕ × ℕ)) × (view a' ≡ with_mets ms (view a)))
+-- the failed tries ms have been noted, and nothing else has changed
+abbrev pub Waited : {P X T : Type 0} → List (ℕ × ℕ) → Acquire P X T → Acquire P X T → Type 0
+Waited ms a a' = IsSameAcquire a a' × (a'.held ≡ a.held) × (view a' ≡ with_mets ms (view a))
 
--- after some tries that failed, value b was claimed
+-- each of the tries was for value b and let the caller wait: it holds nothing, or the holder that the try found is younger
+abbrev pub MayWait : {P X T : Type 0} → ℕ → Acquire P X T → List (ℕ × ℕ) → Type 0
+MayWait b a ms = (c h : ℕ) → In (c, h) ms → (c ≡ b) × (0 < length a.held.items → a.ticket < h)
+
+-- after some tries that failed and let the caller wait, value b was claimed
 abbrev pub Claimed : {P X T : Type 0} → ℕ → Acquire P X T → Acquire P X T → Type 0
 Claimed {P} {X} b a a' = (a.sealed ≡ false) × Lacks b a.held.items × IsSameAcquire a a'
-    × ((x : X) × (ms : List (ℕ × ℕ)) × (view a' ≡ with_claim b x (with_mets ms (view a))) × (a'.held.items ≡ a.held.items ++ (b, x) ∷ []))
+    × ((x : X) × (ms : List (ℕ × ℕ)) × MayWait b a ms × (view a' ≡ with_claim b x (with_mets ms (view a))) × (a'.held.items ≡ a.held.items ++ (b, x) ∷ []))
 
--- what a lock of value b answers, and what is so after it
+-- what a lock of value b answers, and what is so after it. Who backs off does so for the last try of this call
 abbrev pub AnswersLock : {P X T : Type 0} → ℕ → Acquire P X T → Acquire P X T → Result (Unit {0}) LockError → Type 0
 AnswersLock b a a' (Err lock.Sealed) = (a.sealed ≡ true) × (a' ≡ a)
 AnswersLock b a a' (Err lock.Already) = (a.sealed ≡ false) × ((i : ℕ) × HasAt b i a.held.items) × (a' ≡ a)
 AnswersLock b a a' (Ok u) = Claimed b a a'
-AnswersLock b a a' (Err (Backoff h)) = (a.sealed ≡ false) × Lacks b a.held.items × (h < a.ticket) × (0 < length a.held.items) × In (b, h) (view a').lock.met × Waited a a'
+AnswersLock b a a' (Err (Backoff h)) = (a.sealed ≡ false) × Lacks b a.held.items × (h < a.ticket) × (0 < length a.held.items) × ((ms : List (ℕ × ℕ)) × MayWait b a ms × Waited (ms ++ (b, h) ∷ []) a a')

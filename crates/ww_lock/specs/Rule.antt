@@ -18,7 +18,7 @@ In a [] = ⊥
 In a (x ∷ xs) = (a ≡ x) ⊎ In a xs
 
 abbrev pub idle : {X : Type 0} → LockView X
-idle = record { ticket = 0; owes = []; had = []; met = [] }
+idle = record { ticket = 0; owes = []; had = []; met = []; drew = []; ended = false }
 
 abbrev pub saw : {P : Type 0} → List P → PivotView P
 saw ps = record { seen = ps; mine = []; inside = false; posted = false }
@@ -50,14 +50,25 @@ module _ {X : Type 0} where
   abbrev pub Met : List (LockView X) → ℕ → ℕ → Type 0
   Met views b h = (k : ℕ) × (w : LockView X) × At views k w × In (b, h) w.had
 
+  -- some seat drew the ticket t
+  abbrev pub Drew : List (LockView X) → ℕ → Type 0
+  Drew views t = (k : ℕ) × (w : LockView X) × At views k w × In t w.drew
+
+  -- each ticket that the seat drew, claimed a value by or met is below n
+  abbrev pub KnowsBelow : LockView X → ℕ → Type 0
+  KnowsBelow v n = ((t : ℕ) → In t v.drew → t < n) × ((b t : ℕ) → In (b, t) v.had → t < n) × ((b h : ℕ) → In (b, h) v.met → h < n)
+
 abbrev pub Owed : {X : Type 0} → (ℕ → X → Type 0) → List ℕ → ℕ → LockView X → ℕ → X → Type 0
 Owed fit words n v b x = (b < n) × (slice_index words (b + 2) ≡ v.ticket) × (0 < v.ticket) × fit b x × In (b, v.ticket) v.had
 
--- the n values, each at home or with one seat, which has drawn a ticket of its own. Each fits
+-- the n values, each at home or with one seat, which has drawn a ticket of its own. Each fits. The tickets that were drawn are those from 1 up to the counter, and a seat that found no ticket left is right
 pub record Locks {P X T : Type 0} (fit : ℕ → X → Type 0) (n : ℕ) (words : List ℕ) (homes : List (Option (Slot P X T))) (views : List (LockView X)) : Type 0 where
   pub counter : (0 < slice_index words 0) × (slice_index words 0 ≤ 2 ^ 63)
   pub tickets : (j : ℕ) (v : LockView X) → At views j v → v.ticket < slice_index words 0
   pub apart : (j k : ℕ) (v w : LockView X) → At views j v → At views k w → 0 < v.ticket → v.ticket ≡ w.ticket → j ≡ k
+  pub drawn : (t : ℕ) → 0 < t → t < slice_index words 0 → Drew views t
+  pub known : (j : ℕ) (v : LockView X) → At views j v → KnowsBelow v (slice_index words 0)
+  pub ended : (j : ℕ) (v : LockView X) → At views j v → v.ended ≡ true → slice_index words 0 ≡ 2 ^ 63
   pub home : (b : ℕ) → b < n → slice_index words (b + 2) ≡ 0 → (x : X) × (get_elem? homes (b + 1) ≡ some (some (Value x))) × fit b x
   pub out : (b : ℕ) → b < n → slice_index words (b + 2) ≢ 0 → (get_elem? homes (b + 1) ≡ some none) × Held views b (slice_index words (b + 2))
   pub owed : (j : ℕ) (v : LockView X) (b : ℕ) (x : X) → At views j v → In (b, x) v.owes → Owed fit words n v b x

@@ -1,8 +1,8 @@
 -- What each step tells: of the step, the seat before, the number found and the seat after.
-use Rattle.std.specs.Prelude.{◌≡◌, ◌≢◌, ℕ, ◌+◌, ◌<◌, List, [], ◌∷◌, ◌++◌, map, true, false, ◌==◌, if◌then◌else◌}
+use Rattle.std.specs.Prelude.{◌≡◌, ◌≢◌, ℕ, ◌+◌, ◌<◌, List, [], ◌∷◌, ◌++◌, map, true, false, ◌==◌, if◌then◌else◌, IsPermutation}
 use mathlib.Core.Option.{Option, some}
 use Rattle.std.specs.Prelude as plain
-use Rattle.std.specs.Prelude.{Bool, ◌&&◌, not, Some}
+use Rattle.std.specs.Prelude.{Bool, ◌&&◌, ◌||◌, ◌^◌, not, Some}
 use Rattle.ww_lock.specs.Fences.{NotBack}
 use Rattle.ww_lock.specs.declared.board.TaskChange.{TaskChange}
 use Rattle.ww_lock.specs.declared.board.TaskChange.TheVariants.{Same, Begins, Ends}
@@ -10,7 +10,7 @@ use Rattle.atomic_table.specs.Table.{Me, Step, rest}
 use Rattle.ww_lock.specs.declared.board.View.{View}
 use Rattle.ww_lock.specs.declared.board.Slot.{Slot}
 use Rattle.ww_lock.specs.declared.board.Slot.TheVariants.{Pivot, Value, Announced}
-use Rattle.ww_lock.specs.Rule.{In, idle, saw}
+use Rattle.ww_lock.specs.Rule.{In, KnowsBelow, idle, saw}
 
 abbrev pub Sat : Type 0 → Type 0 → Type 0 → Type 0
 Sat P X T = Me (Slot P X T) (View P X T)
@@ -52,14 +52,21 @@ module _ {P X T : Type 0} where
 
   abbrev pub joined : View P X T → View P X T → View P X T
   joined v w = record {
-    lock = record v.lock { had = v.lock.had ++ w.lock.had; met = v.lock.met ++ w.lock.met };
+    lock = record v.lock { had = v.lock.had ++ w.lock.had; met = v.lock.met ++ w.lock.met; drew = v.lock.drew ++ w.lock.drew; ended = v.lock.ended || w.lock.ended };
     pivot = record v.pivot { seen = v.pivot.seen ++ w.pivot.seen; mine = v.pivot.mine ++ w.pivot.mine };
     looked = v.looked ++ w.looked;
     task = v.task;
   }
 
   abbrev pub with_ticket : ℕ → View P X T → View P X T
-  with_ticket t v = record v { lock = record v.lock { ticket = t } }
+  with_ticket t v = record v { lock = record v.lock { ticket = t; drew = v.lock.drew ++ t ∷ [] } }
+
+  abbrev pub with_end : View P X T → View P X T
+  with_end v = record v { lock = record v.lock { ended = true } }
+
+  -- the ticket n is a next one: above each ticket that the seat knows of
+  abbrev pub IsNext : View P X T → ℕ → Type 0
+  IsNext v n = (0 < n) × (v.lock.ticket < n) × KnowsBelow v.lock n × (v.lock.ended ≡ false)
 
   abbrev pub with_claim : ℕ → X → View P X T → View P X T
   with_claim b x v = record v { lock = record v.lock { owes = v.lock.owes ++ (b, x) ∷ []; had = v.lock.had ++ (b, v.lock.ticket) ∷ [] } }
@@ -96,7 +103,11 @@ module _ {P X T : Type 0} where
   with_look f x v = record v { looked = v.looked ++ (f, x) ∷ [] }
 
   abbrev pub drawn : Step (Slot P X T) → Sat P X T → ℕ → Sat P X T → Type 0
-  drawn st m n m' = (n ≡ st.first → (m' ≡ (with_ticket n m.0, m.1)) × (0 < n)) × (n ≢ st.first → m' ≡ m)
+  drawn st m n m' = (n ≡ st.first → (m' ≡ (with_ticket n m.0, m.1)) × IsNext m.0 n) × (n ≢ st.first → m' ≡ m)
+
+  -- the counter was read: it is at its end, or tells nothing
+  abbrev pub exhausted : Step (Slot P X T) → Sat P X T → ℕ → Sat P X T → Type 0
+  exhausted st m n m' = (n ≡ 2 ^ 63 → m' ≡ (with_end m.0, m.1)) × (n ≢ 2 ^ 63 → m' ≡ m)
 
   abbrev pub claimed : Step (Slot P X T) → Sat P X T → ℕ → Sat P X T → Type 0
   claimed st m n m' = (b : ℕ) → st.word ≡ b + 2
@@ -129,15 +140,19 @@ module _ {P X T : Type 0} where
   abbrev pub posts_word : Step (Slot P X T) → Sat P X T → ℕ → Sat P X T → Type 0
   posts_word st m n m' = m' ≡ posted_as m.0.pivot.seen st.said m
 
-  -- a fence word was looked at. It has not gone back
-  abbrev pub looks_at : (P → ℕ → ℕ) → Step (Slot P X T) → Sat P X T → ℕ → Sat P X T → Type 0
-  looks_at posted st m n m' = (f : ℕ) → st.word ≡ st.slots + 1 + f
-      → (m' ≡ (with_look f n m.0, m.1)) × ((p : P) → In p m.0.pivot.seen → NotBack (posted p f) n) × ((x : ℕ) → In (f, x) m.0.looked → NotBack x n)
+  -- p is good and came of each pivot that the seat has seen, no fence word that the seat looked at has gone back in it, and it waits for the seat's task
+  abbrev pub IsLater : (P → Type 0) → (P → P → Type 0) → (P → ℕ → ℕ) → (P → T → Type 0) → View P X T → P → Type 0
+  IsLater good grows posted busy v p = good p × ((q : P) → In q v.pivot.seen → grows q p) × ((f x : ℕ) → In (f, x) v.looked → NotBack x (posted p f)) × ((t : T) → v.task ≡ Some t → busy p t)
+
+  -- a fence word was looked at. It is what a later pivot shows
+  abbrev pub looks_at : (P → Type 0) → (P → P → Type 0) → (P → ℕ → ℕ) → (P → T → Type 0) → Step (Slot P X T) → Sat P X T → ℕ → Sat P X T → Type 0
+  looks_at good grows posted busy st m n m' = (f : ℕ) → st.word ≡ st.slots + 1 + f
+      → (m' ≡ (with_look f n m.0, m.1)) × ((p : P) × IsLater good grows posted busy m.0 p × (n ≡ posted p f))
 
   abbrev pub left : Step (Slot P X T) → Sat P X T → ℕ → Sat P X T → Type 0
   left st m n m' = m' ≡ left_as m.0.pivot.seen st.said m
 
-  -- a joined seat has put its calls in order, and has seen the last of what it saw
+  -- a joined seat has put its calls in order, each as often as it was there, and has seen the last of what it saw
   abbrev pub settled : (P → P → Type 0) → Step (Slot P X T) → Sat P X T → ℕ → Sat P X T → Type 0
   settled grows st m n m' = (p : P) × (cs : List (P × P)) × (m' ≡ (record m.0 { pivot = record m.0.pivot { seen = p ∷ []; mine = cs } }, m.1))
-      × IsChain grows cs × ((c : P × P) → (In c m.0.pivot.mine → In c cs) × (In c cs → In c m.0.pivot.mine)) × In p m.0.pivot.seen × ((q : P) → In q m.0.pivot.seen → grows q p) × ((c : P × P) → In c cs → grows c.1 p)
+      × IsChain grows cs × IsPermutation m.0.pivot.mine cs × In p m.0.pivot.seen × ((q : P) → In q m.0.pivot.seen → grows q p) × ((c : P × P) → In c cs → grows c.1 p)

@@ -61,6 +61,10 @@ pub struct LockView<X> {
     pub had: LinkedList<(u32, u64)>,
     /// Each holder that its failed tries found.
     pub met: LinkedList<(u32, u64)>,
+    /// Each ticket that it drew.
+    pub drew: LinkedList<u64>,
+    /// It found the counter of tickets at 2^63, where no ticket is left.
+    pub ended: bool,
 }
 
 /// What a seat knows of the pivot. No value of it is made.

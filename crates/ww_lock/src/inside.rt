@@ -8,7 +8,7 @@ ghost use Rattle.ww_lock.specs.Held.{IsSameKeys};
 ghost use Rattle.ww_lock.specs.Acquiring.{HoldsOutside, HoldsInside, IsSameAcquire, view};
 ghost use Rattle.ww_lock.specs.Begun.{IsOutside, IsInside, IsJoined, sees};
 ghost use Rattle.ww_lock.specs.Leaving.{MayLeave, MayLeaveWith, MayPost, MayPostWith};
-ghost use Rattle.ww_lock.specs.Steps.{with_entry, with_exit, with_look, with_post, right_half};
+ghost use Rattle.ww_lock.specs.Steps.{with_entry, with_exit, with_look, with_post, right_half, IsLater};
 ghost use Rattle.ww_lock.specs.declared.board.Slot.TheVariants.{Gone};
 
 use crate::acquire::Acquire;
@@ -40,7 +40,8 @@ fn take_pivot<W: Ward, R: Wait>(
 {
     let backoff = Backoff::new();
     for _ in rt.forever() {
-        if enter(shared, place) == 0 {
+        let was_home = enter(shared, place) == 0;
+        if was_home {
             let Slot::Pivot(pivot) = shared.exchange(place, 0, Slot::Gone) else {
                 unreachable!()
             };
@@ -215,11 +216,12 @@ impl<W: Ward> Board<W> {
         self.sleepers.wake_one(&self.table.shared, 1);
     }
 
-    /// The word of a fence, by one load. It never goes back: from 0 to 1, and from there to a final word from 2 up.
+    /// The word of a fence, by one load: what the pivot shows for it, which is good, came of all that the seat has seen
+    /// and waits for its task. It never goes back: from 0 to 1, and from there to a final word from 2 up.
     pub fn look(&self, seat: &mut Seat<W::Pivot, W::Value, W::Task>, fence: FenceId) -> u64
         requires { (seat.old.place.table_id ≡ self.now.table.shared.table_id) × (fence < self.now.posts) }
         ensures seat { (seat.new.place.table_id ≡ seat.old.place.table_id) × (seat.new.place.me ≡ (with_look fence result (sees seat.old), seat.old.place.me.1)) }
-        ensures seen { (p : W.Pivot) → In p (sees seat.old).pivot.seen → NotBack (W.posted p fence) result }
+        ensures shown { (p : W.Pivot) × IsLater W.good W.grows W.posted W.busy (sees seat.old) p × (result ≡ W.posted p fence) }
         ensures looked { (x : ℕ) → In (fence, x) (sees seat.old).looked → NotBack x result }
     {
         let word = self.buffers as usize + 2 + fence as usize;

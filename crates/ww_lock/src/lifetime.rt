@@ -74,7 +74,7 @@ impl<W: Ward> Board<W> {
         requires size { vec_len values ≤ 64 }
         requires blank { (f : ℕ) → W.posted pivot f ≡ 0 }
         requires facts { W.good pivot × AllFit (λ b x. W.fits b pivot x) 0 values.items }
-        ensures board { IfOk result (λ t. (t.0.buffers ≡ vec_len values) × (t.0.posts ≡ posts)) }
+        ensures board { IfOk result (λ t. (t.0.buffers ≡ vec_len values) × (t.0.posts ≡ posts) × (t.0.table.shared.key.pivot.value ≡ pivot)) }
         ensures seat { IfOk result (λ t. IsOutside t.0.table.shared.table_id t.1 × (sees t.1 ≡ newcomer pivot)) }
     {
         let buffers = values.len();
@@ -104,6 +104,20 @@ impl<W: Ward> Board<W> {
             },
             Seat { place },
         ))
+    }
+
+    /// How many values the board has, at home or out.
+    pub fn buffers(&self) -> u32
+        ensures { result ≡ self.now.buffers }
+    {
+        self.buffers
+    }
+
+    /// How many fence words it has.
+    pub fn posts(&self) -> u32
+        ensures { result ≡ self.now.posts }
+    {
+        self.posts
     }
 
     /// Takes a board apart: the pivot, and each value into `out`, in order. A value that was out comes as `None`, and a

@@ -52,7 +52,8 @@ impl<W: Ward> Board<W> {
         ensures holds { HoldsOutside self.now.table.shared.table_id acquire.new }
         ensures answers { AnswersTry buffer acquire.old acquire.new result }
     {
-        if acquire.sealed {
+        let sealed = acquire.sealed;
+        if sealed {
             return Err(TryLockError::Sealed);
         }
         if let Some(_) = place_of(&acquire.held, buffer) {
@@ -95,7 +96,8 @@ impl<W: Ward> Board<W> {
                 TryLockError::Sealed => return Err(LockError::Sealed),
                 TryLockError::Already => return Err(LockError::Already),
                 TryLockError::Older { holder } => {
-                    if acquire.held.len() > 0 {
+                    let holds_something = acquire.held.len() > 0;
+                    if holds_something {
                         return Err(LockError::Backoff { holder });
                     }
                     holder

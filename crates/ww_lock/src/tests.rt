@@ -1,8 +1,9 @@
-ghost use Rattle.std.specs.Prelude.{◌<◌, length};
+ghost use Rattle.std.specs.Prelude.{◌<◌, ◌≡◌, ◌+◌, ◌∷◌, ℕ, List, None, length};
 ghost use Rattle.ww_lock.specs.Acquiring.{HoldsOutside};
+ghost use Rattle.ww_lock.specs.Begun.{IsOutside, sees};
 ghost use Rattle.ww_lock.specs.Sample.{still};
 
-use crate::{Acquire, Board, LockError, TaskChange, TryLockError, Ward};
+use crate::{Acquire, Board, LockError, Seat, TaskChange, TryLockError, Ward};
 use drm_types::BufferId;
 use std::test::Fail;
 
@@ -130,7 +131,7 @@ fn a_word_is_posted_and_seen(rt: HostRuntime) -> Result<(), Fail> {
     let alloc = rt.alloc();
     let (board, seat) = Board::<Words>::new(alloc, 0, Vec::new(alloc), 1)?;
     let (mut first, mut second) = board.split(seat);
-    assert!(rt; board.posts == 1);
+    assert!(rt; board.posts() == 1);
     let pivot = board.enter(&mut first, &rt);
     assert!(rt; pivot == 0);
     assert!(rt; board.look(&mut second, 0) == 0);
@@ -147,7 +148,7 @@ fn a_closed_board_gives_back_what_it_had(rt: HostRuntime) -> Result<(), Fail> {
     values.push(5u64)?;
     values.push(6u64)?;
     let (board, seat) = Board::<Counters>::new(alloc, 1, values, 0)?;
-    assert!(rt; board.buffers == 2);
+    assert!(rt; board.buffers() == 2);
     let mut out = Vec::with_capacity(alloc, 2)?;
     assert!(rt; board.close(seat, &mut out).is_ok_and(|pivot| pivot == 1));
     assert!(rt; out[0] == Some(5) && out[1] == Some(6));
@@ -183,6 +184,19 @@ impl Ward for Tasks {
     ghost onward = { λ _ _ _ _. still 0 };
 }
 
+type TaskSeat = Seat<u64, u64, u64>;
+
+// Each call of either is one of the joined seat's.
+fn join_all(board: &Board<Tasks>, one: TaskSeat, other: TaskSeat) -> TaskSeat
+    requires seats { IsOutside board.now.table.shared.table_id one × IsOutside board.now.table.shared.table_id other }
+    requires idle { ((sees one).task ≡ None) × ((sees other).task ≡ None) }
+    requires seen { (q : ℕ) × (qs : List ℕ) × ((sees one).pivot.seen ≡ q ∷ qs) }
+    ensures seat { IsOutside board.now.table.shared.table_id result }
+    ensures calls { length (sees result).pivot.mine ≡ length (sees one).pivot.mine + length (sees other).pivot.mine }
+{
+    board.join(one, other)
+}
+
 // Another caller has been inside between the two calls, and left the pivot as it was.
 #[test]
 fn a_task_is_begun_and_ended(rt: HostRuntime) -> Result<(), Fail> {
@@ -198,7 +212,7 @@ fn a_task_is_begun_and_ended(rt: HostRuntime) -> Result<(), Fail> {
     let pivot = board.enter(&mut first, &rt);
     prove!(pivot == 7);
     board.leave(&mut first, 0, &TaskChange::Ends, true);
-    let seat = board.join(first, second);
+    let seat = join_all(&board, first, second);
     let mut out = Vec::new(alloc);
     assert!(rt; board.close(seat, &mut out).is_ok_and(|pivot| pivot == 0));
     Ok(())

@@ -17,7 +17,7 @@ pull-value-requires-clause-slot g c = let e = (c.claim-found.ensures.claimed c.a
     (e.0, ap (λ m. m.1) e.1 ∙ ap (λ l. (c.args.buffer + 1, Value e.0) ∷ l) (sym (ap (λ m. rest m.1) e.1)))
 
 pub push_reserved-requires : goal.push_reserved-requires
-push_reserved-requires g c = let a = c.args.acquire.now in let st = c.requires.0 in let b = c.args.buffer in let x = c.pull-value.result in let sized = c.args.self.now.sized in let s₁ = sized.1 in let room = st.room c.if-acquire.false in let low = c.requires.1 in
+push_reserved-requires g c = let a = c.args.acquire.now in let st = c.requires.0 in let b = c.args.buffer in let x = c.pull-value.result in let sized = c.args.self.now.sized in let s₁ = sized.1 in let room = st.room c.if-sealed.false in let low = c.requires.1 in
     let n = apart_fits c.args.self.now.buffers (a.held.items ++ (b, x) ∷ []) (apart_last b x a.held.items st.apart c.in_default.ensures.found)
     (λ d y h. ⊎_elim (λ t. let w = st.within d y t in omega arith) (λ t. let e : d ≡ b = ap (λ z. z.0) t in omega arith) (in_last (d, y) (b, x) a.held.items h)) in
     first_of (search rules, omega (arith, length-append a.held.items ((b, x) ∷ [])))
@@ -39,7 +39,7 @@ returns-then-found-eq0-clause-holds g c = let a = c.args.acquire.now in let st =
 pub returns-then-found-eq0-clause-answers : goal.returns-then-found-eq0-clause-answers
 returns-then-found-eq0-clause-answers g c = let b = c.args.buffer in let x = c.pull-value.result in let e = (c.claim-found.ensures.claimed b refl).0 c.if-found-eq0.true in let p = c.pull-value.ensures in
     let same : e.0 ≡ x = ap (first_value x) (sym (ap (λ m. m.1) e.1) ∙ p.value) in
-    (c.if-acquire.false, c.in_default.ensures.found, (refl, refl, p.seat.1 ∙ c.claim-found.ensures.seat.1), (x, ap (λ m. m.0) p.seat.2 ∙ (ap (λ m. m.0) e.1 ∙ ap (λ z. with_claim b z (view c.args.acquire.now)) same), c.push_reserved.ensures.items))
+    (c.if-sealed.false, c.in_default.ensures.found, (refl, refl, p.seat.1 ∙ c.claim-found.ensures.seat.1), (x, ap (λ m. m.0) p.seat.2 ∙ (ap (λ m. m.0) e.1 ∙ ap (λ z. with_claim b z (view c.args.acquire.now)) same), c.push_reserved.ensures.items))
 
 pub returns-then-found-ticket-clause-holds : goal.returns-then-found-ticket-clause-holds
 returns-then-found-ticket-clause-holds g c = let st = c.requires.0 in let e = ((c.claim-found.ensures.claimed c.args.buffer refl).1 c.if-found-eq0.false).1 in record {
@@ -55,7 +55,7 @@ returns-then-found-ticket-clause-holds g c = let st = c.requires.0 in let e = ((
 
 pub returns-then-found-ticket-clause-answers : goal.returns-then-found-ticket-clause-answers
 returns-then-found-ticket-clause-answers g c = let f = (c.claim-found.ensures.claimed c.args.buffer refl).1 c.if-found-eq0.false in
-    (c.if-acquire.false, c.in_default.ensures.found, (refl, refl, c.claim-found.ensures.seat.1), c.if-found-ticket.true, ap (λ m. m.0) f.1, refl)
+    (c.if-sealed.false, c.in_default.ensures.found, (refl, refl, c.claim-found.ensures.seat.1), c.if-found-ticket.true, ap (λ m. m.0) f.1, refl)
 
 pub returns-else-found-ticket-clause-holds : goal.returns-else-found-ticket-clause-holds
 returns-else-found-ticket-clause-holds g c = let st = c.requires.0 in let e = ((c.claim-found.ensures.claimed c.args.buffer refl).1 c.if-found-eq0.false).1 in record {
@@ -71,4 +71,4 @@ returns-else-found-ticket-clause-holds g c = let st = c.requires.0 in let e = ((
 
 pub returns-else-found-ticket-clause-answers : goal.returns-else-found-ticket-clause-answers
 returns-else-found-ticket-clause-answers g c = let f = (c.claim-found.ensures.claimed c.args.buffer refl).1 c.if-found-eq0.false in let t = c.requires.0.ticket.0 in let ne = f.0 in let up = c.if-found-ticket.false in
-    (c.if-acquire.false, c.in_default.ensures.found, (refl, refl, c.claim-found.ensures.seat.1), omega arith, ap (λ m. m.0) f.1, refl)
+    (c.if-sealed.false, c.in_default.ensures.found, (refl, refl, c.claim-found.ensures.seat.1), omega arith, ap (λ m. m.0) f.1, refl)
