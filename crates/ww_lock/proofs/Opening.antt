@@ -9,6 +9,7 @@ use Rattle.ww_lock.specs.declared.board.Slot.{Slot}
 use Rattle.ww_lock.specs.declared.board.Slot.TheVariants.{Pivot, Value}
 use Rattle.ww_lock.specs.Rule.{In, KnowsBelow, Sees, Keeps, newcomer, idle, saw}
 use Rattle.std.specs.Prelude as plain
+use Rattle.ww_lock.specs.Parts.{AreWithin}
 use Rattle.ww_lock.specs.Lifetime.{valued, AllFit}
 
 only : {V : Type 0} (v u : V) (j : ℕ) → get_elem? (v ∷ []) j ≡ some u → (j ≡ 0) × (v ≡ u)
@@ -62,6 +63,13 @@ opens {P} {X} {T} good fits grows posted busy same posts p xs words wide still o
     each = λ j t a. absurd (let e = (only plain.None (plain.Some t) j a).1 in cc (e));
     once = λ j k t a b. absurd (let e = (only plain.None (plain.Some t) j a).1 in cc (e));
   };
+  parts = record {
+    n = 0;
+    within = λ j ds a. subst (AreWithin 0) (only (0 ∷ []) ds j a).1 (omega arith, tt);
+    whole = refl;
+    blank = λ j v a e. absurd (let n : suc zero ≡ 0 = ap length (ap (λ z. z.part) (only (newcomer p) v j a).1 ∙ e) in omega arith);
+  };
+  latest = (0, newcomer p, refl, inl refl);
 }
 
 abbrev pub zero_row : ℕ → List ℕ

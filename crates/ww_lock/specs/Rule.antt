@@ -9,6 +9,7 @@ use Rattle.ww_lock.specs.declared.board.PivotView.{PivotView}
 use Rattle.std.specs.Prelude.{Some}
 use Rattle.std.specs.Prelude as plain
 use Rattle.ww_lock.specs.Fences.{NotBack}
+use Rattle.ww_lock.specs.Parts.{weight, AreWithin}
 use Rattle.ww_lock.specs.declared.board.Slot.{Slot}
 use Rattle.ww_lock.specs.declared.board.Slot.TheVariants.{Pivot, Value}
 
@@ -24,7 +25,15 @@ abbrev pub saw : {P : Type 0} → List P → PivotView P
 saw ps = record { seen = ps; mine = []; inside = false; posted = false }
 
 abbrev pub newcomer : {P X T : Type 0} → P → View P X T
-newcomer p = record { lock = idle; pivot = saw (p ∷ []); looked = []; task = plain.None }
+newcomer p = record { lock = idle; pivot = saw (p ∷ []); looked = []; task = plain.None; part = 0 ∷ [] }
+
+-- nothing but what was looked at
+abbrev pub looked_only : {P X T : Type 0} → List (ℕ × ℕ) → View P X T
+looked_only ls = record { lock = idle; pivot = saw []; looked = ls; task = plain.None; part = [] }
+
+-- a seat that another took in
+abbrev pub spent : {P X T : Type 0} → View P X T
+spent = looked_only []
 
 abbrev pub lock_of : {P X T : Type 0} → View P X T → LockView X
 lock_of v = v.lock
@@ -37,6 +46,9 @@ looked_of v = v.looked
 
 abbrev pub task_of : {P X T : Type 0} → View P X T → plain.Option T
 task_of v = v.task
+
+abbrev pub part_of : {P X T : Type 0} → View P X T → List ℕ
+part_of v = v.part
 
 abbrev pub At : {V : Type 0} → List V → ℕ → V → Type 0
 At views j v = get_elem? views j ≡ some v
@@ -115,6 +127,18 @@ pub record Tasks {T : Type 0} (busy : T → Type 0) (views : List (plain.Option 
   pub each : (j : ℕ) (t : T) → At views j (Some t) → busy t
   pub once : (j k : ℕ) (t : T) → At views j (Some t) → At views k (Some t) → j ≡ k
 
+-- the parts of all seats, in 2^n-ths of the board
+abbrev pub total : ℕ → List (List ℕ) → ℕ
+total n [] = 0
+total n (ds ∷ parts) = weight n ds + total n parts
+
+-- the parts make up the whole, and a seat with no part was taken in by another: it has nothing but what it looked at
+pub record Parts {P X T : Type 0} (views : List (View P X T)) : Type 0 where
+  pub n : ℕ
+  pub within : (j : ℕ) (ds : List ℕ) → At (map part_of views) j ds → AreWithin n ds
+  pub whole : total n (map part_of views) ≡ 2 ^ n
+  pub blank : (j : ℕ) (v : View P X T) → At views j v → v.part ≡ [] → v ≡ looked_only v.looked
+
 pub record Keeps {P X T : Type 0} (good : P → Type 0) (fits : ℕ → P → X → Type 0) (grows : P → P → Type 0) (posted : P → ℕ → ℕ) (busy : P → T → Type 0) (posts : ℕ) (s : State (Slot P X T) (View P X T)) : Type 0 where
   pub n : ℕ
   pub shown : P
@@ -124,3 +148,5 @@ pub record Keeps {P X T : Type 0} (good : P → Type 0) (fits : ℕ → P → X 
   pub pivots : Pivots good grows shown (slice_index s.words 1) s.homes (map pivot_of s.views)
   pub looks : Looks (posted shown) n posts s.words (map looked_of s.views)
   pub tasks : Tasks (busy shown) (map task_of s.views)
+  pub parts : Parts s.views
+  pub latest : (j : ℕ) × (v : View P X T) × At s.views j v × In shown v.pivot.seen

@@ -10,6 +10,7 @@ use Rattle.atomic_table.specs.Table.{Me, Step, rest}
 use Rattle.ww_lock.specs.declared.board.View.{View}
 use Rattle.ww_lock.specs.declared.board.Slot.{Slot}
 use Rattle.ww_lock.specs.declared.board.Slot.TheVariants.{Pivot, Value, Announced}
+use Rattle.ww_lock.specs.Parts.{halved}
 use Rattle.ww_lock.specs.Rule.{In, KnowsBelow, idle, saw}
 
 abbrev pub Sat : Type 0 → Type 0 → Type 0 → Type 0
@@ -43,12 +44,19 @@ Turns {P} {T} busy p q task Same = (t : T) → busy p t → busy q t
 Turns {P} {T} busy p q task (Begins t) = (task ≡ plain.None) × (busy p t → ⊥) × busy q t × ((s : T) → busy p s → busy q s)
 Turns {P} {T} busy p q task Ends = (t : T) × (task ≡ Some t) × ((s : T) → (s ≡ t → ⊥) → busy p s → busy q s)
 
+-- the pivot p is good and came of each that the seat has seen, shows each fence word no earlier than the seat saw it, and waits for the seat's task
+pub record IsLater {P X T : Type 0} (good : P → Type 0) (grows : P → P → Type 0) (posted : P → ℕ → ℕ) (busy : P → T → Type 0) (v : View P X T) (p : P) : Type 0 where
+  pub fine : good p
+  pub grown : (q : P) → In q v.pivot.seen → grows q p
+  pub shows : (f x : ℕ) → In (f, x) v.looked → NotBack x (posted p f)
+  pub waits : (t : T) → v.task ≡ Some t → busy p t
+
 module _ {P X T : Type 0} where
-  abbrev pub spent : View P X T
-  spent = record { lock = idle; pivot = saw []; looked = []; task = plain.None }
+  abbrev pub left_half : View P X T → View P X T
+  left_half v = record v { part = halved v.part }
 
   abbrev pub right_half : View P X T → View P X T
-  right_half v = record { lock = idle; pivot = saw v.pivot.seen; looked = v.looked; task = plain.None }
+  right_half v = record { lock = idle; pivot = saw v.pivot.seen; looked = v.looked; task = plain.None; part = halved v.part }
 
   abbrev pub joined : View P X T → View P X T → View P X T
   joined v w = record {
@@ -56,10 +64,15 @@ module _ {P X T : Type 0} where
     pivot = record v.pivot { seen = v.pivot.seen ++ w.pivot.seen; mine = v.pivot.mine ++ w.pivot.mine };
     looked = v.looked ++ w.looked;
     task = v.task;
+    part = v.part ++ w.part;
   }
 
   abbrev pub with_ticket : ℕ → View P X T → View P X T
   with_ticket t v = record v { lock = record v.lock { ticket = t; drew = v.lock.drew ++ t ∷ [] } }
+
+  -- the seat has seen a pivot
+  abbrev pub HasSeen : View P X T → Type 0
+  HasSeen v = (q : P) × (qs : List P) × (v.pivot.seen ≡ q ∷ qs)
 
   abbrev pub with_end : View P X T → View P X T
   with_end v = record v { lock = record v.lock { ended = true } }
@@ -90,6 +103,7 @@ module _ {P X T : Type 0} where
     pivot = record { seen = q ∷ []; mine = calls_with (is_call && not v.pivot.posted) v.pivot.mine p q; inside = false; posted = false };
     looked = v.looked;
     task = task_after change v.task;
+    part = v.part;
   }
 
   -- the seat found p and shows q, and owes xs
@@ -120,8 +134,7 @@ module _ {P X T : Type 0} where
   -- the pivot was found at home, and is what the ward says
   abbrev pub entered : (P → Type 0) → (ℕ → P → X → Type 0) → (P → P → Type 0) → (P → ℕ → ℕ) → (P → T → Type 0) → Step (Slot P X T) → Sat P X T → ℕ → Sat P X T → Type 0
   entered good fits grows posted busy st m n m' =
-      (n ≡ 0 → (p : P) × (m' ≡ (with_entry p m.0, (0, Pivot p) ∷ m.1)) × good p × ((q : P) → In q m.0.pivot.seen → grows q p) × ((b : ℕ) (x : X) → In (b, x) m.0.lock.owes → fits b p x)
-      × ((f x : ℕ) → In (f, x) m.0.looked → NotBack x (posted p f)) × ((t : T) → m.0.task ≡ Some t → busy p t))
+      (n ≡ 0 → (p : P) × (m' ≡ (with_entry p m.0, (0, Pivot p) ∷ m.1)) × IsLater good grows posted busy m.0 p × ((b : ℕ) (x : X) → In (b, x) m.0.lock.owes → fits b p x))
       × (n ≢ 0 → m' ≡ m)
 
   -- the seat that was told what it leaves, and what it owes
@@ -139,10 +152,6 @@ module _ {P X T : Type 0} where
 
   abbrev pub posts_word : Step (Slot P X T) → Sat P X T → ℕ → Sat P X T → Type 0
   posts_word st m n m' = m' ≡ posted_as m.0.pivot.seen st.said m
-
-  -- p is good and came of each pivot that the seat has seen, no fence word that the seat looked at has gone back in it, and it waits for the seat's task
-  abbrev pub IsLater : (P → Type 0) → (P → P → Type 0) → (P → ℕ → ℕ) → (P → T → Type 0) → View P X T → P → Type 0
-  IsLater good grows posted busy v p = good p × ((q : P) → In q v.pivot.seen → grows q p) × ((f x : ℕ) → In (f, x) v.looked → NotBack x (posted p f)) × ((t : T) → v.task ≡ Some t → busy p t)
 
   -- a fence word was looked at. It is what a later pivot shows
   abbrev pub looks_at : (P → Type 0) → (P → P → Type 0) → (P → ℕ → ℕ) → (P → T → Type 0) → Step (Slot P X T) → Sat P X T → ℕ → Sat P X T → Type 0

@@ -1,7 +1,8 @@
 //! How a seat draws a ticket.
-ghost use Rattle.std.specs.Prelude.{◌≡◌, ◌<◌, ◌^◌, [], false, MatchResult, IfOk, IfErr};
-ghost use Rattle.ww_lock.specs.Acquiring.{HoldsOutside, view};
-ghost use Rattle.ww_lock.specs.Begun.{IsOutside, GivesBack};
+ghost use Rattle.std.specs.Prelude.{◌≡◌, ◌<◌, ◌^◌, [], false, None, MatchResult, IfOk, IfErr};
+ghost use Rattle.ww_lock.specs.Acquiring.{HoldsOutside, IsReady, caller_id, view};
+ghost use Rattle.ww_lock.specs.Begun.{IsOutside, IsIdle, GivesBack, seat_back, seat_id, sees};
+ghost use Rattle.ww_lock.specs.Boards.{table_of};
 ghost use Rattle.ww_lock.specs.Steps.{with_ticket, IsNext};
 
 use crate::acquire::Acquire;
@@ -30,11 +31,15 @@ impl<W: Ward> Board<W> {
         rt: &R,
         alloc: Global,
     ) -> Result<Acquire<W::Pivot, W::Value, W::Task>, BeginError<W::Pivot, W::Value, W::Task>>
-        requires { IsOutside self.now.table.shared.table_id seat }
-        ensures holds { IfOk result (λ a. HoldsOutside self.now.table.shared.table_id a × (a.sealed ≡ false) × (a.held.items ≡ [])) }
-        ensures view { IfOk result (λ a. (a.place.id ≡ seat.place.id) × (view a ≡ with_ticket a.ticket seat.place.me.0)) }
-        ensures next { IfOk result (λ a. IsNext seat.place.me.0 a.ticket) }
+        requires { IsOutside (table_of self.now) seat }
+        ensures holds { IfOk result (λ a. HoldsOutside (table_of self.now) a) }
+        ensures fresh { IfOk result (λ a. (a.sealed ≡ false) × (a.held.items ≡ [])) }
+        ensures same { IfOk result (λ a. caller_id a ≡ seat_id seat) }
+        ensures view { IfOk result (λ a. view a ≡ with_ticket a.ticket (sees seat)) }
+        ensures next { IfOk result (λ a. IsNext (sees seat) a.ticket) }
+        ensures ready { IfOk result (λ a. (sees seat).task ≡ None → IsReady W.fits (table_of self.now) a) }
         ensures refused { IfErr result (λ e. GivesBack seat e) }
+        ensures idle { IfErr result (λ e. (sees seat).task ≡ None → IsIdle (table_of self.now) (seat_back e)) }
     {
         let Ok(held) = Vec::with_capacity(alloc, self.buffers as usize) else {
             return Err(BeginError::Memory(seat));

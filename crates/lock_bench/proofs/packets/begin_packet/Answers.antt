@@ -11,7 +11,6 @@ pub returns-then-place-len-clause-none : goal.returns-then-place-len-clause-none
 returns-then-place-len-clause-none g c none = (
   c.leave.ensures.seat,
   ap (λ v. v.task) c.leave.ensures.view.2 ∙ (ap (λ v. v.task) c.enter-engines.ensures.view ∙ c.requires.1),
-  (_, _, ap (λ v. v.pivot.seen) c.leave.ensures.view.2),
 )
 
 pub leave-requires-2-clause-facts : goal.leave-requires-2-clause-facts

@@ -1,5 +1,6 @@
 use Rattle.std.proofs.Common.{rules, arith, ap, ◌<◌, length, subst}
 use Rattle.ww_lock.proofs.Waiting.{failed, waits, already, taken}
+use Rattle.ww_lock.proofs.Ready.{claimed}
 use Rattle.ww_lock.proofs.board.Board.lock.Goals.{in-Older+else-holds_something, in-Younger}
 use Rattle.ww_lock.proofs.board.Board.lock.Goals as goal
 
@@ -31,3 +32,7 @@ loop-preserved g c = (
         waits c.args.buffer w.in-Younger.holder c.args.acquire.now c.loop.acquire c.try_lock.new.acquire c.loop.invariant.1 (t.0, t.1, t.2, t.4, t.5) (λ some_held. let low = t.3 in let kept = t.2.0 in omega arith)
   ],
 )
+
+pub returns-in_default-clause-ready : goal.returns-in_default-clause-ready
+returns-in_default-clause-ready g c = λ ready. claimed g.W.Ward.fits c.args.self.now.table.shared.table_id c.args.buffer c.args.acquire.now c.try_lock.new.acquire ready c.try_lock.ensures.holds
+    (taken c.args.buffer c.args.acquire.now c.loop.acquire c.try_lock.new.acquire c.loop.invariant.1 c.in_default.ensures.answers)

@@ -34,6 +34,7 @@ returns-then-found-eq0-clause-holds g c = let a = c.args.acquire.now in let st =
       room = λ u. let q = st.room u in let k = r.capacity in omega arith;
       hands = ap (λ m. m.1) p.seat.2 ∙ (ap (λ l. l ++ (b + 1, Gone) ∷ []) (ap (λ m. rest m.1) e.1 ∙ st.hands) ∙ (sym (emptied_last b x a.held.items) ∙ ap emptied (sym r.items)));
       inside = ap (λ v. v.pivot.inside) sees ∙ st.inside;
+      saw = (st.saw.0, st.saw.1, ap (λ v. v.pivot.seen) sees ∙ st.saw.2);
     }
 
 pub returns-then-found-eq0-clause-answers : goal.returns-then-found-eq0-clause-answers
@@ -51,6 +52,7 @@ returns-then-found-ticket-clause-holds g c = let st = c.requires.0 in let e = ((
   room = st.room;
   hands = ap (λ m. m.1) e ∙ st.hands;
   inside = ap (λ m. m.0.pivot.inside) e ∙ st.inside;
+  saw = (st.saw.0, st.saw.1, ap (λ m. m.0.pivot.seen) e ∙ st.saw.2);
 }
 
 pub returns-then-found-ticket-clause-answers : goal.returns-then-found-ticket-clause-answers
@@ -67,6 +69,7 @@ returns-else-found-ticket-clause-holds g c = let st = c.requires.0 in let e = ((
   room = st.room;
   hands = ap (λ m. m.1) e ∙ st.hands;
   inside = ap (λ m. m.0.pivot.inside) e ∙ st.inside;
+  saw = (st.saw.0, st.saw.1, ap (λ m. m.0.pivot.seen) e ∙ st.saw.2);
 }
 
 pub returns-else-found-ticket-clause-answers : goal.returns-else-found-ticket-clause-answers
