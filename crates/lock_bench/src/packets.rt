@@ -1,5 +1,5 @@
 //! Rounds that take work out of the device: a thread begins a packet inside, leaves, and reports it inside.
-ghost use Rattle.std.specs.Prelude.{◌≡◌, All, Some, true, false, slice_get};
+ghost use Rattle.std.specs.Prelude.{◌≡◌, ◌↔◌, All, IsTrue, Some, true, false, slice_get};
 ghost use Rattle.ww_lock.specs.Begun.{IsIdle, IsOutside, sees};
 ghost use Rattle.ww_lock.specs.Boards.{table_of};
 
@@ -17,6 +17,18 @@ pub(crate) struct Engines {
     is_busy: Vec<bool>,
     /// How many packets were reported.
     reported: u64,
+}
+
+impl Engines {
+    // The engine is there, and no thread keeps it busy.
+    fn is_idle(&self, engine: u32) -> bool
+        ensures { IsTrue result ↔ (slice_get self.now.is_busy.items engine ≡ Some false) }
+    {
+        match self.is_busy.get(engine as usize) {
+            Some(&is_busy) => !is_busy,
+            None => false,
+        }
+    }
 }
 
 /// Engines that are busy as long as their packets are out.
@@ -60,12 +72,11 @@ fn begin_packet<R: Wait>(board: &Board<Packets>, seat: &mut PacketSeat, engine: 
     ensures none { result ≡ false → IsIdle (table_of board.now) seat.new }
 {
     let mut engines = board.enter(seat, rt);
-    let place = engine as usize;
-    if place >= engines.is_busy.len() || engines.is_busy[place] {
+    if !engines.is_idle(engine) {
         board.leave(seat, engines, &TaskChange::Same, true);
         return false;
     }
-    engines.is_busy[place] = true;
+    engines.is_busy[engine as usize] = true;
     board.leave(seat, engines, &TaskChange::Begins(engine), true);
     true
 }

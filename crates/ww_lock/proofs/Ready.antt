@@ -4,14 +4,14 @@ use Rattle.std.specs.Prelude.{if◌then◌else◌}
 use mathlib.Core.Logic.{dite}
 use native.Mathlib.Decide.{ℕ_discrete}
 use Rattle.ww_lock.specs.declared.acquire.Acquire.{Acquire}
-use Rattle.ww_lock.specs.declared.locks.LockError.{LockError}
-use Rattle.ww_lock.specs.declared.locks.LockError.TheVariants.{Sealed, Already, Backoff}
+use Rattle.ww_lock.specs.declared.locks.TryLockError.{TryLockError}
+use Rattle.ww_lock.specs.declared.locks.TryLockError.TheVariants.{Sealed, Already, Older, Younger}
 use Rattle.atomic_table.specs.Seated.{TableId}
 use Rattle.ww_lock.specs.Rule.{In}
 use Rattle.ww_lock.specs.declared.board.View.{View}
 use Rattle.ww_lock.specs.Steps.{with_release, with_ticket, without}
-use Rattle.ww_lock.specs.Held.{IsApart}
-use Rattle.ww_lock.specs.Acquiring.{HoldsOutside, IsReady, IsSameAcquire, Waited, Claimed, AnswersLock, view}
+use Rattle.ww_lock.specs.Held.{IsApart, Lacks}
+use Rattle.ww_lock.specs.Acquiring.{HoldsOutside, IsReady, IsSameAcquire, Claimed, AnswersTry, view}
 use Rattle.ww_lock.specs.declared.lifetime.Seat.{Seat}
 use Rattle.ww_lock.specs.Begun.{IsOutside, IsIdle, GivesBack, seat_back, sees}
 use Rattle.ww_lock.specs.declared.begin.BeginError.{BeginError}
@@ -53,25 +53,31 @@ idle_back z s (TicketsOut t) o e i = (
 )
 
 module _ {P X T : Type 0} (fits : ℕ → P → X → Type 0) (z : TableId) where
-  pub claimed : (b : ℕ) (a a' : Acquire P X T) → IsReady fits z a → HoldsOutside z a' → Claimed b a a' → IsReady fits z a'
-  claimed b a a' r h c = let x = c.3.0 in let v = c.3.3 in let e = c.3.4 in record {
+  -- one who has taken one more value
+  pub took : (b : ℕ) (x : X) (a a' : Acquire P X T) → IsReady fits z a → HoldsOutside z a' → Lacks b a.held.items → a'.sealed ≡ a.sealed → (view a').lock.owes ≡ (view a).lock.owes ++ (b, x) ∷ [] → (view a').task ≡ (view a).task
+      → a'.held.items ≡ a.held.items ++ (b, x) ∷ [] → IsReady fits z a'
+  took b x a a' r h lacks s o t e = record {
     holds = h;
-    unsealed = c.2.1 ∙ r.unsealed;
+    unsealed = s ∙ r.unsealed;
     owed = λ d y w i j p f.
-        ⊎_elim (λ old. ⊎_elim (λ kept. r.owed d y w old kept p f) (λ new. absurd (lacks_same b a.place.me.0.lock.owes a.held.items r.holds.keys c.1 y (subst (λ n. In (n, y) a.place.me.0.lock.owes) (ap (λ q. q.0) new) old)))
+        ⊎_elim (λ old. ⊎_elim (λ kept. r.owed d y w old kept p f) (λ new. absurd (lacks_same b a.place.me.0.lock.owes a.held.items r.holds.keys lacks y (subst (λ n. In (n, y) a.place.me.0.lock.owes) (ap (λ q. q.0) new) old)))
         (in_last (d, w) (b, x) a.held.items (subst (In (d, w)) e j)))
-        (λ new. ⊎_elim (λ kept. absurd (c.1 w (subst (λ n. In (n, w) a.held.items) (ap (λ q. q.0) new) kept))) (λ also. subst (fits d p) (ap (λ q. q.1) new ∙ sym (ap (λ q. q.1) also)) f)
+        (λ new. ⊎_elim (λ kept. absurd (lacks w (subst (λ n. In (n, w) a.held.items) (ap (λ q. q.0) new) kept))) (λ also. subst (fits d p) (ap (λ q. q.1) new ∙ sym (ap (λ q. q.1) also)) f)
         (in_last (d, w) (b, x) a.held.items (subst (In (d, w)) e j)))
-        (in_last (d, y) (b, x) a.place.me.0.lock.owes (subst (λ u. In (d, y) u.lock.owes) v i));
-    idle = ap (λ u. u.task) v ∙ r.idle;
+        (in_last (d, y) (b, x) a.place.me.0.lock.owes (subst (In (d, y)) o i));
+    idle = t ∙ r.idle;
   }
 
-  pub waited : (ms : List (ℕ × ℕ)) (a a' : Acquire P X T) → IsReady fits z a → HoldsOutside z a' → Waited ms a a' → IsReady fits z a'
-  waited ms a a' r h t = let v = t.2 in record {
+  pub claimed : (b : ℕ) (a a' : Acquire P X T) → IsReady fits z a → HoldsOutside z a' → Claimed b a a' → IsReady fits z a'
+  claimed b a a' r h c = took b c.3.0 a a' r h c.1 c.2.1 (ap (λ u. u.lock.owes) c.3.3) (ap (λ u. u.task) c.3.3) c.3.4
+
+  -- one who holds and owes what it did
+  pub kept : (a a' : Acquire P X T) → IsReady fits z a → HoldsOutside z a' → a'.sealed ≡ a.sealed → (view a').lock.owes ≡ (view a).lock.owes → (view a').task ≡ (view a).task → a'.held ≡ a.held → IsReady fits z a'
+  kept a a' r h s o t e = record {
     holds = h;
-    unsealed = t.0.1 ∙ r.unsealed;
-    owed = λ d y w i j p f. r.owed d y w (subst (λ u. In (d, y) u.lock.owes) v i) (subst (λ u. In (d, w) u.items) t.1 j) p f;
-    idle = ap (λ u. u.task) v ∙ r.idle;
+    unsealed = s ∙ r.unsealed;
+    owed = λ d y w i j p f. r.owed d y w (subst (In (d, y)) o i) (subst (λ u. In (d, w) u.items) e j) p f;
+    idle = t ∙ r.idle;
   }
 
   pub released : (b : ℕ) (a a' : Acquire P X T) → IsReady fits z a → HoldsOutside z a' → IsSameAcquire a a' → view a' ≡ with_release b (view a) → a'.held.items ≡ without b a.held.items → IsReady fits z a'
@@ -100,8 +106,10 @@ module _ {P X T : Type 0} (fits : ℕ → P → X → Type 0) (z : TableId) wher
     idle = i;
   }
 
-  pub locked : (b : ℕ) (a a' : Acquire P X T) (r : Result (Unit {0}) LockError) → IsReady fits z a → HoldsOutside z a' → AnswersLock b a a' r → IsReady fits z a'
-  locked b a a' (Ok u) r h t = claimed b a a' r h t
-  locked b a a' (Err Sealed) r h t = subst (IsReady fits z) (sym t.1) r
-  locked b a a' (Err Already) r h t = subst (IsReady fits z) (sym t.2) r
-  locked b a a' (Err (Backoff k)) r h t = waited (t.4.0 ++ (b, k) ∷ []) a a' r h t.4.2
+  -- one who has tried to lock
+  pub tried : (b : ℕ) (a a' : Acquire P X T) (r : Result (Unit {0}) TryLockError) → IsReady fits z a → HoldsOutside z a' → AnswersTry b a a' r → IsReady fits z a'
+  tried b a a' (Ok u) r h t = took b t.3.0 a a' r h t.1 t.2.1 (ap (λ u. u.lock.owes) t.3.1) (ap (λ u. u.task) t.3.1) t.3.2
+  tried b a a' (Err Sealed) r h t = subst (IsReady fits z) (sym t.1) r
+  tried b a a' (Err Already) r h t = subst (IsReady fits z) (sym t.2) r
+  tried b a a' (Err (Older k)) r h t = kept a a' r h t.2.1 (ap (λ u. u.lock.owes) t.4) (ap (λ u. u.task) t.4) t.5
+  tried b a a' (Err (Younger k)) r h t = kept a a' r h t.2.1 (ap (λ u. u.lock.owes) t.4) (ap (λ u. u.task) t.4) t.5

@@ -52,6 +52,7 @@ impl<W: Ward> Board<W> {
         requires { HoldsOutside (table_of self.now) acquire.old × (buffer < self.now.buffers) }
         ensures holds { HoldsOutside (table_of self.now) acquire.new }
         ensures answers { AnswersTry buffer acquire.old acquire.new result }
+        ensures ready { IsReady W.fits (table_of self.now) acquire.old → IsReady W.fits (table_of self.now) acquire.new }
     {
         let sealed = acquire.sealed;
         if sealed {

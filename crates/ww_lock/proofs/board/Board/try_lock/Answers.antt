@@ -1,4 +1,4 @@
-use Rattle.std.proofs.Common.{rules, arith, refl, sym, ap, subst, ◌∙◌, ◌≡◌, ◌+◌, ℕ, List, [], ◌∷◌, ◌++◌, ⊎_elim, length-append}
+use Rattle.std.proofs.Common.{Ok, Err, rules, arith, refl, sym, ap, subst, ◌∙◌, ◌≡◌, ◌+◌, ℕ, List, [], ◌∷◌, ◌++◌, ⊎_elim, length-append}
 use Rattle.atomic_table.specs.Table.{rest}
 use Rattle.ww_lock.specs.Rule.{In}
 use Rattle.ww_lock.specs.Steps.{with_claim}
@@ -6,6 +6,8 @@ use Rattle.ww_lock.specs.Held.{IsSameKeys, IsApart, emptied}
 use Rattle.ww_lock.specs.declared.board.Slot.TheVariants.{Value, Gone}
 use Rattle.ww_lock.specs.Acquiring.{view}
 use Rattle.ww_lock.proofs.Lists.{in_last}
+use Rattle.ww_lock.specs.declared.locks.TryLockError.TheVariants.{Older, Younger}
+use Rattle.ww_lock.proofs.Ready.{tried}
 use Rattle.ww_lock.proofs.Trying.{lacks_same, apart_fits, apart_last, emptied_last, keys_last, first_value}
 use Rattle.ww_lock.proofs.board.Board.try_lock.Goals as goal
 
@@ -75,3 +77,12 @@ returns-else-found-ticket-clause-holds g c = let st = c.requires.0 in let e = ((
 pub returns-else-found-ticket-clause-answers : goal.returns-else-found-ticket-clause-answers
 returns-else-found-ticket-clause-answers g c = let f = (c.claim-found.ensures.claimed c.args.buffer refl).1 c.if-found-eq0.false in let t = c.requires.0.ticket.0 in let ne = f.0 in let up = c.if-found-ticket.false in
     (c.if-sealed.false, c.in_default.ensures.found, (refl, refl, c.claim-found.ensures.seat.1), omega arith, ap (λ m. m.0) f.1, refl)
+
+pub returns-then-found-eq0-clause-ready : goal.returns-then-found-eq0-clause-ready
+returns-then-found-eq0-clause-ready g c = λ ready. tried g.W.Ward.fits c.args.self.now.table.shared.table_id c.args.buffer c.args.acquire.now _ (Ok tt) ready (returns-then-found-eq0-clause-holds g c) (returns-then-found-eq0-clause-answers g c)
+
+pub returns-then-found-ticket-clause-ready : goal.returns-then-found-ticket-clause-ready
+returns-then-found-ticket-clause-ready g c = λ ready. tried g.W.Ward.fits c.args.self.now.table.shared.table_id c.args.buffer c.args.acquire.now _ (Err (Older c.claim-found.result)) ready (returns-then-found-ticket-clause-holds g c) (returns-then-found-ticket-clause-answers g c)
+
+pub returns-else-found-ticket-clause-ready : goal.returns-else-found-ticket-clause-ready
+returns-else-found-ticket-clause-ready g c = λ ready. tried g.W.Ward.fits c.args.self.now.table.shared.table_id c.args.buffer c.args.acquire.now _ (Err (Younger c.claim-found.result)) ready (returns-else-found-ticket-clause-holds g c) (returns-else-found-ticket-clause-answers g c)
