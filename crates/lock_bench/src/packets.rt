@@ -1,7 +1,7 @@
 //! Rounds that take work out of the device: a thread begins a packet inside, leaves, and reports it inside.
-ghost use Rattle.std.specs.Prelude.{◌≡◌, All, Some, true, false, slice_get};
-ghost use Rattle.ww_lock.specs.Begun.{IsOutside, sees};
-ghost use Rattle.ww_lock.specs.Threads.{IsIdle};
+ghost use Rattle.std.specs.Prelude.{◌≡◌, ◌↔◌, All, IsTrue, Some, true, false, slice_get};
+ghost use Rattle.ww_lock.specs.Begun.{IsIdle, IsOutside, sees};
+ghost use Rattle.ww_lock.specs.Boards.{table_of};
 
 use crate::shares::{Share, shares_of};
 use std::alloc::{AllocError, Global};
@@ -19,12 +19,24 @@ pub(crate) struct Engines {
     reported: u64,
 }
 
+impl Engines {
+    // The engine is there, and no thread keeps it busy.
+    fn is_idle(&self, engine: u32) -> bool
+        ensures { IsTrue result ↔ (slice_get self.now.is_busy.items engine ≡ Some false) }
+    {
+        match self.is_busy.get(engine as usize) {
+            Some(&is_busy) => !is_busy,
+            None => false,
+        }
+    }
+}
+
 /// Engines that are busy as long as their packets are out.
 pub(crate) struct Packets;
 
 impl Ward for Packets {
     ghost use Rattle.std.specs.Prelude.{◌≡◌, Some, true, slice_get};
-    ghost use Rattle.ww_lock.specs.Sample.{still};
+    ghost use Rattle.ww_lock.specs.Fences.{still};
 
     type Pivot = Engines;
 
@@ -55,25 +67,24 @@ type PacketShare = Share<Engines, u64, u32>;
 
 // Begins a packet on the engine, if it is there and idle.
 fn begin_packet<R: Wait>(board: &Board<Packets>, seat: &mut PacketSeat, engine: u32, rt: &R) -> bool
-    requires { IsIdle board.now.table.shared.table_id seat.old }
-    ensures begun { result ≡ true → IsOutside board.now.table.shared.table_id seat.new × ((sees seat.new).task ≡ Some engine) }
-    ensures none { result ≡ false → IsIdle board.now.table.shared.table_id seat.new }
+    requires { IsIdle (table_of board.now) seat.old }
+    ensures begun { result ≡ true → IsOutside (table_of board.now) seat.new × ((sees seat.new).task ≡ Some engine) }
+    ensures none { result ≡ false → IsIdle (table_of board.now) seat.new }
 {
     let mut engines = board.enter(seat, rt);
-    let place = engine as usize;
-    if place >= engines.is_busy.len() || engines.is_busy[place] {
+    if !engines.is_idle(engine) {
         board.leave(seat, engines, &TaskChange::Same, true);
         return false;
     }
-    engines.is_busy[place] = true;
+    engines.is_busy[engine as usize] = true;
     board.leave(seat, engines, &TaskChange::Begins(engine), true);
     true
 }
 
 // Reports the packet that the thread began on the engine, which has stayed busy.
 fn report_packet<R: Wait>(board: &Board<Packets>, seat: &mut PacketSeat, engine: u32, rt: &R)
-    requires { IsOutside board.now.table.shared.table_id seat.old × ((sees seat.old).task ≡ Some engine) }
-    ensures { IsIdle board.now.table.shared.table_id seat.new }
+    requires { IsOutside (table_of board.now) seat.old × ((sees seat.old).task ≡ Some engine) }
+    ensures { IsIdle (table_of board.now) seat.new }
 {
     let mut engines = board.enter(seat, rt);
     engines.is_busy[engine as usize] = false;
@@ -83,7 +94,7 @@ fn report_packet<R: Wait>(board: &Board<Packets>, seat: &mut PacketSeat, engine:
 
 // The rounds of one thread, on the engine of its number.
 fn rounds_of<R: Wait>(board: &Board<Packets>, share: PacketShare, rt: &R)
-    requires { IsIdle board.now.table.shared.table_id share.seat }
+    requires { IsIdle (table_of board.now) share.seat }
 {
     let Share {
         seat,
@@ -104,13 +115,13 @@ fn run_shares<R: Threads + Wait + Sync>(
     shares: Vec<PacketShare>,
     rt: &R,
 ) -> Result<(), AllocError>
-    requires { All (λ s. IsIdle board.now.table.shared.table_id s.seat) shares.items }
+    requires { All (λ s. IsIdle (table_of board.now) s.seat) shares.items }
 {
     thread::map_vec(
         rt,
         shares,
         &move |share: PacketShare|
-            requires { IsIdle board.now.table.shared.table_id share.seat }
+            requires { IsIdle (table_of board.now) share.seat }
         { rounds_of(board, share, rt) },
     )?;
     Ok(())

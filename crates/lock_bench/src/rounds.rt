@@ -2,7 +2,9 @@
 ghost use Rattle.std.specs.Prelude.{◌≡◌, ◌<◌, ℕ, All, [], IfOk, IfSome};
 ghost use Rattle.atomic_table.specs.Seated.{TableId};
 ghost use Rattle.std.specs.List.Sorted.{IsPermutation};
-ghost use Rattle.ww_lock.specs.Threads.{IsIdle, IsReady};
+ghost use Rattle.ww_lock.specs.Acquiring.{IsReady};
+ghost use Rattle.ww_lock.specs.Boards.{table_of};
+ghost use Rattle.ww_lock.specs.Begun.{IsIdle};
 
 use drm_types::BufferId;
 use std::alloc::{AllocError, Global};
@@ -36,7 +38,7 @@ impl Pause {
 pub(crate) struct Counters;
 
 impl Ward for Counters {
-    ghost use Rattle.ww_lock.specs.Sample.{still};
+    ghost use Rattle.ww_lock.specs.Fences.{still};
 
     type Pivot = u64;
 
@@ -90,16 +92,15 @@ fn shuffle(order: &mut [BufferId], seed: u64)
 }
 
 // Locks each buffer of the order that is not held yet, or answers the one for which the caller has to back off.
-#[tactic(auto, using(ww_lock::proofs::Ready::locked))]
 fn lock_others<R: Wait>(
     board: &Board<Counters>,
     acquire: &mut Counting,
     order: &[BufferId],
     rt: &R,
 ) -> Option<BufferId>
-    requires ready { IsReady (λ _ _ _. Unit {0}) board.now.table.shared.table_id acquire.old }
+    requires ready { IsReady (λ _ _ _. Unit {0}) (table_of board.now) acquire.old }
     requires order { All (λ b. b < board.now.buffers) order.now }
-    ensures ready { IsReady (λ _ _ _. Unit {0}) board.now.table.shared.table_id acquire.new }
+    ensures ready { IsReady (λ _ _ _. Unit {0}) (table_of board.now) acquire.new }
     ensures contended { IfSome result (λ b. b < board.now.buffers) }
 {
     for &buffer in order {
@@ -113,10 +114,9 @@ fn lock_others<R: Wait>(
     None
 }
 
-#[tactic(auto, using(ww_lock::proofs::Ready::released))]
 fn release_all(board: &Board<Counters>, acquire: &mut Counting)
-    requires { IsReady (λ _ _ _. Unit {0}) board.now.table.shared.table_id acquire.old }
-    ensures ready { IsReady (λ _ _ _. Unit {0}) board.now.table.shared.table_id acquire.new }
+    requires { IsReady (λ _ _ _. Unit {0}) (table_of board.now) acquire.old }
+    ensures ready { IsReady (λ _ _ _. Unit {0}) (table_of board.now) acquire.new }
     ensures empty { acquire.new.held.items ≡ [] }
 {
     while acquire.held().len() > 0 {
@@ -126,11 +126,10 @@ fn release_all(board: &Board<Counters>, acquire: &mut Counting)
 }
 
 // Locks all of the order, and begins anew with the one for which it had to back off.
-#[tactic(auto, using(ww_lock::proofs::Ready::claimed))]
 fn lock_all<R: Wait>(board: &Board<Counters>, acquire: &mut Counting, order: &[BufferId], rt: &R)
-    requires ready { IsReady (λ _ _ _. Unit {0}) board.now.table.shared.table_id acquire.old }
+    requires ready { IsReady (λ _ _ _. Unit {0}) (table_of board.now) acquire.old }
     requires order { All (λ b. b < board.now.buffers) order.now }
-    ensures { IsReady (λ _ _ _. Unit {0}) board.now.table.shared.table_id acquire.new }
+    ensures { IsReady (λ _ _ _. Unit {0}) (table_of board.now) acquire.new }
 {
     for _ in rt.forever() {
         let Some(contended) = lock_others(board, acquire, order, rt) else {
@@ -164,9 +163,9 @@ pub(crate) fn round<R: Wait + Clock>(
     rt: &R,
     alloc: Global,
 ) -> CountingSeat
-    requires seat { IsIdle board.now.table.shared.table_id seat }
+    requires seat { IsIdle (table_of board.now) seat }
     requires order { All (λ b. b < board.now.buffers) order.now }
-    ensures { IsIdle board.now.table.shared.table_id result }
+    ensures { IsIdle (table_of board.now) result }
 {
     let mut acquire = match board.begin(seat, rt, alloc) {
         Ok(acquire) => acquire,

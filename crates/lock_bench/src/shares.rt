@@ -1,6 +1,7 @@
 //! Rounds that threads share.
 ghost use Rattle.std.specs.Prelude.{◌≡◌, All, IfOk};
-ghost use Rattle.ww_lock.specs.Threads.{IsIdle};
+ghost use Rattle.ww_lock.specs.Boards.{table_of};
+ghost use Rattle.ww_lock.specs.Begun.{IsIdle};
 
 use std::alloc::{AllocError, Global};
 use ww_lock::{Board, Seat, Ward};
@@ -28,8 +29,8 @@ pub(crate) fn shares_of<W: Ward>(
     ),
     AllocError,
 >
-    requires { IsIdle board.now.table.shared.table_id seat }
-    ensures { IfOk result (λ t. All (λ s. IsIdle board.now.table.shared.table_id s.seat) t.0.items × IsIdle board.now.table.shared.table_id t.1) }
+    requires { IsIdle (table_of board.now) seat }
+    ensures { IfOk result (λ t. All (λ s. IsIdle (table_of board.now) s.seat) t.0.items × IsIdle (table_of board.now) t.1) }
 {
     let mut seat = seat;
     let mut shares = Vec::new(alloc);

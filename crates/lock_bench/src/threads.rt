@@ -1,6 +1,7 @@
 //! Rounds over counters that threads share.
 ghost use Rattle.std.specs.Prelude.{◌≡◌, ◌≤◌, All};
-ghost use Rattle.ww_lock.specs.Threads.{IsIdle};
+ghost use Rattle.ww_lock.specs.Boards.{table_of};
+ghost use Rattle.ww_lock.specs.Begun.{IsIdle};
 
 use crate::rounds::{Counters, Pause, order_of, round};
 use crate::shares::{Share, shares_of};
@@ -29,7 +30,7 @@ fn rounds_of<R: Wait + Clock>(
     rt: &R,
     alloc: Global,
 ) -> bool
-    requires seat { IsIdle board.now.table.shared.table_id share.seat }
+    requires seat { IsIdle (table_of board.now) share.seat }
     requires locks { kind.locks ≤ board.now.buffers }
 {
     let Share {
@@ -55,14 +56,14 @@ fn run_shares<R: Threads + Wait + Clock + Sync>(
     rt: &R,
     alloc: Global,
 ) -> Result<(), AllocError>
-    requires seats { All (λ s. IsIdle board.now.table.shared.table_id s.seat) shares.items }
+    requires seats { All (λ s. IsIdle (table_of board.now) s.seat) shares.items }
     requires locks { kind.locks ≤ board.now.buffers }
 {
     let made = thread::map_vec(
         rt,
         shares,
         &move |share: CountingShare|
-            requires { IsIdle board.now.table.shared.table_id share.seat × (kind.locks ≤ board.now.buffers) }
+            requires { IsIdle (table_of board.now) share.seat × (kind.locks ≤ board.now.buffers) }
         { rounds_of(board, share, kind, rt, alloc) },
     )?;
     for all in made {

@@ -1,6 +1,7 @@
 -- A board that is taken apart.
-use Rattle.std.proofs.Common.{◌≡◌, ◌≢◌, ℕ, ◌+◌, ◌<◌, ◌≤◌, zero, suc, List, [], ◌∷◌, ◌++◌, length, length-append, get_or, set, sym, refl, ap, ◌∙◌, subst, arith, Bool, false}
+use Rattle.std.proofs.Common.{◌≡◌, ◌≢◌, ℕ, ◌+◌, ◌<◌, ◌≤◌, zero, suc, List, [], ◌∷◌, ◌++◌, length, length-append, get_or, set, sym, refl, ap, ◌∙◌, subst, arith, Bool, false, map}
 use Rattle.std.specs.Prelude as plain
+use Rattle.std.proofs.lemmas.Bool.{false≢true}
 use Rattle.std.specs.Prelude.{Some, None}
 use mathlib.Core.Logic.{dite}
 use mathlib.Core.Option.{some, none, some-injective, some-ne-none}
@@ -8,11 +9,15 @@ use native.Mathlib.Decide.{ℕ_discrete}
 use lib.ListN.{get_elem?}
 use Rattle.atomic_table.specs.Table.{State, Final, Seen}
 use Rattle.atomic_table.proofs.Lists.{at_map, at_last}
+use Rattle.ww_lock.specs.declared.board.LockView.{LockView}
+use Rattle.ww_lock.specs.declared.board.PivotView.{PivotView}
 use Rattle.ww_lock.specs.declared.board.View.{View}
 use Rattle.ww_lock.specs.declared.board.Slot.{Slot}
 use Rattle.ww_lock.specs.declared.board.Slot.TheVariants.{Pivot, Value}
-use Rattle.ww_lock.specs.Rule.{In, Keeps, pivot_of}
-use Rattle.ww_lock.specs.Lifetime.{FitsAll, AreHome, IsPivot}
+use Rattle.ww_lock.specs.Rule.{In, At, Keeps, looked_only, lock_of, part_of, pivot_of}
+use Rattle.ww_lock.specs.Lifetime.{FitsAll, HasAll, AreHome, IsPivot}
+use Rattle.ww_lock.proofs.Lists.{same_view}
+use Rattle.ww_lock.proofs.Sharing.{none_beside}
 use Rattle.ww_lock.proofs.Trying.{value_or}
 use Rattle.ww_lock.proofs.Finding.{below}
 
@@ -85,6 +90,11 @@ fits_all fit k [] h = tt
 fits_all {X} fit k (None ∷ xs) h = (tt, fits_all fit (k + 1) xs (λ i x e. subst (λ n. fit n x) (let q : k + suc i ≡ k + 1 + i = omega arith in q) (h (suc i) x e)))
 fits_all {X} fit k (Some y ∷ xs) h = (subst (λ n. fit n y) (let q : k + 0 ≡ k = omega arith in q) (h 0 y refl), fits_all fit (k + 1) xs (λ i x e. subst (λ n. fit n x) (let q : k + suc i ≡ k + 1 + i = omega arith in q) (h (suc i) x e)))
 
+of_map : {A B : Type 0} (f : A → B) (l : List A) (i : ℕ) (b : B) → get_elem? (map f l) i ≡ some b → (a : A) × (get_elem? l i ≡ some a) × (f a ≡ b)
+of_map f [] i b e = absurd (some-ne-none b (sym e))
+of_map f (x ∷ xs) zero b e = (x, refl, some-injective (f x) b e)
+of_map f (x ∷ xs) (suc i) b e = of_map f xs i b e
+
 module _ {P X T : Type 0} (good : P → Type 0) (fits : ℕ → P → X → Type 0) (grows : P → P → Type 0) (posted : P → ℕ → ℕ) (busy : P → T → Type 0) (posts : ℕ) (id : ℕ) (v : View P X T) (ws : List ℕ) (xs : List (Slot P X T)) where
   abbrev pub Ended : Type 0
   Ended = Final (Seen (Keeps good fits grows posted busy posts) id v) ws xs
@@ -149,3 +159,35 @@ module _ {P X T : Type 0} (good : P → Type 0) (fits : ℕ → P → X → Type
 
   pub pivot_is_out : (e : Ended) (n : ℕ) → get_elem? ws 1 ≡ some n → n ≢ 0 → IsPivot e.0 None
   pivot_is_out e n at ne = (e.1.0.pivots.away (λ z. ne (sym (at_get ws 1 n at) ∙ (sym (ap (λ l. get_or l 1 0) e.2) ∙ z)))).1
+
+  -- beside the seat that has taken in all others, each knows no more than what it looked at
+  others_spent : (e : Ended) → HasAll v → (k : ℕ) (w : View P X T) → At e.0.views k w → k ≢ id → w ≡ looked_only w.looked
+  others_spent e all k w at ne = let r = e.1.0.parts in
+      r.blank k w at (none_beside r.n (map part_of e.0.views) r.within r.whole id v.part (at_map part_of e.0.views id v e.1.1) all.0 k w.part (at_map part_of e.0.views k w at) ne)
+
+  -- so no value is out
+  no_value_out : (e : Ended) → HasAll v → (b : ℕ) → b < e.1.0.n → get_or e.0.words (b + 2) 0 ≡ 0
+  no_value_out e all b low = dite (ℕ_discrete (get_or e.0.words (b + 2) 0) 0) (λ z. z) (λ ne. let h = (e.1.0.locks.out b low ne).1 in let m = of_map lock_of e.0.views h.0 h.1 h.3 in let x = h.2 in
+      dite (ℕ_discrete h.0 id)
+      (λ same. let is : h.1 ≡ v.lock = sym m.2 ∙ ap lock_of (same_view e.0.views id h.0 v m.0 e.1.1 m.1 same) in absurd (subst (In (b, x)) (ap (λ (l : LockView X). l.owes) is ∙ all.1) h.5))
+      (λ apart. let is : h.1 ≡ (looked_only {P = P} {X = X} {T = T} []).lock = sym m.2 ∙ ap lock_of (others_spent e all h.0 m.0 m.1 apart) in absurd (subst (λ (l : LockView X). In (b, x) l.owes) is h.5)))
+
+  -- and the pivot is at home
+  pub pivot_not_out : (e : Ended) → HasAll v → (n : ℕ) → get_elem? ws 1 ≡ some n → n ≢ 0 → ⊥
+  pivot_not_out e all n at ne = let a = e.1.0.pivots.away (λ z. ne (sym (at_get ws 1 n at) ∙ (sym (ap (λ l. get_or l 1 0) e.2) ∙ z))) in let h = a.2 in let m = of_map pivot_of e.0.views h.0 h.1 h.2 in
+      dite (ℕ_discrete h.0 id)
+      (λ same. let is : h.1 ≡ v.pivot = sym m.2 ∙ ap pivot_of (same_view e.0.views id h.0 v m.0 e.1.1 m.1 same) in false≢true (sym all.2 ∙ (sym (ap (λ (l : PivotView P). l.inside) is) ∙ h.3)))
+      (λ apart. let is : h.1 ≡ (looked_only {P = P} {X = X} {T = T} []).pivot = sym m.2 ∙ ap pivot_of (others_spent e all h.0 m.0 m.1 apart) in false≢true (sym (ap (λ (l : PivotView P). l.inside) is) ∙ h.3))
+
+  -- it comes back as the seat saw it last
+  pub comes_as_seen : (e : Ended) → HasAll v → (p : P) → get_elem? ws 1 ≡ some 0 → get_elem? xs 0 ≡ some (Pivot p) → In p v.pivot.seen
+  comes_as_seen e all p z here = let same : shown_at e ≡ p = ap (pivot_or p) (some-injective _ _ (sym (home_pivot e z) ∙ here)) in let h = e.1.0.latest in
+      subst (λ q. In q v.pivot.seen) same (dite (ℕ_discrete h.0 id)
+      (λ one. subst (λ (u : View P X T). In (shown_at e) u.pivot.seen) (same_view e.0.views id h.0 v h.1 e.1.1 h.2 one) h.3)
+      (λ apart. absurd (subst (λ (u : View P X T). In (shown_at e) u.pivot.seen) (others_spent e all h.0 h.1 h.2 apart) h.3)))
+
+  -- each value comes back
+  pub all_there : (e : Ended) (out : List (plain.Option X)) → length out + 1 ≡ length xs → Whole ws xs out → HasAll v → (b : ℕ) → b < length out → (x : X) × (get_elem? out b ≡ some (Some x))
+  all_there e out count whole all b low = let r = e.1.0 in let deep = r.deep in let wide = r.wide in let len = e.3 in let inside : b < r.n = omega arith in
+      let here : get_elem? ws (b + 2) ≡ some 0 = ap (λ l. get_elem? l (b + 2)) (sym e.2) ∙ (at_within e.0.words (b + 2) (omega arith) ∙ ap some (no_value_out e all b inside)) in
+      let it = whole b low here in (it.0, it.1)

@@ -12,8 +12,6 @@ use Rattle.ww_lock.specs.contracts.lifetime.Seat as Seat
 use Rattle.ww_lock.specs.declared.ward.Ward.{Ghosts}
 use Rattle.atomic_table.specs.contracts.owned.Table as Table
 use Rattle.std.specs.contracts.alloc.Global as Global
-use Rattle.std.specs.contracts.vec.Vec as Vec
-use Rattle.drm_types.specs.contracts.ids.BufferId as BufferId
 use Rattle.std.specs.contracts.impls.GlobalAllocator.TheImpl.{ghosts}
 use Rattle.ww_lock.specs.contracts.board.Rule as Rule
 use Rattle.ww_lock.specs.contracts.board.Start as Start
@@ -41,6 +39,3 @@ module _ (P X T : RattleType) where
 
   pub board_sync : IsSend P → IsSend X → (W : RattleType) (g : Ghosts W.Denot P.Denot X.Denot T.Denot) → IsSync (Board.the_field W P X T g).row
   board_sync p x W g = let t = table_sync p x W g in let h = handle.the_field_sync in let a = atomic.the_sync in let s = sleepers_sync in search sendable depth 30
-
-pub list_send : IsSend (Vec.the_row BufferId.the_row Global.the_row ghosts)
-list_send = heap.Vec-send BufferId.the_row (search sendable depth 20)

@@ -12,5 +12,5 @@ pub mod Finding
 pub mod Closing
 pub mod Releasing
 pub mod Crosses
+pub mod Sharing
 pub mod Ready
-pub mod Counting

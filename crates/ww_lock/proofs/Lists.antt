@@ -1,5 +1,7 @@
 -- Lists as the rule reads them.
-use Rattle.std.proofs.Common.{◌≡◌, ◌≢◌, ℕ, zero, suc, List, [], ◌∷◌, ◌++◌, length, set, sym, refl, ap, ◌∙◌, subst, ⊎_elim, inl, inr, ◌⊎◌, arith, Bool, map, drop, get_or, eq-eqb, ne_eqb}
+use Rattle.std.proofs.Common.{◌≡◌, ◌≢◌, ℕ, ◌<◌, zero, suc, List, [], ◌∷◌, ◌++◌, length, set, sym, refl, ap, ◌∙◌, subst, ⊎_elim, inl, inr, ◌⊎◌, arith, Bool, map, drop, get_or, eq-eqb, ne_eqb}
+use Rattle.std.specs.Prelude.{IsPermutation}
+use Rattle.std.proofs.lemmas.List.Sorted.{Contains-permutation}
 use mathlib.Core.Logic.{dite}
 use native.Mathlib.Decide.{ℕ_discrete}
 use Rattle.atomic_table.proofs.Lists.{at_set}
@@ -37,6 +39,20 @@ module _ {A : Type 0} where
 
   pub now_last : (a : A) (xs : List A) → In a (xs ++ a ∷ [])
   now_last a xs = in_right a xs (a ∷ []) (inl refl)
+
+-- a list in another order has the same elements
+module _ {A : Type 0} where
+  place_in : (a : A) (xs : List A) → In a xs → (k : ℕ) × (k < length xs) × (get_or xs k a ≡ a)
+  place_in a [] h = absurd h
+  place_in a (x ∷ xs) h = ⊎_elim (λ e. (0, omega arith, sym e)) (λ t. let r = place_in a xs t in (suc r.0, let l = r.1 in omega arith, r.2)) h
+
+  in_place : (a : A) (xs : List A) (k : ℕ) → k < length xs → get_or xs k a ≡ a → In a xs
+  in_place a [] k l e = absurd (omega arith)
+  in_place a (x ∷ xs) zero l e = inl (sym e)
+  in_place a (x ∷ xs) (suc k) l e = inr (in_place a xs k (omega arith) e)
+
+  pub in_permutation : (a : A) (xs ys : List A) → IsPermutation xs ys → In a xs → In a ys
+  in_permutation a xs ys p h = let c = Contains-permutation xs ys a p (place_in a xs h) in in_place a ys c.0 c.1 c.2
 
 -- a fact of each seat, after a step of the seat id
 pub seats : {V : Type 0} (K : ℕ → V → Type 0) (vs : List V) (id : ℕ) (w : V) → K id w → ((j : ℕ) (d : V) → j ≢ id → get_elem? vs j ≡ some d → K j d)

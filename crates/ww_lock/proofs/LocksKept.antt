@@ -1,5 +1,7 @@
 -- The values' half of the rule, over a step of one seat.
-use Rattle.std.proofs.Common.{◌≡◌, ◌≢◌, ℕ, ◌+◌, ◌^◌, ◌<◌, ◌≤◌, List, [], ◌∷◌, ◌++◌, length, get_or, set, sym, refl, ap, ◌∙◌, subst, ⊎_elim, arith, get_or-set_other, get_or-set_same}
+use Rattle.std.proofs.Common.{◌≡◌, ◌≢◌, ℕ, ◌+◌, ◌^◌, ◌<◌, ◌≤◌, List, [], ◌∷◌, ◌++◌, length, get_or, set, sym, refl, ap, ◌∙◌, subst, ⊎_elim, inl, inr, ◌⊎◌, Bool, true, false, arith, get_or-set_other, get_or-set_same}
+use Rattle.std.specs.Prelude.{◌||◌}
+use Rattle.std.proofs.lemmas.Bool.{false≢true}
 use mathlib.Core.Logic.{dite}
 use mathlib.Core.Option.{Option, none, some}
 use native.Mathlib.Decide.{ℕ_discrete}
@@ -8,11 +10,30 @@ use Rattle.atomic_table.proofs.Lists.{set_here, set_else, at_snoc, at_longer}
 use Rattle.ww_lock.specs.declared.board.LockView.{LockView}
 use Rattle.ww_lock.specs.declared.board.Slot.{Slot}
 use Rattle.ww_lock.specs.declared.board.Slot.TheVariants.{Value}
-use Rattle.ww_lock.specs.Rule.{In, At, Held, Met, Owed, Locks, idle}
+use Rattle.ww_lock.specs.Rule.{In, At, Held, Met, Drew, KnowsBelow, Owed, Locks, idle}
 use Rattle.ww_lock.specs.Steps.{without}
 use Rattle.ww_lock.proofs.Lists.{set_at, in_left, in_right, in_both, in_last, now_last, seats, same_view, in_without, without_in}
 
+one_of : (a b : Bool) → (a || b) ≡ true → (a ≡ true) ⊎ (b ≡ true)
+one_of true b e = inl refl
+one_of false b e = inr e
+
 module _ {X : Type 0} where
+  knows_up : (v : LockView X) (n k : ℕ) → n ≤ k → KnowsBelow v n → KnowsBelow v k
+  knows_up v n k up p = ((λ t h. let l = p.0 t h in omega arith), (λ b t h. let l = p.1 b t h in omega arith), (λ b t h. let l = p.2 b t h in omega arith))
+
+  knows_both : (v u w : LockView X) (n : ℕ) → w.drew ≡ v.drew ++ u.drew → w.had ≡ v.had ++ u.had → w.met ≡ v.met ++ u.met → KnowsBelow v n → KnowsBelow u n → KnowsBelow w n
+  knows_both v u w n d h m p q = (
+    (λ t i. ⊎_elim (p.0 t) (q.0 t) (in_both t v.drew u.drew (subst (In t) d i))),
+    (λ b t i. ⊎_elim (p.1 b t) (q.1 b t) (in_both (b, t) v.had u.had (subst (In (b, t)) h i))),
+    (λ b t i. ⊎_elim (p.2 b t) (q.2 b t) (in_both (b, t) v.met u.met (subst (In (b, t)) m i))),
+  )
+
+  pub drew_stays : (vs : List (LockView X)) (id : ℕ) (v w : LockView X) → At vs id v → ((t : ℕ) → In t v.drew → Drew (set vs id w) t) → (t : ℕ) → Drew vs t → Drew (set vs id w) t
+  drew_stays vs id v w at more t (k, u, there, has) = dite (ℕ_discrete k id)
+      (λ e. more t (subst (λ (z : LockView X). In t z.drew) (same_view vs id k v u at there e) has))
+      (λ ne. (k, u, set_else vs id k w ne ∙ there, has))
+
   pub met_stays : (vs : List (LockView X)) (id : ℕ) (v w : LockView X) → At vs id v → ((b h : ℕ) → In (b, h) v.had → Met (set vs id w) b h)
       → (b h : ℕ) → Met vs b h → Met (set vs id w) b h
   met_stays vs id v w at more b h (k, u, there, has) = dite (ℕ_discrete k id)
@@ -39,6 +60,10 @@ module _ {P X T : Type 0} where
     pub others : (j : ℕ) (u : LockView X) (b : ℕ) (x : X) → j ≢ id → At views j u → In (b, x) u.owes → (get_or words' (b + 2) 0 ≡ get_or words (b + 2) 0) × (fit b x → fit' b x)
     pub met : (b h : ℕ) → In (b, h) w.met → Met views b h
     pub had : (b h : ℕ) → In (b, h) v.had → Met (set views id w) b h
+    pub known : KnowsBelow w (get_or words' 0 0)
+    pub drew : (t : ℕ) → In t v.drew → Drew (set views id w) t
+    pub drawn : (t : ℕ) → t < get_or words' 0 0 → (t < get_or words 0 0) ⊎ Drew (set views id w) t
+    pub ended : w.ended ≡ true → get_or words' 0 0 ≡ 2 ^ 63
 
   pub moved : (fit fit' : ℕ → X → Type 0) (n : ℕ) (words words' : List ℕ) (homes homes' : List (Option (Slot P X T))) (views : List (LockView X)) (id : ℕ) (v w : LockView X) → Locks fit n words homes views
       → At views id v → Moves fit fit' n words words' homes homes' views id v w → Locks fit' n words' homes' (set views id w)
@@ -48,6 +73,9 @@ module _ {P X T : Type 0} where
     apart = λ j k a b p q. seats (λ j a. (k : ℕ) (b : LockView X) → At (set views id w) k b → 0 < a.ticket → a.ticket ≡ b.ticket → j ≡ k) views id w
         (λ k b q. seats (λ k b. 0 < w.ticket → w.ticket ≡ b.ticket → id ≡ k) views id w (λ _ _. refl) (λ k b ne q real same. absurd (m.apart k b ne q (omega arith) same)) k b q)
         (λ j a ne p k b q. seats (λ k b. 0 < a.ticket → a.ticket ≡ b.ticket → j ≡ k) views id w (λ real same. absurd (m.apart j a ne p real (sym same))) (λ k b _ q. r.apart j k a b p q) k b q) j a p k b q;
+    drawn = λ t pos low. ⊎_elim (λ old. drew_stays views id v w at m.drew t (r.drawn t pos old)) (λ new. new) (m.drawn t low);
+    known = seats (λ _ d. KnowsBelow d (get_or words' 0 0)) views id w m.known (λ j d _ a. knows_up d (get_or words 0 0) (get_or words' 0 0) up (r.known j d a));
+    ended = seats (λ _ d. d.ended ≡ true → get_or words' 0 0 ≡ 2 ^ 63) views id w m.ended (λ j d _ a e. let o = r.ended j d a e in let c = m.counter.1 in omega arith);
     home = m.home;
     out = m.out;
     owed = λ j d b x p. seats (λ _ d. In (b, x) d.owes → Owed fit' words' n d b x) views id w (m.owed b x)
@@ -63,6 +91,9 @@ module _ {P X T : Type 0} where
     counter = let c = r.counter in let c₀ = c.0 in let c₁ = c.1 in (omega arith, omega arith);
     tickets = λ j v a. let t = r.tickets j v a in omega arith;
     apart = r.apart;
+    drawn = λ t pos low. r.drawn t pos (omega arith);
+    known = λ j v a. knows_up v (get_or words 0 0) (get_or words' 0 0) (omega arith) (r.known j v a);
+    ended = λ j v a e. zero ∙ r.ended j v a e;
     home = λ b l z. let h = r.home b l (sym (else b l) ∙ z) in (h.0, slots b ∙ h.1, h.2);
     out = λ b l nz. let o = r.out b l (λ z. nz (else b l ∙ z)) in (slots b ∙ o.0, subst (Held views b) (sym (else b l)) o.1);
     owed = λ j v b x a has. let o = r.owed j v b x a has in (o.0, else b o.0 ∙ o.1, o.2, o.3, o.4);
@@ -77,6 +108,9 @@ module _ {P X T : Type 0} where
         counter = r.counter;
         tickets = λ j v a. ⊎_elim (r.tickets j v) (λ t. subst (λ (z : LockView X). z.ticket < get_or words 0 0) t (omega arith)) (at_snoc views idle v j a);
         apart = λ j k v w a c real same. ⊎_elim (λ a'. ⊎_elim (λ c'. r.apart j k v w a' c' real same) (λ t. absurd (fresh w (omega arith) t)) (at_snoc views idle w k c)) (λ t. absurd (fresh v real t)) (at_snoc views idle v j a);
+        drawn = λ t pos l. let d = r.drawn t pos l in (d.0, d.1, at_longer views (idle ∷ []) d.0 d.1 d.2, d.3);
+        known = λ j v a. ⊎_elim (r.known j v) (λ t. subst (λ (z : LockView X). KnowsBelow z (get_or words 0 0)) t ((λ _ h. absurd h), (λ _ _ h. absurd h), (λ _ _ h. absurd h))) (at_snoc views idle v j a);
+        ended = λ j v a e. ⊎_elim (λ a'. r.ended j v a' e) (λ t. absurd (false≢true (subst (λ (z : LockView X). z.ended ≡ true) (sym t) e))) (at_snoc views idle v j a);
         home = r.home;
         out = λ b l nz. let o = r.out b l nz in let h = o.1 in (o.0, (h.0, h.1, h.2, at_longer views (idle ∷ []) h.0 h.1 h.3, h.4, h.5));
         owed = λ j v b x a has. ⊎_elim (λ a'. r.owed j v b x a' has) (λ t. absurd (subst (λ (z : LockView X). In (b, x) z.owes) (sym t) has)) (at_snoc views idle v j a);
@@ -84,8 +118,8 @@ module _ {P X T : Type 0} where
       }
 
   module _ (fit : ℕ → X → Type 0) (n : ℕ) (words : List ℕ) (homes : List (Option (Slot P X T))) (views : List (LockView X)) (r : Locks fit n words homes views) (id : ℕ) (v : LockView X) (at : At views id v) (wide : n + 2 ≤ length words) (deep : length homes ≡ n + 1) where
-    pub draws : (old : ℕ) → old < 2 ^ 63 → get_or words 0 0 ≡ old → v.owes ≡ [] → Locks fit n (set words 0 (old + 1)) homes (set views id (record v { ticket = old }))
-    draws old small hit bare = let w : LockView X = record v { ticket = old } in let words' : List ℕ = set words 0 (old + 1) in
+    pub draws : (old : ℕ) → old < 2 ^ 63 → get_or words 0 0 ≡ old → v.owes ≡ [] → Locks fit n (set words 0 (old + 1)) homes (set views id (record v { ticket = old; drew = v.drew ++ old ∷ [] }))
+    draws old small hit bare = let w : LockView X = record v { ticket = old; drew = v.drew ++ old ∷ [] } in let words' : List ℕ = set words 0 (old + 1) in
         let now : get_or words' 0 0 ≡ old + 1 = get_or-set_same words 0 (old + 1) 0 (omega arith) in let low = r.counter in let low₀ = low.0 in
         let same : (b : ℕ) → get_or words' (b + 2) 0 ≡ get_or words (b + 2) 0 = λ b. get_or-set_other words 0 (b + 2) (old + 1) 0 (λ e. omega arith) in
         let bare' : (b : ℕ) (x : X) → In (b, x) v.owes → ⊥ = λ b x has. subst (In (b, x)) bare has in
@@ -100,6 +134,14 @@ module _ {P X T : Type 0} where
           others = λ _ _ b _ _ _ _. (same b, λ f. f);
           met = λ b h has. r.met id v b h at has;
           had = λ b h has. (id, w, set_at views id v w at, has);
+          known = let k = r.known id v at in (
+            (λ t h. ⊎_elim (λ past. let l = k.0 t past in omega arith) (λ new. omega arith) (in_last t old v.drew h)),
+            (λ b t h. let l = k.1 b t h in omega arith),
+            (λ b t h. let l = k.2 b t h in omega arith),
+          );
+          drew = λ t h. (id, w, set_at views id v w at, in_left t v.drew (old ∷ []) h);
+          drawn = λ t l. dite (ℕ_discrete t old) (λ e. inr (subst (Drew (set views id w)) (sym e) (id, w, set_at views id v w at, now_last old v.drew))) (λ ne. inl (omega arith));
+          ended = λ e. let o = r.ended id v at e in absurd (omega arith);
         }
 
     pub claims : (b t : ℕ) (x : X) → b < n → v.ticket ≡ t → 0 < t → get_or words (b + 2) 0 ≡ 0 → fit b x
@@ -132,6 +174,14 @@ module _ {P X T : Type 0} where
           others = λ j u c y _ a has. (else c (apart j u c y a has), λ f. f);
           met = λ c k has. r.met id v c k at has;
           had = λ c k has. (id, w, set_at views id v w at, in_left (c, k) v.had ((b, v.ticket) ∷ []) has);
+          known = let k = r.known id v at in (
+            (λ c h. let l = k.0 c h in omega arith),
+            (λ c h g. ⊎_elim (λ past. let l = k.1 c h past in omega arith) (λ new. let e : h ≡ v.ticket = ap (λ (z : ℕ × ℕ). z.1) new in omega arith) (in_last (c, h) (b, v.ticket) v.had g)),
+            (λ c h g. let l = k.2 c h g in omega arith),
+          );
+          drew = λ c h. (id, w, set_at views id v w at, h);
+          drawn = λ c l. inl (omega arith);
+          ended = λ e. zero ∙ r.ended id v at e;
         }
 
     -- a try that fails finds the ticket of another seat
@@ -151,6 +201,14 @@ module _ {P X T : Type 0} where
             others = λ _ _ _ _ _ _ _. (refl, λ f. f);
             met = λ c h z. ⊎_elim (λ old. r.met id v c h at old) (λ new. (k, u, there, subst (λ (z : ℕ × ℕ). In z u.had) (sym (new ∙ ap (λ (z : ℕ). (b, z)) (sym is))) due.4)) (in_last (c, h) (b, x₀) v.met z);
             had = λ c h z. (id, w, set_at views id v w at, z);
+            known = let known = r.known id v at in let low = r.tickets k u there in (
+              known.0,
+              known.1,
+              (λ c h z. ⊎_elim (λ past. known.2 c h past) (λ new. let e : h ≡ x₀ = ap (λ (z : ℕ × ℕ). z.1) new in omega arith) (in_last (c, h) (b, x₀) v.met z)),
+            );
+            drew = λ t h. (id, w, set_at views id v w at, h);
+            drawn = λ t l. inl l;
+            ended = λ e. r.ended id v at e;
           },
         )
 
@@ -180,12 +238,16 @@ module _ {P X T : Type 0} where
           );
           met = λ c k h. r.met id v c k at h;
           had = λ c k h. (id, w, set_at views id v w at, h);
+          known = knows_up v (get_or words 0 0) (get_or words' 0 0) (omega arith) (r.known id v at);
+          drew = λ t h. (id, w, set_at views id v w at, h);
+          drawn = λ t l. inl (omega arith);
+          ended = λ e. zero ∙ r.ended id v at e;
         }
 
     -- the seat takes in what another had and met, which holds nothing
     pub joins : (other : ℕ) (u : LockView X) → At views other u → other ≢ id → u.owes ≡ []
-        → Locks fit n words homes (set (set views id (record v { had = v.had ++ u.had; met = v.met ++ u.met })) other idle)
-    joins other u there ne bare = let w : LockView X = record v { had = v.had ++ u.had; met = v.met ++ u.met } in let low = r.counter in let low₀ = low.0 in let views' : List (LockView X) = set views id w in
+        → Locks fit n words homes (set (set views id (record v { had = v.had ++ u.had; met = v.met ++ u.met; drew = v.drew ++ u.drew; ended = v.ended || u.ended })) other idle)
+    joins other u there ne bare = let w : LockView X = record v { had = v.had ++ u.had; met = v.met ++ u.met; drew = v.drew ++ u.drew; ended = v.ended || u.ended } in let low = r.counter in let low₀ = low.0 in let views' : List (LockView X) = set views id w in
         let bare' : (b : ℕ) (x : X) → In (b, x) u.owes → ⊥ = λ b x has. subst (In (b, x)) bare has in let here = set_at views id v w at in
         let first : Locks fit n words homes views' = moved fit fit n words words homes homes views id v w r at record {
           counter = low;
@@ -198,6 +260,10 @@ module _ {P X T : Type 0} where
           others = λ _ _ _ _ _ _ _. (refl, λ f. f);
           met = λ c h z. ⊎_elim (λ t. r.met id v c h at t) (λ t. r.met other u c h there t) (in_both (c, h) v.met u.met z);
           had = λ c h z. (id, w, here, in_left (c, h) v.had u.had z);
+          known = knows_both v u w (get_or words 0 0) refl refl refl (r.known id v at) (r.known other u there);
+          drew = λ t h. (id, w, here, in_left t v.drew u.drew h);
+          drawn = λ t l. inl l;
+          ended = λ e. ⊎_elim (r.ended id v at) (r.ended other u there) (one_of v.ended u.ended e);
         } in let there' = set_else views id other w ne ∙ there in
         moved fit fit n words words homes homes views' other u idle first there' record {
           counter = low;
@@ -210,7 +276,30 @@ module _ {P X T : Type 0} where
           others = λ _ _ _ _ _ _ _. (refl, λ f. f);
           met = λ c h z. absurd z;
           had = λ c h z. (id, w, set_else views' other id idle (λ e. ne (sym e)) ∙ here, in_right (c, h) v.had u.had z);
+          known = ((λ _ h. absurd h), (λ _ _ h. absurd h), (λ _ _ h. absurd h));
+          drew = λ t h. (id, w, set_else views' other id idle (λ e. ne (sym e)) ∙ here, in_right t v.drew u.drew h);
+          drawn = λ t l. inl l;
+          ended = λ e. absurd (false≢true e);
         }
+
+    -- the seat finds the counter at its end
+    pub ends : get_or words 0 0 ≡ 2 ^ 63 → Locks fit n words homes (set views id (record v { ended = true }))
+    ends full = let w : LockView X = record v { ended = true } in moved fit fit n words words homes homes views id v w r at record {
+      counter = r.counter;
+      up = omega arith;
+      ticket = r.tickets id v at;
+      apart = λ k u ne a q e. ne (r.apart k id u v a at q (sym e));
+      home = r.home;
+      out = λ c l nz. let g = r.out c l nz in (g.0, held_stays views id v w at c _ (λ y q z. (q, (y, z))) g.1);
+      owed = λ c y z. r.owed id v c y at z;
+      others = λ _ _ _ _ _ _ _. (refl, λ f. f);
+      met = λ c h z. r.met id v c h at z;
+      had = λ c h z. (id, w, set_at views id v w at, z);
+      known = r.known id v at;
+      drew = λ t h. (id, w, set_at views id v w at, h);
+      drawn = λ t l. inl l;
+      ended = λ _. full;
+    }
 
     -- the pivot changes, and with it what fits
     pub leaves : (fit' : ℕ → X → Type 0) (xs : List (ℕ × X)) → ((b : ℕ) (x : X) → In (b, x) xs → (y : X) × In (b, y) v.owes) → ((b : ℕ) (x : X) → In (b, x) v.owes → (y : X) × In (b, y) xs)
@@ -226,4 +315,8 @@ module _ {P X T : Type 0} where
       others = λ j u b x ne a has. (refl, rest_ b x (λ y mine. let o = r.owed j u b x a has in let m = r.owed id v b y at mine in let o₁ = o.1 in let o₂ = o.2 in let m₁ = m.1 in ne (r.apart j id u v a at o₂ (omega arith))));
       met = λ b h has. r.met id v b h at has;
       had = λ b h has. (id, w, set_at views id v w at, has);
+      known = r.known id v at;
+      drew = λ t h. (id, w, set_at views id v w at, h);
+      drawn = λ t l. inl l;
+      ended = λ e. r.ended id v at e;
     }

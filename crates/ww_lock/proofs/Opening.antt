@@ -1,5 +1,5 @@
 -- The board at the start.
-use Rattle.std.proofs.Common.{◌≡◌, ℕ, ◌+◌, ◌<◌, zero, suc, List, [], ◌∷◌, map, length, get_or, sym, refl, ap, ◌∙◌, subst, ⊎_elim, inl, ◌⊎◌, arith, add-one, replicate, set, length-set, get_or-set_same, get_or-set_other}
+use Rattle.std.proofs.Common.{◌≡◌, ℕ, ◌+◌, ◌<◌, zero, suc, List, [], ◌∷◌, map, length, get_or, sym, refl, ap, ◌∙◌, subst, ⊎_elim, inl, ◌⊎◌, true, arith, add-one, replicate, set, length-set, get_or-set_same, get_or-set_other}
 use Rattle.std.proofs.lemmas.Bool.{false≢true}
 use mathlib.Core.Option.{some, some-injective, some-ne-none}
 use lib.ListN.{get_elem?, length-map, length-replicate}
@@ -7,8 +7,9 @@ use Rattle.atomic_table.specs.Table.{opening}
 use Rattle.ww_lock.specs.declared.board.LockView.{LockView}
 use Rattle.ww_lock.specs.declared.board.Slot.{Slot}
 use Rattle.ww_lock.specs.declared.board.Slot.TheVariants.{Pivot, Value}
-use Rattle.ww_lock.specs.Rule.{In, Sees, Keeps, newcomer, idle, saw}
+use Rattle.ww_lock.specs.Rule.{In, KnowsBelow, Sees, Keeps, newcomer, idle, saw}
 use Rattle.std.specs.Prelude as plain
+use Rattle.ww_lock.specs.Parts.{AreWithin}
 use Rattle.ww_lock.specs.Lifetime.{valued, AllFit}
 
 only : {V : Type 0} (v u : V) (j : ℕ) → get_elem? (v ∷ []) j ≡ some u → (j ≡ 0) × (v ≡ u)
@@ -31,6 +32,9 @@ opens {P} {X} {T} good fits grows posted busy same posts p xs words wide still o
     counter = (omega arith, omega arith);
     tickets = λ j v a. subst (λ (z : LockView X). z.ticket < get_or words 0 0) (only idle v j a).1 (omega arith);
     apart = λ j k v w a c real _. let e : 0 ≡ v.ticket = ap (λ z. z.ticket) (only idle v j a).1 in absurd (omega arith);
+    drawn = λ t pos l. absurd (omega arith);
+    known = λ j v a. subst (λ (z : LockView X). KnowsBelow z (get_or words 0 0)) (only idle v j a).1 ((λ _ h. absurd h), (λ _ _ h. absurd h), (λ _ _ h. absurd h));
+    ended = λ j v a e. absurd (false≢true (subst (λ (z : LockView X). z.ended ≡ true) (sym (only idle v j a).1) e));
     home = λ b l z. let h = all_home {P = P} {T = T} (λ b x. fits b p x) xs 0 b l fit in (h.0, subst (λ k. get_elem? (map (λ (s : Slot P X T). some s) (Pivot p ∷ map valued xs)) k ≡ some (some (Value h.0))) (sym (add-one b)) h.1, subst (λ k. fits k p h.0) (let e : 0 + b ≡ b = omega arith in e) h.2);
     out = λ b l nz. absurd (nz (blank (b + 2) (omega arith)));
     owed = λ j v b x a h. absurd (subst (λ (z : LockView X). In (b, x) z.owes) (sym (only idle v j a).1) h);
@@ -59,6 +63,13 @@ opens {P} {X} {T} good fits grows posted busy same posts p xs words wide still o
     each = λ j t a. absurd (let e = (only plain.None (plain.Some t) j a).1 in cc (e));
     once = λ j k t a b. absurd (let e = (only plain.None (plain.Some t) j a).1 in cc (e));
   };
+  parts = record {
+    n = 0;
+    within = λ j ds a. subst (AreWithin 0) (only (0 ∷ []) ds j a).1 (omega arith, tt);
+    whole = refl;
+    blank = λ j v a e. absurd (let n : suc zero ≡ 0 = ap length (ap (λ z. z.part) (only (newcomer p) v j a).1 ∙ e) in omega arith);
+  };
+  latest = (0, newcomer p, refl, inl refl);
 }
 
 abbrev pub zero_row : ℕ → List ℕ

@@ -1,6 +1,8 @@
 -- The pivot's half of the rule, over a step of one seat.
 use Rattle.std.proofs.Common.{◌≡◌, ◌≢◌, ℕ, ◌<◌, List, [], ◌∷◌, ◌++◌, length, set, sym, refl, ◌∙◌, subst, ⊎_elim, inl, inr, ◌⊎◌, arith, Bool, true, false}
+use Rattle.std.specs.Prelude.{IsPermutation}
 use Rattle.std.proofs.lemmas.List.{set_comm}
+use Rattle.std.proofs.lemmas.List.Sorted.{IsPermutation-refl, IsPermutation-sym, IsPermutation-trans, IsPermutation-cons, IsPermutation-middle}
 use Rattle.std.proofs.lemmas.Bool.{false≢true, false_from_ne_true}
 use mathlib.Core.Option.{Option, none, some}
 use mathlib.Core.Logic.{dite}
@@ -12,7 +14,7 @@ use Rattle.ww_lock.specs.declared.board.Slot.{Slot}
 use Rattle.ww_lock.specs.declared.board.Slot.TheVariants.{Pivot}
 use Rattle.ww_lock.specs.Rule.{In, At, Comes, Ordered, Sees, Beside, Pivots, saw}
 use Rattle.ww_lock.specs.Steps.{IsChain, calls_with}
-use Rattle.ww_lock.proofs.Lists.{set_at, in_left, in_right, in_both, in_last, seats, same_view}
+use Rattle.ww_lock.proofs.Lists.{set_at, in_left, in_right, in_both, in_last, in_permutation, seats, same_view}
 
 swap : {A B : Type 0} → A ⊎ B → B ⊎ A
 swap x = ⊎_elim (λ a. inr a) (λ b. inl b) x
@@ -232,26 +234,23 @@ module _ {P X T : Type 0} (good : P → Type 0) (grows : P → P → Type 0) (sa
 module _ {P : Type 0} (grows : P → P → Type 0) (same : (p : P) → grows p p) (trans : (p q r : P) → grows p q → grows q r → grows p r) where
   -- a call with its place in a chain
   put_in : (c : P × P) (cs : List (P × P)) → grows c.0 c.1 → ((d : P × P) → In d cs → grows d.0 d.1) → ((d : P × P) → In d cs → Comes grows c d) → IsChain grows cs
-      → (ds : List (P × P)) × IsChain grows ds × ((d : P × P) → (In d (c ∷ cs) → In d ds) × (In d ds → In d (c ∷ cs)))
-  put_in c [] goes all near chain = (c ∷ [], ((λ d t. absurd t), tt), λ d. ((λ t. t), λ t. t))
+      → (ds : List (P × P)) × IsChain grows ds × IsPermutation (c ∷ cs) ds
+  put_in c [] goes all near chain = (c ∷ [], ((λ d t. absurd t), tt), IsPermutation-refl (c ∷ []))
   put_in c (e ∷ es) goes all near chain = ⊎_elim
-      (λ first. (c ∷ e ∷ es, ((λ d t. ⊎_elim (λ u. subst (λ z. grows c.1 z.0) (sym u) first) (λ u. trans _ _ _ first (trans _ _ _ (all e (inl refl)) (chain.0 d u))) t), chain), λ d. ((λ t. t), λ t. t)))
+      (λ first. (c ∷ e ∷ es, ((λ d t. ⊎_elim (λ u. subst (λ z. grows c.1 z.0) (sym u) first) (λ u. trans _ _ _ first (trans _ _ _ (all e (inl refl)) (chain.0 d u))) t), chain), IsPermutation-refl (c ∷ e ∷ es)))
       (λ later. let r = put_in c es goes (λ d t. all d (inr t)) (λ d t. near d (inr t)) chain.1 in (
         e ∷ r.0,
-        ((λ d t. ⊎_elim (λ u. subst (λ z. grows e.1 z.0) (sym u) later) (λ u. chain.0 d u) ((r.2 d).1 t)), r.1),
-        λ d. (
-          (λ t. ⊎_elim (λ u. inr ((r.2 d).0 (inl u))) (λ t. ⊎_elim (λ u. inl u) (λ u. inr ((r.2 d).0 (inr u))) t) t),
-          (λ t. ⊎_elim (λ u. inr (inl u)) (λ u. ⊎_elim (λ w. inl w) (λ w. inr (inr w)) ((r.2 d).1 u)) t),
-        ),
+        ((λ d t. ⊎_elim (λ u. subst (λ z. grows e.1 z.0) (sym u) later) (λ u. chain.0 d u) (in_permutation d r.0 (c ∷ es) (IsPermutation-sym (c ∷ es) r.0 r.2) t)), r.1),
+        IsPermutation-trans (c ∷ e ∷ es) (e ∷ c ∷ es) (e ∷ r.0) (IsPermutation-sym (e ∷ c ∷ es) (c ∷ e ∷ es) (IsPermutation-middle (e ∷ []) c es)) (IsPermutation-cons e (c ∷ es) r.0 r.2),
       ))
       (near e (inl refl))
 
   -- calls that are comparable, two by two, in order
-  pub chained : (cs : List (P × P)) → ((d : P × P) → In d cs → grows d.0 d.1) → Ordered grows cs → (ds : List (P × P)) × IsChain grows ds × ((d : P × P) → (In d cs → In d ds) × (In d ds → In d cs))
-  chained [] all o = ([], tt, λ d. ((λ t. t), λ t. t))
-  chained (c ∷ cs) all o = let r = chained cs (λ d t. all d (inr t)) o.1 in
-      let q = put_in c r.0 (all c (inl refl)) (λ d t. all d (inr ((r.2 d).1 t))) (λ d t. o.0 d ((r.2 d).1 t)) r.1 in
-      (q.0, q.1, λ d. ((λ t. (q.2 d).0 (⊎_elim (λ u. inl u) (λ u. inr ((r.2 d).0 u)) t)), λ t. ⊎_elim (λ u. inl u) (λ u. inr ((r.2 d).1 u)) ((q.2 d).1 t)))
+  pub chained : (cs : List (P × P)) → ((d : P × P) → In d cs → grows d.0 d.1) → Ordered grows cs → (ds : List (P × P)) × IsChain grows ds × IsPermutation cs ds
+  chained [] all o = ([], tt, IsPermutation-refl [])
+  chained (c ∷ cs) all o = let r = chained cs (λ d t. all d (inr t)) o.1 in let back : (d : P × P) → In d r.0 → In d cs = λ d t. in_permutation d r.0 cs (IsPermutation-sym cs r.0 r.2) t in
+      let q = put_in c r.0 (all c (inl refl)) (λ d t. all d (inr (back d t))) (λ d t. o.0 d (back d t)) r.1 in
+      (q.0, q.1, IsPermutation-trans (c ∷ cs) (c ∷ r.0) q.0 (IsPermutation-cons c cs r.0 r.2) q.2)
 
   -- the last of what was seen
   pub last_seen : (q : P) (qs : List P) → ((a b : P) → In a (q ∷ qs) → In b (q ∷ qs) → grows a b ⊎ grows b a) → (p : P) × In p (q ∷ qs) × ((a : P) → In a (q ∷ qs) → grows a p)
@@ -268,9 +267,10 @@ module _ {P : Type 0} (grows : P → P → Type 0) (same : (p : P) → grows p p
   module _ {X T : Type 0} (good : P → Type 0) where
     -- a seat that is outside puts its calls in order, and keeps the last of what it saw
     pub settles : (p : P) (x : ℕ) (homes : List (Option (Slot P X T))) (views : List (PivotView P)) (id : ℕ) (v : PivotView P) → At views id v → v.inside ≡ false → Pivots good grows p x homes views
-        → (q : P) (cs : List (P × P)) → In q v.seen → ((a : P) → In a v.seen → grows a q) → IsChain grows cs → ((c : P × P) → (In c v.mine → In c cs) × (In c cs → In c v.mine))
+        → (q : P) (cs : List (P × P)) → In q v.seen → ((a : P) → In a v.seen → grows a q) → IsChain grows cs → IsPermutation v.mine cs
         → Pivots good grows p x homes (set views id (record v { seen = q ∷ []; mine = cs }))
-    settles p x homes views id v at off r q cs mine shared chain both = let w : PivotView P = record v { seen = q ∷ []; mine = cs } in let own = r.each id v at in
+    settles p x homes views id v at off r q cs mine shared chain moved = let w : PivotView P = record v { seen = q ∷ []; mine = cs } in let own = r.each id v at in
+        let back : (c : P × P) → In c cs → In c v.mine = λ c h. in_permutation c cs v.mine (IsPermutation-sym v.mine cs moved) h in
         let old : (a : P) → In a w.seen → In a v.seen = λ a h. ⊎_elim (λ e. subst (λ z. In z v.seen) (sym e) mine) (λ t. absurd t) h in record {
           at_home = r.at_home;
           away = λ nz. let a = r.away nz in let h = a.2 in (a.0, a.1, (h.0, h.1, set_else views id h.0 w (λ e. never v.inside off (subst (λ (z : PivotView P). z.inside ≡ true) (same_view views id h.0 v h.1 at h.2 e) h.3)) ∙ h.2, h.3));
@@ -279,20 +279,20 @@ module _ {P : Type 0} (grows : P → P → Type 0) (same : (p : P) → grows p p
             inside = λ t. never v.inside off t;
             grown = λ a h. own.grown a (old a h);
             order = λ a b h k. own.order a b (old a h) (old b k);
-            lefts = λ c h. let l = own.lefts c ((both c).1 h) in (q, inl refl, trans _ _ _ l.2 (shared l.0 l.1));
-            stays = λ c h. own.stays c ((both c).1 h);
-            calls = λ c h. own.calls c ((both c).1 h);
+            lefts = λ c h. let l = own.lefts c (back c h) in (q, inl refl, trans _ _ _ l.2 (shared l.0 l.1));
+            stays = λ c h. own.stays c (back c h);
+            calls = λ c h. own.calls c (back c h);
             ordered = chain_ordered cs chain;
           } (λ j u _ a. r.each j u a);
           two = pairs grows views id w (λ j u ne a. let t = r.two j id u v a at ne in let s = r.two id j v u at a (λ e. ne (sym e)) in (
             record {
               seens = λ a b h k. s.seens a b (old a h) k;
-              both = λ c d h k. s.both c d ((both c).1 h) k;
+              both = λ c d h k. s.both c d (back c h) k;
               alone = λ y. never v.inside off y;
             },
             record {
               seens = λ a b h k. t.seens a b h (old b k);
-              both = λ c d h k. t.both c d h ((both d).1 k);
+              both = λ c d h k. t.both c d h (back d k);
               alone = λ _. off;
             },
           )) r.two;

@@ -1,20 +1,21 @@
 -- What a caller that may lock keeps at each call.
-use Rattle.std.proofs.Common.{◌≡◌, ℕ, ◌<◌, ◌≤◌, suc, List, [], ◌∷◌, length, sym, ap, ◌∙◌, subst, ⊎_elim, arith, eq-eqb, ne_eqb, Bool, false, Result, Ok, Err}
+use Rattle.std.proofs.Common.{◌≡◌, ℕ, ◌<◌, ◌≤◌, suc, List, [], ◌∷◌, ◌++◌, length, sym, ap, ◌∙◌, subst, ⊎_elim, arith, eq-eqb, ne_eqb, Bool, false, None, Result, Ok, Err}
 use Rattle.std.specs.Prelude.{if◌then◌else◌}
 use mathlib.Core.Logic.{dite}
 use native.Mathlib.Decide.{ℕ_discrete}
 use Rattle.ww_lock.specs.declared.acquire.Acquire.{Acquire}
-use Rattle.ww_lock.specs.declared.locks.LockError.{LockError}
-use Rattle.ww_lock.specs.declared.locks.LockError.TheVariants.{Sealed, Already, Backoff}
+use Rattle.ww_lock.specs.declared.locks.TryLockError.{TryLockError}
+use Rattle.ww_lock.specs.declared.locks.TryLockError.TheVariants.{Sealed, Already, Older, Younger}
 use Rattle.atomic_table.specs.Seated.{TableId}
-use Rattle.ww_lock.specs.Rule.{In, newcomer}
-use Rattle.ww_lock.specs.Steps.{with_release, with_ticket, with_entry, with_exit, right_half, without}
-use Rattle.ww_lock.specs.Held.{IsApart}
-use Rattle.ww_lock.specs.Acquiring.{HoldsOutside, IsSameAcquire, Waited, Claimed, AnswersLock, view}
+use Rattle.ww_lock.specs.Rule.{In}
+use Rattle.ww_lock.specs.declared.board.View.{View}
+use Rattle.ww_lock.specs.Steps.{with_release, with_ticket, without}
+use Rattle.ww_lock.specs.Held.{IsApart, Lacks}
+use Rattle.ww_lock.specs.Acquiring.{HoldsOutside, IsReady, IsSameAcquire, Claimed, AnswersTry, view}
 use Rattle.ww_lock.specs.declared.lifetime.Seat.{Seat}
-use Rattle.ww_lock.specs.declared.board.TaskChange.TheVariants.{Same}
-use Rattle.ww_lock.specs.Begun.{IsOutside, IsSameSeat, sees}
-use Rattle.ww_lock.specs.Threads.{IsReady, IsIdle}
+use Rattle.ww_lock.specs.Begun.{IsOutside, IsIdle, GivesBack, seat_back, sees}
+use Rattle.ww_lock.specs.declared.begin.BeginError.{BeginError}
+use Rattle.ww_lock.specs.declared.begin.BeginError.TheVariants.{Memory, TicketsOut}
 use Rattle.ww_lock.proofs.Lists.{in_last, in_without}
 use Rattle.ww_lock.proofs.Trying.{lacks_same}
 
@@ -40,45 +41,43 @@ module _ {A : Type 0} where
       (λ ne. let r = without_fewer b x xs (⊎_elim (λ s. absurd (ne (ap (λ z. z.0) (sym s)))) (λ s. s) h) in
       subst (λ (k : Bool). length (if k then without b xs else q ∷ without b xs) < suc (length xs)) (sym (ne_eqb q.0 b ne)) (omega arith))
 
-module _ {P X T : Type 0} (z : TableId) where
-  pub idle_same : (s t : Seat P X T) → IsIdle z s → IsSameSeat s t → IsIdle z t
-  idle_same s t i e = (
-    (e.0 ∙ i.0.0, ap (λ m. m.1) e.2 ∙ i.0.1, ap (λ m. m.0.lock.owes) e.2 ∙ i.0.2, ap (λ m. m.0.pivot.inside) e.2 ∙ i.0.3),
-    ap (λ m. m.0.task) e.2 ∙ i.1,
-    (i.2.0, i.2.1, ap (λ m. m.0.pivot.seen) e.2 ∙ i.2.2),
-  )
-
-  pub idle_new : (s : Seat P X T) (p : P) → IsOutside z s → sees s ≡ newcomer p → IsIdle z s
-  idle_new s p o e = (o, ap (λ v. v.task) e, (p, [], ap (λ v. v.pivot.seen) e))
-
-  pub idle_left : (s t : Seat P X T) → IsIdle z s → IsOutside z t → sees t ≡ sees s → IsIdle z t
-  idle_left s t i o e = (o, ap (λ v. v.task) e ∙ i.1, (i.2.0, i.2.1, ap (λ v. v.pivot.seen) e ∙ i.2.2))
-
-  pub idle_right : (s t : Seat P X T) → IsIdle z s → IsOutside z t → sees t ≡ right_half (sees s) → IsIdle z t
-  idle_right s t i o e = (o, ap (λ v. v.task) e, (i.2.0, i.2.1, ap (λ v. v.pivot.seen) e ∙ i.2.2))
+-- a seat that got no ticket
+pub idle_back : {P X T : Type 0} (z : TableId) (s : Seat P X T) (e : BeginError P X T) → IsOutside z s → GivesBack s e → (sees s).task ≡ None → IsIdle z (seat_back e)
+idle_back z s (Memory t) o e i = (
+  (e.0 ∙ o.0, ap (λ m. m.1) e.2 ∙ o.1, ap (λ m. m.0.lock.owes) e.2 ∙ o.2, ap (λ m. m.0.pivot.inside) e.2 ∙ o.3, (o.4.0, o.4.1, ap (λ m. m.0.pivot.seen) e.2 ∙ o.4.2)),
+  ap (λ m. m.0.task) e.2 ∙ i,
+)
+idle_back z s (TicketsOut t) o e i = (
+  (e.0 ∙ o.0, ap (λ m. m.1) e.2 ∙ o.1, ap (λ m. m.0.lock.owes) e.2 ∙ o.2, ap (λ m. m.0.pivot.inside) e.2 ∙ o.3, (o.4.0, o.4.1, ap (λ m. m.0.pivot.seen) e.2 ∙ o.4.2)),
+  ap (λ m. m.0.task) e.2 ∙ i,
+)
 
 module _ {P X T : Type 0} (fits : ℕ → P → X → Type 0) (z : TableId) where
-  pub claimed : (b : ℕ) (a a' : Acquire P X T) → IsReady fits z a → HoldsOutside z a' → Claimed b a a' → IsReady fits z a'
-  claimed b a a' r h c = let x = c.3.0 in let v = c.3.2 in let e = c.3.3 in record {
+  -- one who has taken one more value
+  pub took : (b : ℕ) (x : X) (a a' : Acquire P X T) → IsReady fits z a → HoldsOutside z a' → Lacks b a.held.items → a'.sealed ≡ a.sealed → (view a').lock.owes ≡ (view a).lock.owes ++ (b, x) ∷ [] → (view a').task ≡ (view a).task
+      → a'.held.items ≡ a.held.items ++ (b, x) ∷ [] → IsReady fits z a'
+  took b x a a' r h lacks s o t e = record {
     holds = h;
-    unsealed = c.2.1 ∙ r.unsealed;
+    unsealed = s ∙ r.unsealed;
     owed = λ d y w i j p f.
-        ⊎_elim (λ old. ⊎_elim (λ kept. r.owed d y w old kept p f) (λ new. absurd (lacks_same b a.place.me.0.lock.owes a.held.items r.holds.keys c.1 y (subst (λ n. In (n, y) a.place.me.0.lock.owes) (ap (λ q. q.0) new) old)))
+        ⊎_elim (λ old. ⊎_elim (λ kept. r.owed d y w old kept p f) (λ new. absurd (lacks_same b a.place.me.0.lock.owes a.held.items r.holds.keys lacks y (subst (λ n. In (n, y) a.place.me.0.lock.owes) (ap (λ q. q.0) new) old)))
         (in_last (d, w) (b, x) a.held.items (subst (In (d, w)) e j)))
-        (λ new. ⊎_elim (λ kept. absurd (c.1 w (subst (λ n. In (n, w) a.held.items) (ap (λ q. q.0) new) kept))) (λ also. subst (fits d p) (ap (λ q. q.1) new ∙ sym (ap (λ q. q.1) also)) f)
+        (λ new. ⊎_elim (λ kept. absurd (lacks w (subst (λ n. In (n, w) a.held.items) (ap (λ q. q.0) new) kept))) (λ also. subst (fits d p) (ap (λ q. q.1) new ∙ sym (ap (λ q. q.1) also)) f)
         (in_last (d, w) (b, x) a.held.items (subst (In (d, w)) e j)))
-        (in_last (d, y) (b, x) a.place.me.0.lock.owes (subst (λ u. In (d, y) u.lock.owes) v i));
-    idle = ap (λ u. u.task) v ∙ r.idle;
-    saw = (r.saw.0, r.saw.1, ap (λ u. u.pivot.seen) v ∙ r.saw.2);
+        (in_last (d, y) (b, x) a.place.me.0.lock.owes (subst (In (d, y)) o i));
+    idle = t ∙ r.idle;
   }
 
-  pub waited : (a a' : Acquire P X T) → IsReady fits z a → HoldsOutside z a' → Waited a a' → IsReady fits z a'
-  waited a a' r h t = let v = t.2.1 in record {
+  pub claimed : (b : ℕ) (a a' : Acquire P X T) → IsReady fits z a → HoldsOutside z a' → Claimed b a a' → IsReady fits z a'
+  claimed b a a' r h c = took b c.3.0 a a' r h c.1 c.2.1 (ap (λ u. u.lock.owes) c.3.3) (ap (λ u. u.task) c.3.3) c.3.4
+
+  -- one who holds and owes what it did
+  pub kept : (a a' : Acquire P X T) → IsReady fits z a → HoldsOutside z a' → a'.sealed ≡ a.sealed → (view a').lock.owes ≡ (view a).lock.owes → (view a').task ≡ (view a).task → a'.held ≡ a.held → IsReady fits z a'
+  kept a a' r h s o t e = record {
     holds = h;
-    unsealed = t.0.1 ∙ r.unsealed;
-    owed = λ d y w i j p f. r.owed d y w (subst (λ u. In (d, y) u.lock.owes) v i) (subst (λ u. In (d, w) u.items) t.1 j) p f;
-    idle = ap (λ u. u.task) v ∙ r.idle;
-    saw = (r.saw.0, r.saw.1, ap (λ u. u.pivot.seen) v ∙ r.saw.2);
+    unsealed = s ∙ r.unsealed;
+    owed = λ d y w i j p f. r.owed d y w (subst (In (d, y)) o i) (subst (λ u. In (d, w) u.items) e j) p f;
+    idle = t ∙ r.idle;
   }
 
   pub released : (b : ℕ) (a a' : Acquire P X T) → IsReady fits z a → HoldsOutside z a' → IsSameAcquire a a' → view a' ≡ with_release b (view a) → a'.held.items ≡ without b a.held.items → IsReady fits z a'
@@ -87,36 +86,30 @@ module _ {P X T : Type 0} (fits : ℕ → P → X → Type 0) (z : TableId) wher
     unsealed = s.1 ∙ r.unsealed;
     owed = λ d y w i j p f. r.owed d y w (in_without b (d, y) a.place.me.0.lock.owes (subst (λ u. In (d, y) u.lock.owes) v i)).0 (in_without b (d, w) a.held.items (subst (In (d, w)) e j)).0 p f;
     idle = ap (λ u. u.task) v ∙ r.idle;
-    saw = (r.saw.0, r.saw.1, ap (λ u. u.pivot.seen) v ∙ r.saw.2);
   }
 
   -- one who has just drawn a ticket
-  pub begun : (s : Seat P X T) (a : Acquire P X T) → IsIdle z s → HoldsOutside z a → a.sealed ≡ false → a.held.items ≡ [] → view a ≡ with_ticket a.ticket (sees s) → IsReady fits z a
-  begun s a i h u e v = record {
+  pub begun : (v : View P X T) (a : Acquire P X T) → v.task ≡ None → HoldsOutside z a → a.sealed ≡ false → a.held.items ≡ [] → view a ≡ with_ticket a.ticket v → IsReady fits z a
+  begun v a i h u e s = record {
     holds = h;
     unsealed = u;
     owed = λ d y w l j p f. absurd (subst (In (d, w)) e j);
-    idle = ap (λ n. n.task) v ∙ i.1;
-    saw = (i.2.0, i.2.1, ap (λ n. n.pivot.seen) v ∙ i.2.2);
+    idle = ap (λ n. n.task) s ∙ i;
   }
 
-  -- one who has brought home the pivot q, which it found as p
-  pub came_back : (a a₁ a₂ : Acquire P X T) (p q r : P) (posts : Bool) → IsReady fits z a → HoldsOutside z a₂ → a₁.sealed ≡ a.sealed → view a₁ ≡ with_entry p (view a) → a₂.sealed ≡ a₁.sealed → a₂.held ≡ a₁.held
-      → view a₂ ≡ with_exit posts Same r q a₁.held.items (view a₁) → IsReady fits z a₂
-  came_back a a₁ a₂ p q r posts h k s v s' e v' = record {
-    holds = k;
-    unsealed = s' ∙ s ∙ h.unsealed;
-    owed = λ d y w i j n f. subst (fits d n) (one_value d y w a₂.held.items k.apart (subst (λ l. In (d, y) l.items) (sym e) (subst (λ u. In (d, y) u.lock.owes) v' i)) j) f;
-    idle = ap (λ u. u.task) v' ∙ ap (λ u. u.task) v ∙ h.idle;
-    saw = (q, [], ap (λ u. u.pivot.seen) v');
+  -- one who owes what it holds, as it is
+  pub owes_held : (a : Acquire P X T) → HoldsOutside z a → a.sealed ≡ false → (view a).lock.owes ≡ a.held.items → (view a).task ≡ None → IsReady fits z a
+  owes_held a h u e i = record {
+    holds = h;
+    unsealed = u;
+    owed = λ d y w k j n f. subst (fits d n) (one_value d y w a.held.items h.apart (subst (In (d, y)) e k) j) f;
+    idle = i;
   }
 
-  -- one who has given all back
-  pub ended : (a : Acquire P X T) (s : Seat P X T) → IsReady fits z a → s.place ≡ a.place → IsOutside z s → IsIdle z s
-  ended a s r e o = (o, ap (λ l. l.me.0.task) e ∙ r.idle, (r.saw.0, r.saw.1, ap (λ l. l.me.0.pivot.seen) e ∙ r.saw.2))
-
-  pub locked : (b : ℕ) (a a' : Acquire P X T) (r : Result (Unit {0}) LockError) → IsReady fits z a → HoldsOutside z a' → AnswersLock b a a' r → IsReady fits z a'
-  locked b a a' (Ok u) r h t = claimed b a a' r h t
-  locked b a a' (Err Sealed) r h t = subst (IsReady fits z) (sym t.1) r
-  locked b a a' (Err Already) r h t = subst (IsReady fits z) (sym t.2) r
-  locked b a a' (Err (Backoff k)) r h t = waited a a' r h t.5
+  -- one who has tried to lock
+  pub tried : (b : ℕ) (a a' : Acquire P X T) (r : Result (Unit {0}) TryLockError) → IsReady fits z a → HoldsOutside z a' → AnswersTry b a a' r → IsReady fits z a'
+  tried b a a' (Ok u) r h t = took b t.3.0 a a' r h t.1 t.2.1 (ap (λ u. u.lock.owes) t.3.1) (ap (λ u. u.task) t.3.1) t.3.2
+  tried b a a' (Err Sealed) r h t = subst (IsReady fits z) (sym t.1) r
+  tried b a a' (Err Already) r h t = subst (IsReady fits z) (sym t.2) r
+  tried b a a' (Err (Older k)) r h t = kept a a' r h t.2.1 (ap (λ u. u.lock.owes) t.4) (ap (λ u. u.task) t.4) t.5
+  tried b a a' (Err (Younger k)) r h t = kept a a' r h t.2.1 (ap (λ u. u.lock.owes) t.4) (ap (λ u. u.task) t.4) t.5

@@ -1,5 +1,5 @@
 -- A caller that has drawn a ticket.
-use Rattle.std.specs.Prelude.{ℕ, ◌≡◌, ◌<◌, ◌≤◌, ◌+◌, List, [], ◌∷◌, ◌++◌, length, vec_capacity, Bool, true, false, Result, Ok, Err}
+use Rattle.std.specs.Prelude.{ℕ, ◌≡◌, ◌<◌, ◌≤◌, ◌+◌, List, [], ◌∷◌, ◌++◌, length, vec_capacity, Bool, true, false, None, Result, Ok, Err}
 use Rattle.atomic_table.specs.Seated.{TableId}
 use Rattle.ww_lock.specs.declared.board.View.{View}
 use Rattle.ww_lock.specs.declared.board.Slot.{Slot}
@@ -11,7 +11,8 @@ use Rattle.ww_lock.specs.declared.locks.LockError.TheVariants.{Backoff}
 use Rattle.ww_lock.specs.declared.locks.LockError.TheVariants as lock
 use Rattle.ww_lock.specs.declared.board.Slot.TheVariants.{Gone}
 use Rattle.ww_lock.specs.Rule.{In}
-use Rattle.ww_lock.specs.Steps.{with_claim, with_met, with_mets}
+use Rattle.ww_lock.specs.declared.lifetime.Seat.{Seat}
+use Rattle.ww_lock.specs.Steps.{HasSeen, with_claim, with_met, with_mets}
 use Rattle.ww_lock.specs.Held.{IsSameKeys, IsApart, Lacks, HasAt, emptied}
 
 -- the slots of one who is inside begin with the pivot's
@@ -29,6 +30,7 @@ pub record Holds {P X T : Type 0} (is_inside : Bool) (z : TableId) (a : Acquire 
   pub room : a.sealed ≡ false → z.slots ≤ vec_capacity a.held + 1
   pub hands : a.place.me.1 ≡ behind_pivot is_inside (emptied a.held.items)
   pub inside : a.place.me.0.pivot.inside ≡ is_inside
+  pub saw : HasSeen a.place.me.0
 
 -- the same of a caller that is done and whose values are taken out
 pub record HasLent {P X T : Type 0} (is_inside : Bool) (z : TableId) (a : Acquire P X T) : Type 0 where
@@ -39,6 +41,7 @@ pub record HasLent {P X T : Type 0} (is_inside : Bool) (z : TableId) (a : Acquir
   pub within : (b : ℕ) (x : X) → In (b, x) a.place.me.0.lock.owes → b + 1 < z.slots
   pub hands : a.place.me.1 ≡ behind_pivot is_inside (emptied a.place.me.0.lock.owes)
   pub inside : a.place.me.0.pivot.inside ≡ is_inside
+  pub saw : HasSeen a.place.me.0
 
 abbrev pub HoldsOutside : {P X T : Type 0} → TableId → Acquire P X T → Type 0
 HoldsOutside z a = Holds false z a
@@ -53,6 +56,21 @@ IsAsOwed {P} {X} {T} fits a = (b : ℕ) (x y : X) → In (b, x) a.place.me.0.loc
 abbrev pub view : {P X T : Type 0} → Acquire P X T → View P X T
 view a = a.place.me.0
 
+-- the number of its seat
+abbrev pub caller_id : {P X T : Type 0} → Acquire P X T → ℕ
+caller_id a = a.place.id
+
+-- the seat of the caller, with what it knows and has out
+abbrev pub IsSeatOf : {P X T : Type 0} → Acquire P X T → Seat P X T → Type 0
+IsSeatOf a s = s.place ≡ a.place
+
+-- a caller that may lock, waits for no task, and may give back what it holds as it is
+pub record IsReady {P X T : Type 0} (fits : ℕ → P → X → Type 0) (z : TableId) (a : Acquire P X T) : Type 0 where
+  pub holds : HoldsOutside z a
+  pub unsealed : a.sealed ≡ false
+  pub owed : IsAsOwed fits a
+  pub idle : (view a).task ≡ None
+
 abbrev pub IsSameAcquire : {P X T : Type 0} → Acquire P X T → Acquire P X T → Type 0
 IsSameAcquire a a' = (a'.ticket ≡ a.ticket) × (a'.sealed ≡ a.sealed) × (a'.place.id ≡ a.place.id)
 
@@ -64,18 +82,22 @@ AnswersTry {P} {X} b a a' (Ok u) = (a.sealed ≡ false) × Lacks b a.held.items 
 AnswersTry b a a' (Err (Older h)) = (a.sealed ≡ false) × Lacks b a.held.items × IsSameAcquire a a' × (h < a.ticket) × (view a' ≡ with_met b h (view a)) × (a'.held ≡ a.held)
 AnswersTry b a a' (Err (Younger h)) = (a.sealed ≡ false) × Lacks b a.held.items × IsSameAcquire a a' × (a.ticket < h) × (view a' ≡ with_met b h (view a)) × (a'.held ≡ a.held)
 
--- the tries that failed have been noted, and nothing else has changed
-abbrev pub Waited : {P X T : Type 0} → Acquire P X T → Acquire P X T → Type 0
-Waited a a' = IsSameAcquire a a' × (a'.held ≡ a.held) × ((ms : List (ℕ × ℕ)) × (view a' ≡ with_mets ms (view a)))
+-- the failed tries ms have been noted, and nothing else has changed
+abbrev pub Waited : {P X T : Type 0} → List (ℕ × ℕ) → Acquire P X T → Acquire P X T → Type 0
+Waited ms a a' = IsSameAcquire a a' × (a'.held ≡ a.held) × (view a' ≡ with_mets ms (view a))
 
--- after some tries that failed, value b was claimed
+-- each of the tries was for value b and let the caller wait: it holds nothing, or the holder that the try found is younger
+abbrev pub MayWait : {P X T : Type 0} → ℕ → Acquire P X T → List (ℕ × ℕ) → Type 0
+MayWait b a ms = (c h : ℕ) → In (c, h) ms → (c ≡ b) × (0 < length a.held.items → a.ticket < h)
+
+-- after some tries that failed and let the caller wait, value b was claimed
 abbrev pub Claimed : {P X T : Type 0} → ℕ → Acquire P X T → Acquire P X T → Type 0
 Claimed {P} {X} b a a' = (a.sealed ≡ false) × Lacks b a.held.items × IsSameAcquire a a'
-    × ((x : X) × (ms : List (ℕ × ℕ)) × (view a' ≡ with_claim b x (with_mets ms (view a))) × (a'.held.items ≡ a.held.items ++ (b, x) ∷ []))
+    × ((x : X) × (ms : List (ℕ × ℕ)) × MayWait b a ms × (view a' ≡ with_claim b x (with_mets ms (view a))) × (a'.held.items ≡ a.held.items ++ (b, x) ∷ []))
 
--- what a lock of value b answers, and what is so after it
+-- what a lock of value b answers, and what is so after it. Who backs off does so for the last try of this call
 abbrev pub AnswersLock : {P X T : Type 0} → ℕ → Acquire P X T → Acquire P X T → Result (Unit {0}) LockError → Type 0
 AnswersLock b a a' (Err lock.Sealed) = (a.sealed ≡ true) × (a' ≡ a)
 AnswersLock b a a' (Err lock.Already) = (a.sealed ≡ false) × ((i : ℕ) × HasAt b i a.held.items) × (a' ≡ a)
 AnswersLock b a a' (Ok u) = Claimed b a a'
-AnswersLock b a a' (Err (Backoff h)) = (a.sealed ≡ false) × Lacks b a.held.items × (h < a.ticket) × (0 < length a.held.items) × In (b, h) (view a').lock.met × Waited a a'
+AnswersLock b a a' (Err (Backoff h)) = (a.sealed ≡ false) × Lacks b a.held.items × (h < a.ticket) × (0 < length a.held.items) × ((ms : List (ℕ × ℕ)) × MayWait b a ms × Waited (ms ++ (b, h) ∷ []) a a')

@@ -1,11 +1,11 @@
 pub mod Fences
+pub mod Parts
 pub mod Rule
 pub mod Steps
 pub mod Held
+pub mod Boards
 pub mod Acquiring
 pub mod Lifetime
 pub mod Lending
 pub mod Begun
-pub mod Sample
 pub mod Leaving
-pub mod Threads

@@ -9,6 +9,7 @@ use Rattle.ww_lock.specs.declared.board.PivotView.{PivotView}
 use Rattle.std.specs.Prelude.{Some}
 use Rattle.std.specs.Prelude as plain
 use Rattle.ww_lock.specs.Fences.{NotBack}
+use Rattle.ww_lock.specs.Parts.{weight, AreWithin}
 use Rattle.ww_lock.specs.declared.board.Slot.{Slot}
 use Rattle.ww_lock.specs.declared.board.Slot.TheVariants.{Pivot, Value}
 
@@ -18,13 +19,21 @@ In a [] = ⊥
 In a (x ∷ xs) = (a ≡ x) ⊎ In a xs
 
 abbrev pub idle : {X : Type 0} → LockView X
-idle = record { ticket = 0; owes = []; had = []; met = [] }
+idle = record { ticket = 0; owes = []; had = []; met = []; drew = []; ended = false }
 
 abbrev pub saw : {P : Type 0} → List P → PivotView P
 saw ps = record { seen = ps; mine = []; inside = false; posted = false }
 
 abbrev pub newcomer : {P X T : Type 0} → P → View P X T
-newcomer p = record { lock = idle; pivot = saw (p ∷ []); looked = []; task = plain.None }
+newcomer p = record { lock = idle; pivot = saw (p ∷ []); looked = []; task = plain.None; part = 0 ∷ [] }
+
+-- nothing but what was looked at
+abbrev pub looked_only : {P X T : Type 0} → List (ℕ × ℕ) → View P X T
+looked_only ls = record { lock = idle; pivot = saw []; looked = ls; task = plain.None; part = [] }
+
+-- a seat that another took in
+abbrev pub spent : {P X T : Type 0} → View P X T
+spent = looked_only []
 
 abbrev pub lock_of : {P X T : Type 0} → View P X T → LockView X
 lock_of v = v.lock
@@ -38,6 +47,9 @@ looked_of v = v.looked
 abbrev pub task_of : {P X T : Type 0} → View P X T → plain.Option T
 task_of v = v.task
 
+abbrev pub part_of : {P X T : Type 0} → View P X T → List ℕ
+part_of v = v.part
+
 abbrev pub At : {V : Type 0} → List V → ℕ → V → Type 0
 At views j v = get_elem? views j ≡ some v
 
@@ -50,14 +62,25 @@ module _ {X : Type 0} where
   abbrev pub Met : List (LockView X) → ℕ → ℕ → Type 0
   Met views b h = (k : ℕ) × (w : LockView X) × At views k w × In (b, h) w.had
 
+  -- some seat drew the ticket t
+  abbrev pub Drew : List (LockView X) → ℕ → Type 0
+  Drew views t = (k : ℕ) × (w : LockView X) × At views k w × In t w.drew
+
+  -- each ticket that the seat drew, claimed a value by or met is below n
+  abbrev pub KnowsBelow : LockView X → ℕ → Type 0
+  KnowsBelow v n = ((t : ℕ) → In t v.drew → t < n) × ((b t : ℕ) → In (b, t) v.had → t < n) × ((b h : ℕ) → In (b, h) v.met → h < n)
+
 abbrev pub Owed : {X : Type 0} → (ℕ → X → Type 0) → List ℕ → ℕ → LockView X → ℕ → X → Type 0
 Owed fit words n v b x = (b < n) × (slice_index words (b + 2) ≡ v.ticket) × (0 < v.ticket) × fit b x × In (b, v.ticket) v.had
 
--- the n values, each at home or with one seat, which has drawn a ticket of its own. Each fits
+-- the n values, each at home or with one seat, which has drawn a ticket of its own. Each fits. The tickets that were drawn are those from 1 up to the counter, and a seat that found no ticket left is right
 pub record Locks {P X T : Type 0} (fit : ℕ → X → Type 0) (n : ℕ) (words : List ℕ) (homes : List (Option (Slot P X T))) (views : List (LockView X)) : Type 0 where
   pub counter : (0 < slice_index words 0) × (slice_index words 0 ≤ 2 ^ 63)
   pub tickets : (j : ℕ) (v : LockView X) → At views j v → v.ticket < slice_index words 0
   pub apart : (j k : ℕ) (v w : LockView X) → At views j v → At views k w → 0 < v.ticket → v.ticket ≡ w.ticket → j ≡ k
+  pub drawn : (t : ℕ) → 0 < t → t < slice_index words 0 → Drew views t
+  pub known : (j : ℕ) (v : LockView X) → At views j v → KnowsBelow v (slice_index words 0)
+  pub ended : (j : ℕ) (v : LockView X) → At views j v → v.ended ≡ true → slice_index words 0 ≡ 2 ^ 63
   pub home : (b : ℕ) → b < n → slice_index words (b + 2) ≡ 0 → (x : X) × (get_elem? homes (b + 1) ≡ some (some (Value x))) × fit b x
   pub out : (b : ℕ) → b < n → slice_index words (b + 2) ≢ 0 → (get_elem? homes (b + 1) ≡ some none) × Held views b (slice_index words (b + 2))
   pub owed : (j : ℕ) (v : LockView X) (b : ℕ) (x : X) → At views j v → In (b, x) v.owes → Owed fit words n v b x
@@ -104,6 +127,18 @@ pub record Tasks {T : Type 0} (busy : T → Type 0) (views : List (plain.Option 
   pub each : (j : ℕ) (t : T) → At views j (Some t) → busy t
   pub once : (j k : ℕ) (t : T) → At views j (Some t) → At views k (Some t) → j ≡ k
 
+-- the parts of all seats, in 2^n-ths of the board
+abbrev pub total : ℕ → List (List ℕ) → ℕ
+total n [] = 0
+total n (ds ∷ parts) = weight n ds + total n parts
+
+-- the parts make up the whole, and a seat with no part was taken in by another: it has nothing but what it looked at
+pub record Parts {P X T : Type 0} (views : List (View P X T)) : Type 0 where
+  pub n : ℕ
+  pub within : (j : ℕ) (ds : List ℕ) → At (map part_of views) j ds → AreWithin n ds
+  pub whole : total n (map part_of views) ≡ 2 ^ n
+  pub blank : (j : ℕ) (v : View P X T) → At views j v → v.part ≡ [] → v ≡ looked_only v.looked
+
 pub record Keeps {P X T : Type 0} (good : P → Type 0) (fits : ℕ → P → X → Type 0) (grows : P → P → Type 0) (posted : P → ℕ → ℕ) (busy : P → T → Type 0) (posts : ℕ) (s : State (Slot P X T) (View P X T)) : Type 0 where
   pub n : ℕ
   pub shown : P
@@ -113,3 +148,5 @@ pub record Keeps {P X T : Type 0} (good : P → Type 0) (fits : ℕ → P → X 
   pub pivots : Pivots good grows shown (slice_index s.words 1) s.homes (map pivot_of s.views)
   pub looks : Looks (posted shown) n posts s.words (map looked_of s.views)
   pub tasks : Tasks (busy shown) (map task_of s.views)
+  pub parts : Parts s.views
+  pub latest : (j : ℕ) × (v : View P X T) × At s.views j v × In shown v.pivot.seen

@@ -1,8 +1,8 @@
 -- What each step tells: of the step, the seat before, the number found and the seat after.
-use Rattle.std.specs.Prelude.{◌≡◌, ◌≢◌, ℕ, ◌+◌, ◌<◌, List, [], ◌∷◌, ◌++◌, map, true, false, ◌==◌, if◌then◌else◌}
+use Rattle.std.specs.Prelude.{◌≡◌, ◌≢◌, ℕ, ◌+◌, ◌<◌, List, [], ◌∷◌, ◌++◌, map, true, false, ◌==◌, if◌then◌else◌, IsPermutation}
 use mathlib.Core.Option.{Option, some}
 use Rattle.std.specs.Prelude as plain
-use Rattle.std.specs.Prelude.{Bool, ◌&&◌, not, Some}
+use Rattle.std.specs.Prelude.{Bool, ◌&&◌, ◌||◌, ◌^◌, not, Some}
 use Rattle.ww_lock.specs.Fences.{NotBack}
 use Rattle.ww_lock.specs.declared.board.TaskChange.{TaskChange}
 use Rattle.ww_lock.specs.declared.board.TaskChange.TheVariants.{Same, Begins, Ends}
@@ -10,7 +10,8 @@ use Rattle.atomic_table.specs.Table.{Me, Step, rest}
 use Rattle.ww_lock.specs.declared.board.View.{View}
 use Rattle.ww_lock.specs.declared.board.Slot.{Slot}
 use Rattle.ww_lock.specs.declared.board.Slot.TheVariants.{Pivot, Value, Announced}
-use Rattle.ww_lock.specs.Rule.{In, idle, saw}
+use Rattle.ww_lock.specs.Parts.{halved}
+use Rattle.ww_lock.specs.Rule.{In, KnowsBelow, idle, saw}
 
 abbrev pub Sat : Type 0 → Type 0 → Type 0 → Type 0
 Sat P X T = Me (Slot P X T) (View P X T)
@@ -43,23 +44,42 @@ Turns {P} {T} busy p q task Same = (t : T) → busy p t → busy q t
 Turns {P} {T} busy p q task (Begins t) = (task ≡ plain.None) × (busy p t → ⊥) × busy q t × ((s : T) → busy p s → busy q s)
 Turns {P} {T} busy p q task Ends = (t : T) × (task ≡ Some t) × ((s : T) → (s ≡ t → ⊥) → busy p s → busy q s)
 
+-- the pivot p is good and came of each that the seat has seen, shows each fence word no earlier than the seat saw it, and waits for the seat's task
+pub record IsLater {P X T : Type 0} (good : P → Type 0) (grows : P → P → Type 0) (posted : P → ℕ → ℕ) (busy : P → T → Type 0) (v : View P X T) (p : P) : Type 0 where
+  pub fine : good p
+  pub grown : (q : P) → In q v.pivot.seen → grows q p
+  pub shows : (f x : ℕ) → In (f, x) v.looked → NotBack x (posted p f)
+  pub waits : (t : T) → v.task ≡ Some t → busy p t
+
 module _ {P X T : Type 0} where
-  abbrev pub spent : View P X T
-  spent = record { lock = idle; pivot = saw []; looked = []; task = plain.None }
+  abbrev pub left_half : View P X T → View P X T
+  left_half v = record v { part = halved v.part }
 
   abbrev pub right_half : View P X T → View P X T
-  right_half v = record { lock = idle; pivot = saw v.pivot.seen; looked = v.looked; task = plain.None }
+  right_half v = record { lock = idle; pivot = saw v.pivot.seen; looked = v.looked; task = plain.None; part = halved v.part }
 
   abbrev pub joined : View P X T → View P X T → View P X T
   joined v w = record {
-    lock = record v.lock { had = v.lock.had ++ w.lock.had; met = v.lock.met ++ w.lock.met };
+    lock = record v.lock { had = v.lock.had ++ w.lock.had; met = v.lock.met ++ w.lock.met; drew = v.lock.drew ++ w.lock.drew; ended = v.lock.ended || w.lock.ended };
     pivot = record v.pivot { seen = v.pivot.seen ++ w.pivot.seen; mine = v.pivot.mine ++ w.pivot.mine };
     looked = v.looked ++ w.looked;
     task = v.task;
+    part = v.part ++ w.part;
   }
 
   abbrev pub with_ticket : ℕ → View P X T → View P X T
-  with_ticket t v = record v { lock = record v.lock { ticket = t } }
+  with_ticket t v = record v { lock = record v.lock { ticket = t; drew = v.lock.drew ++ t ∷ [] } }
+
+  -- the seat has seen a pivot
+  abbrev pub HasSeen : View P X T → Type 0
+  HasSeen v = (q : P) × (qs : List P) × (v.pivot.seen ≡ q ∷ qs)
+
+  abbrev pub with_end : View P X T → View P X T
+  with_end v = record v { lock = record v.lock { ended = true } }
+
+  -- the ticket n is a next one: above each ticket that the seat knows of
+  abbrev pub IsNext : View P X T → ℕ → Type 0
+  IsNext v n = (0 < n) × (v.lock.ticket < n) × KnowsBelow v.lock n × (v.lock.ended ≡ false)
 
   abbrev pub with_claim : ℕ → X → View P X T → View P X T
   with_claim b x v = record v { lock = record v.lock { owes = v.lock.owes ++ (b, x) ∷ []; had = v.lock.had ++ (b, v.lock.ticket) ∷ [] } }
@@ -83,6 +103,7 @@ module _ {P X T : Type 0} where
     pivot = record { seen = q ∷ []; mine = calls_with (is_call && not v.pivot.posted) v.pivot.mine p q; inside = false; posted = false };
     looked = v.looked;
     task = task_after change v.task;
+    part = v.part;
   }
 
   -- the seat found p and shows q, and owes xs
@@ -96,7 +117,11 @@ module _ {P X T : Type 0} where
   with_look f x v = record v { looked = v.looked ++ (f, x) ∷ [] }
 
   abbrev pub drawn : Step (Slot P X T) → Sat P X T → ℕ → Sat P X T → Type 0
-  drawn st m n m' = (n ≡ st.first → (m' ≡ (with_ticket n m.0, m.1)) × (0 < n)) × (n ≢ st.first → m' ≡ m)
+  drawn st m n m' = (n ≡ st.first → (m' ≡ (with_ticket n m.0, m.1)) × IsNext m.0 n) × (n ≢ st.first → m' ≡ m)
+
+  -- the counter was read: it is at its end, or tells nothing
+  abbrev pub exhausted : Step (Slot P X T) → Sat P X T → ℕ → Sat P X T → Type 0
+  exhausted st m n m' = (n ≡ 2 ^ 63 → m' ≡ (with_end m.0, m.1)) × (n ≢ 2 ^ 63 → m' ≡ m)
 
   abbrev pub claimed : Step (Slot P X T) → Sat P X T → ℕ → Sat P X T → Type 0
   claimed st m n m' = (b : ℕ) → st.word ≡ b + 2
@@ -109,8 +134,7 @@ module _ {P X T : Type 0} where
   -- the pivot was found at home, and is what the ward says
   abbrev pub entered : (P → Type 0) → (ℕ → P → X → Type 0) → (P → P → Type 0) → (P → ℕ → ℕ) → (P → T → Type 0) → Step (Slot P X T) → Sat P X T → ℕ → Sat P X T → Type 0
   entered good fits grows posted busy st m n m' =
-      (n ≡ 0 → (p : P) × (m' ≡ (with_entry p m.0, (0, Pivot p) ∷ m.1)) × good p × ((q : P) → In q m.0.pivot.seen → grows q p) × ((b : ℕ) (x : X) → In (b, x) m.0.lock.owes → fits b p x)
-      × ((f x : ℕ) → In (f, x) m.0.looked → NotBack x (posted p f)) × ((t : T) → m.0.task ≡ Some t → busy p t))
+      (n ≡ 0 → (p : P) × (m' ≡ (with_entry p m.0, (0, Pivot p) ∷ m.1)) × IsLater good grows posted busy m.0 p × ((b : ℕ) (x : X) → In (b, x) m.0.lock.owes → fits b p x))
       × (n ≢ 0 → m' ≡ m)
 
   -- the seat that was told what it leaves, and what it owes
@@ -129,15 +153,15 @@ module _ {P X T : Type 0} where
   abbrev pub posts_word : Step (Slot P X T) → Sat P X T → ℕ → Sat P X T → Type 0
   posts_word st m n m' = m' ≡ posted_as m.0.pivot.seen st.said m
 
-  -- a fence word was looked at. It has not gone back
-  abbrev pub looks_at : (P → ℕ → ℕ) → Step (Slot P X T) → Sat P X T → ℕ → Sat P X T → Type 0
-  looks_at posted st m n m' = (f : ℕ) → st.word ≡ st.slots + 1 + f
-      → (m' ≡ (with_look f n m.0, m.1)) × ((p : P) → In p m.0.pivot.seen → NotBack (posted p f) n) × ((x : ℕ) → In (f, x) m.0.looked → NotBack x n)
+  -- a fence word was looked at. It is what a later pivot shows
+  abbrev pub looks_at : (P → Type 0) → (P → P → Type 0) → (P → ℕ → ℕ) → (P → T → Type 0) → Step (Slot P X T) → Sat P X T → ℕ → Sat P X T → Type 0
+  looks_at good grows posted busy st m n m' = (f : ℕ) → st.word ≡ st.slots + 1 + f
+      → (m' ≡ (with_look f n m.0, m.1)) × ((p : P) × IsLater good grows posted busy m.0 p × (n ≡ posted p f))
 
   abbrev pub left : Step (Slot P X T) → Sat P X T → ℕ → Sat P X T → Type 0
   left st m n m' = m' ≡ left_as m.0.pivot.seen st.said m
 
-  -- a joined seat has put its calls in order, and has seen the last of what it saw
+  -- a joined seat has put its calls in order, each as often as it was there, and has seen the last of what it saw
   abbrev pub settled : (P → P → Type 0) → Step (Slot P X T) → Sat P X T → ℕ → Sat P X T → Type 0
   settled grows st m n m' = (p : P) × (cs : List (P × P)) × (m' ≡ (record m.0 { pivot = record m.0.pivot { seen = p ∷ []; mine = cs } }, m.1))
-      × IsChain grows cs × ((c : P × P) → (In c m.0.pivot.mine → In c cs) × (In c cs → In c m.0.pivot.mine)) × In p m.0.pivot.seen × ((q : P) → In q m.0.pivot.seen → grows q p) × ((c : P × P) → In c cs → grows c.1 p)
+      × IsChain grows cs × IsPermutation m.0.pivot.mine cs × In p m.0.pivot.seen × ((q : P) → In q m.0.pivot.seen → grows q p) × ((c : P × P) → In c cs → grows c.1 p)

@@ -2,7 +2,7 @@
 ghost use Rattle.std.specs.Prelude.{◌≡◌, ◌<◌, ◌≤◌, ◌+◌, ℕ, List, [], ◌∷◌, take, length, slice_index, slice_index_or, vec_len, vec_capacity, true, false, Option, Some, None, MatchOption, IfSome, ◌↔◌, IsTrue, Bool};
 ghost use Rattle.ww_lock.specs.Rule.{In};
 ghost use Rattle.ww_lock.specs.Held.{IsSameKeys, Lacks, HasAt, index_of};
-ghost use Rattle.ww_lock.specs.Acquiring.{Holds, HoldsOutside, HasLent, view};
+ghost use Rattle.ww_lock.specs.Acquiring.{Holds, HoldsOutside, HasLent, IsSeatOf, view};
 ghost use Rattle.ww_lock.specs.Begun.{IsOutside};
 ghost use Rattle.atomic_table.specs.Seated.{TableId};
 ghost use Rattle.std.specs.Borrow.{sem};
@@ -104,8 +104,8 @@ impl<P, X, T> Acquire<P, X, T> {
 impl<P, X: Drop, T> Acquire<P, X, T> {
     /// Gives the ticket up (`ww_acquire_fini`).
     pub fn end(self) -> Seat<P, X, T>
-        requires { (self.held.items ≡ []) × (self.place.me.0.pivot.inside ≡ false) }
-        ensures seat { result.place ≡ self.place }
+        requires { (self.held.items ≡ []) × ((view self).pivot.inside ≡ false) }
+        ensures seat { IsSeatOf self result }
         ensures outside { (z : TableId) → HoldsOutside z self → IsOutside z result }
     {
         let Acquire {

@@ -1,38 +1,45 @@
 //! How a seat draws a ticket.
-ghost use Rattle.std.specs.Prelude.{◌≡◌, ◌<◌, ◌^◌, [], false, MatchResult, IfOk, IfErr};
-ghost use Rattle.ww_lock.specs.Acquiring.{HoldsOutside, view};
-ghost use Rattle.ww_lock.specs.Begun.{IsOutside, IsSameSeat, seat_of};
-ghost use Rattle.ww_lock.specs.Steps.{with_ticket};
+ghost use Rattle.std.specs.Prelude.{◌≡◌, ◌<◌, ◌^◌, [], false, None, MatchResult, IfOk, IfErr};
+ghost use Rattle.ww_lock.specs.Acquiring.{HoldsOutside, IsReady, caller_id, view};
+ghost use Rattle.ww_lock.specs.Begun.{IsOutside, IsIdle, GivesBack, seat_back, seat_id, sees};
+ghost use Rattle.ww_lock.specs.Boards.{table_of};
+ghost use Rattle.ww_lock.specs.Steps.{with_ticket, IsNext};
 
 use crate::acquire::Acquire;
 use crate::board::Board;
 use crate::lifetime::Seat;
-use crate::steps::draw;
+use crate::steps::{draw, exhaust};
 use crate::ward::Ward;
 use std::alloc::{AllocError, Global};
 use std::sync::Wait;
 
-/// Why no ticket was drawn. The seat comes back as it was.
+/// Why no ticket was drawn. The seat comes back.
 #[derive(Drop)]
 pub enum BeginError<P: Drop, X: Drop, T: Drop> {
     /// There was no room for the values of the board.
     Memory(Seat<P, X, T>),
-    /// All tickets below 2^63 were drawn.
+    /// All tickets below 2^63 were drawn, which the seat knows from now on.
     TicketsOut(Seat<P, X, T>),
 }
 
 impl<W: Ward> Board<W> {
-    /// Draws the next ticket (`ww_acquire_init`), with room for every value of the board taken before.
+    /// Draws the next ticket (`ww_acquire_init`), with room for every value of the board taken before. It is above each
+    /// ticket that the seat knows of.
     pub fn begin<R: Wait>(
         &self,
         seat: Seat<W::Pivot, W::Value, W::Task>,
         rt: &R,
         alloc: Global,
     ) -> Result<Acquire<W::Pivot, W::Value, W::Task>, BeginError<W::Pivot, W::Value, W::Task>>
-        requires { IsOutside self.now.table.shared.table_id seat }
-        ensures holds { IfOk result (λ a. HoldsOutside self.now.table.shared.table_id a × (a.sealed ≡ false) × (a.held.items ≡ [])) }
-        ensures view { IfOk result (λ a. (a.place.id ≡ seat.place.id) × (view a ≡ with_ticket a.ticket seat.place.me.0)) }
-        ensures refused { IfErr result (λ e. IsSameSeat seat (seat_of e)) }
+        requires { IsOutside (table_of self.now) seat }
+        ensures holds { IfOk result (λ a. HoldsOutside (table_of self.now) a) }
+        ensures fresh { IfOk result (λ a. (a.sealed ≡ false) × (a.held.items ≡ [])) }
+        ensures same { IfOk result (λ a. caller_id a ≡ seat_id seat) }
+        ensures view { IfOk result (λ a. view a ≡ with_ticket a.ticket (sees seat)) }
+        ensures next { IfOk result (λ a. IsNext (sees seat) a.ticket) }
+        ensures ready { IfOk result (λ a. (sees seat).task ≡ None → IsReady W.fits (table_of self.now) a) }
+        ensures refused { IfErr result (λ e. GivesBack seat e) }
+        ensures idle { IfErr result (λ e. (sees seat).task ≡ None → IsIdle (table_of self.now) (seat_back e)) }
     {
         let Ok(held) = Vec::with_capacity(alloc, self.buffers as usize) else {
             return Err(BeginError::Memory(seat));
@@ -41,7 +48,10 @@ impl<W: Ward> Board<W> {
         for _ in rt.forever() {
             let next = self.table.shared.peek(0);
             if next >= 1 << 63 {
-                return Err(BeginError::TicketsOut(Seat { place }));
+                if exhaust(&self.table.shared, &mut place) == 1 << 63 {
+                    return Err(BeginError::TicketsOut(Seat { place }));
+                }
+                continue;
             }
             if draw(&self.table.shared, &mut place, next) == next {
                 return Ok(Acquire {

@@ -61,6 +61,10 @@ pub struct LockView<X> {
     pub had: LinkedList<(u32, u64)>,
     /// Each holder that its failed tries found.
     pub met: LinkedList<(u32, u64)>,
+    /// Each ticket that it drew.
+    pub drew: LinkedList<u64>,
+    /// It found the counter of tickets at 2^63, where no ticket is left.
+    pub ended: bool,
 }
 
 /// What a seat knows of the pivot. No value of it is made.
@@ -85,6 +89,8 @@ pub struct View<P, X, T> {
     pub looked: LinkedList<(u32, u64)>,
     /// The task that it has begun and not ended, for which the pivot waits.
     pub task: Option<T>,
+    /// Its part of the board: pieces, each told by how often it was halved. The parts of all seats make up the whole.
+    pub part: LinkedList<u32>,
 }
 
 /// What a board starts with: the pivot, and how many fence words it has.

@@ -2,13 +2,14 @@
 //! read.
 ghost use Rattle.std.specs.Prelude.{◌≡◌, ◌≢◌, ◌<◌, ◌+◌, ℕ, List, [], ◌∷◌, true, false, Option, Some, None};
 ghost use Rattle.atomic_table.specs.Table.{rest};
+ghost use Rattle.ww_lock.specs.Boards.{table_of};
 ghost use Rattle.ww_lock.specs.Fences.{NotBack};
 ghost use Rattle.ww_lock.specs.Rule.{In};
 ghost use Rattle.ww_lock.specs.Held.{IsSameKeys};
-ghost use Rattle.ww_lock.specs.Acquiring.{HoldsOutside, HoldsInside, IsSameAcquire, view};
-ghost use Rattle.ww_lock.specs.Begun.{IsOutside, IsInside, IsJoined, sees};
+ghost use Rattle.ww_lock.specs.Acquiring.{HoldsOutside, HoldsInside, IsReady, IsSameAcquire, view};
+ghost use Rattle.ww_lock.specs.Begun.{IsSeat, IsSamePass, IsOutside, IsInside, IsIdle, IsJoined, sees};
 ghost use Rattle.ww_lock.specs.Leaving.{MayLeave, MayLeaveWith, MayPost, MayPostWith};
-ghost use Rattle.ww_lock.specs.Steps.{with_entry, with_exit, with_look, with_post, right_half};
+ghost use Rattle.ww_lock.specs.Steps.{with_entry, with_exit, with_look, with_post, left_half, right_half, task_after, HasSeen, IsLater};
 ghost use Rattle.ww_lock.specs.declared.board.Slot.TheVariants.{Gone};
 
 use crate::acquire::Acquire;
@@ -29,18 +30,16 @@ fn take_pivot<W: Ward, R: Wait>(
     place: &mut Place<W::Pivot, W::Value, W::Task>,
     rt: &R,
 ) -> W::Pivot
-    requires { (place.old.table_id ≡ shared.now.table_id) × (1 < shared.now.table_id.words) }
+    requires { (place.old.table_id ≡ shared.now.table_id) × (1 < shared.now.table_id.words) × HasSeen place.old.me.0 }
     ensures seat { (place.new.table_id ≡ place.old.table_id) × (place.new.id ≡ place.old.id) }
     ensures entered { place.new.me ≡ (with_entry result place.old.me.0, (0, Gone) ∷ place.old.me.1) }
-    ensures good { W.good result }
-    ensures grows { (q : W.Pivot) → In q place.old.me.0.pivot.seen → W.grows q result }
+    ensures later { IsLater W.good W.grows W.posted W.busy place.old.me.0 result }
     ensures fits { (b : ℕ) (x : W.Value) → In (b, x) place.old.me.0.lock.owes → W.fits b result x }
-    ensures looked { (f x : ℕ) → In (f, x) place.old.me.0.looked → NotBack x (W.posted result f) }
-    ensures busy { (t : W.Task) → place.old.me.0.task ≡ Some t → W.busy result t }
 {
     let backoff = Backoff::new();
     for _ in rt.forever() {
-        if enter(shared, place) == 0 {
+        let was_home = enter(shared, place) == 0;
+        if was_home {
             let Slot::Pivot(pivot) = shared.exchange(place, 0, Slot::Gone) else {
                 unreachable!()
             };
@@ -93,7 +92,8 @@ fn show<W: Ward>(
 }
 
 impl<W: Ward> Board<W> {
-    /// Makes a second seat, for another caller. It has seen what the first has seen, and has made no calls.
+    /// Makes a second seat, for another caller. It has seen what the first has seen, and has made no calls. Each has half
+    /// of the part of the board that the first had.
     pub fn split(
         &self,
         seat: Seat<W::Pivot, W::Value, W::Task>,
@@ -101,9 +101,10 @@ impl<W: Ward> Board<W> {
         Seat<W::Pivot, W::Value, W::Task>,
         Seat<W::Pivot, W::Value, W::Task>,
     )
-        requires { IsOutside self.now.table.shared.table_id seat × ((sees seat).task ≡ None) }
-        ensures seats { IsOutside self.now.table.shared.table_id result.0 × IsOutside self.now.table.shared.table_id result.1 }
-        ensures views { (sees result.0 ≡ sees seat) × (sees result.1 ≡ right_half (sees seat)) }
+        requires { IsIdle (table_of self.now) seat }
+        ensures left { IsIdle (table_of self.now) result.0 }
+        ensures right { IsIdle (table_of self.now) result.1 }
+        ensures views { (sees result.0 ≡ left_half (sees seat)) × (sees result.1 ≡ right_half (sees seat)) }
     {
         let Seat { mut place } = seat;
         let other = split(&self.table.shared, &mut place);
@@ -116,10 +117,9 @@ impl<W: Ward> Board<W> {
         one: Seat<W::Pivot, W::Value, W::Task>,
         other: Seat<W::Pivot, W::Value, W::Task>,
     ) -> Seat<W::Pivot, W::Value, W::Task>
-        requires seats { IsOutside self.now.table.shared.table_id one × IsOutside self.now.table.shared.table_id other }
-        requires idle { ((sees one).task ≡ None) × ((sees other).task ≡ None) }
-        requires seen { (q : W.Pivot) × (qs : List W.Pivot) × ((sees one).pivot.seen ≡ q ∷ qs) }
-        ensures seat { IsOutside self.now.table.shared.table_id result }
+        requires one { IsIdle (table_of self.now) one }
+        requires other { IsIdle (table_of self.now) other }
+        ensures seat { IsIdle (table_of self.now) result }
         ensures view { IsJoined W.grows (sees one) (sees other) (sees result) }
     {
         let Seat { mut place } = one;
@@ -131,13 +131,10 @@ impl<W: Ward> Board<W> {
 
     /// Waits until the pivot is at home, and takes it. Nobody else has it until the caller leaves.
     pub fn enter<R: Wait>(&self, seat: &mut Seat<W::Pivot, W::Value, W::Task>, rt: &R) -> W::Pivot
-        requires { IsOutside self.now.table.shared.table_id seat.old }
-        ensures seat { IsInside self.now.table.shared.table_id seat.new }
+        requires { IsOutside (table_of self.now) seat.old }
+        ensures seat { IsInside (table_of self.now) seat.new }
         ensures view { sees seat.new ≡ with_entry result (sees seat.old) }
-        ensures good { W.good result }
-        ensures grows { (q : W.Pivot) → In q (sees seat.old).pivot.seen → W.grows q result }
-        ensures looked { (f x : ℕ) → In (f, x) (sees seat.old).looked → NotBack x (W.posted result f) }
-        ensures busy { (t : W.Task) → (sees seat.old).task ≡ Some t → W.busy result t }
+        ensures later { IsLater W.good W.grows W.posted W.busy (sees seat.old) result }
     {
         take_pivot(&self.table.shared, &self.sleepers, &mut seat.place, rt)
     }
@@ -148,15 +145,12 @@ impl<W: Ward> Board<W> {
         acquire: &mut Acquire<W::Pivot, W::Value, W::Task>,
         rt: &R,
     ) -> W::Pivot
-        requires { HoldsOutside self.now.table.shared.table_id acquire.old }
-        ensures holds { HoldsInside self.now.table.shared.table_id acquire.new }
+        requires { HoldsOutside (table_of self.now) acquire.old }
+        ensures holds { HoldsInside (table_of self.now) acquire.new }
         ensures same { IsSameAcquire acquire.old acquire.new × (acquire.new.held ≡ acquire.old.held) }
         ensures view { view acquire.new ≡ with_entry result (view acquire.old) }
-        ensures good { W.good result }
-        ensures grows { (q : W.Pivot) → In q (view acquire.old).pivot.seen → W.grows q result }
+        ensures later { IsLater W.good W.grows W.posted W.busy (view acquire.old) result }
         ensures fits { (b : ℕ) (x : W.Value) → In (b, x) (view acquire.old).lock.owes → W.fits b result x }
-        ensures looked { (f x : ℕ) → In (f, x) (view acquire.old).looked → NotBack x (W.posted result f) }
-        ensures busy { (t : W.Task) → (view acquire.old).task ≡ Some t → W.busy result t }
     {
         take_pivot(&self.table.shared, &self.sleepers, &mut acquire.place, rt)
     }
@@ -170,10 +164,10 @@ impl<W: Ward> Board<W> {
         change: &TaskChange<W::Task>,
         is_call: bool,
     )
-        requires seat { IsInside self.now.table.shared.table_id seat.old }
+        requires seat { IsInside (table_of self.now) seat.old }
         requires facts { MayLeave W.good W.fits W.grows W.posted W.busy (sees seat.old) pivot change.now }
         requires posted { (sees seat.old).pivot.posted ≡ true → (sees seat.old).pivot.seen ≡ pivot ∷ [] }
-        ensures seat { IsOutside self.now.table.shared.table_id seat.new }
+        ensures seat { IsOutside (table_of self.now) seat.new }
         ensures view { (p : W.Pivot) × ((sees seat.old).pivot.seen ≡ p ∷ []) × (sees seat.new ≡ with_exit is_call change.now p pivot [] (sees seat.old)) }
     {
         let owed: Vec<(BufferId, W::Value)> = Vec::new(self.alloc);
@@ -196,12 +190,13 @@ impl<W: Ward> Board<W> {
         change: &TaskChange<W::Task>,
         is_call: bool,
     )
-        requires holds { HoldsInside self.now.table.shared.table_id acquire.old }
+        requires holds { HoldsInside (table_of self.now) acquire.old }
         requires facts { MayLeaveWith W.good W.fits W.grows W.posted W.busy (view acquire.old) acquire.old.held.items pivot change.now }
         requires posted { (view acquire.old).pivot.posted ≡ true → (view acquire.old).pivot.seen ≡ pivot ∷ [] }
-        ensures holds { HoldsOutside self.now.table.shared.table_id acquire.new }
+        ensures holds { HoldsOutside (table_of self.now) acquire.new }
         ensures same { IsSameAcquire acquire.old acquire.new × (acquire.new.held ≡ acquire.old.held) }
         ensures view { (p : W.Pivot) × ((view acquire.old).pivot.seen ≡ p ∷ []) × (view acquire.new ≡ with_exit is_call change.now p pivot acquire.old.held.items (view acquire.old)) }
+        ensures ready { acquire.old.sealed ≡ false → task_after change.now (view acquire.old).task ≡ None → IsReady W.fits (table_of self.now) acquire.new }
     {
         let owed = &acquire.held;
         bring_home(
@@ -215,11 +210,13 @@ impl<W: Ward> Board<W> {
         self.sleepers.wake_one(&self.table.shared, 1);
     }
 
-    /// The word of a fence, by one load. It never goes back: from 0 to 1, and from there to a final word from 2 up.
+    /// The word of a fence, by one load: what the pivot shows for it, which is good, came of all that the seat has seen
+    /// and waits for its task. It never goes back: from 0 to 1, and from there to a final word from 2 up.
     pub fn look(&self, seat: &mut Seat<W::Pivot, W::Value, W::Task>, fence: FenceId) -> u64
-        requires { (seat.old.place.table_id ≡ self.now.table.shared.table_id) × (fence < self.now.posts) }
-        ensures seat { (seat.new.place.table_id ≡ seat.old.place.table_id) × (seat.new.place.me ≡ (with_look fence result (sees seat.old), seat.old.place.me.1)) }
-        ensures seen { (p : W.Pivot) → In p (sees seat.old).pivot.seen → NotBack (W.posted p fence) result }
+        requires { IsSeat (table_of self.now) seat.old × (fence < self.now.posts) }
+        ensures seat { IsSamePass seat.old seat.new }
+        ensures view { sees seat.new ≡ with_look fence result (sees seat.old) }
+        ensures shown { (p : W.Pivot) × IsLater W.good W.grows W.posted W.busy (sees seat.old) p × (result ≡ W.posted p fence) }
         ensures looked { (x : ℕ) → In (fence, x) (sees seat.old).looked → NotBack x result }
     {
         let word = self.buffers as usize + 2 + fence as usize;
@@ -235,9 +232,9 @@ impl<W: Ward> Board<W> {
         word: u64,
         pivot: &W::Pivot,
     )
-        requires seat { IsInside self.now.table.shared.table_id seat.old × ((sees seat.old).pivot.posted ≡ false) × (fence < self.now.posts) }
+        requires seat { IsInside (table_of self.now) seat.old × ((sees seat.old).pivot.posted ≡ false) × (fence < self.now.posts) }
         requires facts { MayPost W.good W.fits W.grows W.posted W.busy (sees seat.old) pivot.now fence word }
-        ensures seat { IsInside self.now.table.shared.table_id seat.new }
+        ensures seat { IsInside (table_of self.now) seat.new }
         ensures view { (p : W.Pivot) × ((sees seat.old).pivot.seen ≡ p ∷ []) × (sees seat.new ≡ with_post p pivot.now [] (sees seat.old)) }
     {
         let at = self.buffers as usize + 2 + fence as usize;
@@ -261,9 +258,9 @@ impl<W: Ward> Board<W> {
         word: u64,
         pivot: &W::Pivot,
     )
-        requires holds { HoldsInside self.now.table.shared.table_id acquire.old × ((view acquire.old).pivot.posted ≡ false) × (fence < self.now.posts) }
+        requires holds { HoldsInside (table_of self.now) acquire.old × ((view acquire.old).pivot.posted ≡ false) × (fence < self.now.posts) }
         requires facts { MayPostWith W.good W.fits W.grows W.posted W.busy (view acquire.old) acquire.old.held.items pivot.now fence word }
-        ensures holds { HoldsInside self.now.table.shared.table_id acquire.new }
+        ensures holds { HoldsInside (table_of self.now) acquire.new }
         ensures same { IsSameAcquire acquire.old acquire.new × (acquire.new.held ≡ acquire.old.held) }
         ensures view { (p : W.Pivot) × ((view acquire.old).pivot.seen ≡ p ∷ []) × (view acquire.new ≡ with_post p pivot.now acquire.old.held.items (view acquire.old)) }
     {

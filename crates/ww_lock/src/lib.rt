@@ -17,10 +17,6 @@ mod locks;
 mod plays;
 mod sleepers;
 mod steps;
-#[cfg(test)]
-mod tests;
-#[cfg(test)]
-mod thread_tests;
 mod ward;
 
 pub use acquire::Acquire;

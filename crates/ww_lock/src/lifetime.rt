@@ -5,8 +5,9 @@ ghost use mathlib.Core.Option.{some};
 ghost use lib.ListN.{get_elem?};
 ghost use Rattle.ww_lock.specs.declared.board.Slot.TheVariants.{Value};
 ghost use Rattle.ww_lock.specs.Rule.{In, newcomer};
-ghost use Rattle.ww_lock.specs.Lifetime.{FitsAll, Filled, AllFit, TakesApart};
-ghost use Rattle.ww_lock.specs.Begun.{IsOutside, sees};
+ghost use Rattle.ww_lock.specs.Lifetime.{FitsAll, Filled, AllFit, HasAll, TakesApart};
+ghost use Rattle.ww_lock.specs.Begun.{IsSeat, IsIdle, seat_id, sees};
+ghost use Rattle.ww_lock.specs.Boards.{table_of, first_pivot};
 
 use crate::board::{Board, Place, Slot, Start, Tables};
 use crate::sleepers::Sleepers;
@@ -74,8 +75,9 @@ impl<W: Ward> Board<W> {
         requires size { vec_len values ≤ 64 }
         requires blank { (f : ℕ) → W.posted pivot f ≡ 0 }
         requires facts { W.good pivot × AllFit (λ b x. W.fits b pivot x) 0 values.items }
-        ensures board { IfOk result (λ t. (t.0.buffers ≡ vec_len values) × (t.0.posts ≡ posts)) }
-        ensures seat { IfOk result (λ t. IsOutside t.0.table.shared.table_id t.1 × (sees t.1 ≡ newcomer pivot)) }
+        ensures board { IfOk result (λ t. (t.0.buffers ≡ vec_len values) × (t.0.posts ≡ posts) × (first_pivot t.0 ≡ pivot)) }
+        ensures seat { IfOk result (λ t. IsIdle (table_of t.0) t.1) }
+        ensures view { IfOk result (λ t. sees t.1 ≡ newcomer pivot) }
     {
         let buffers = values.len();
         let key = Start {
@@ -106,6 +108,20 @@ impl<W: Ward> Board<W> {
         ))
     }
 
+    /// How many values the board has, at home or out.
+    pub fn buffers(&self) -> u32
+        ensures { result ≡ self.now.buffers }
+    {
+        self.buffers
+    }
+
+    /// How many fence words it has.
+    pub fn posts(&self) -> u32
+        ensures { result ≡ self.now.posts }
+    {
+        self.posts
+    }
+
     /// Takes a board apart: the pivot, and each value into `out`, in order. A value that was out comes as `None`, and a
     /// pivot that was out is an error.
     pub fn close(
@@ -113,10 +129,12 @@ impl<W: Ward> Board<W> {
         seat: Seat<W::Pivot, W::Value, W::Task>,
         out: &mut Vec<Option<W::Value>>,
     ) -> Result<W::Pivot, Inside>
-        requires seat { seat.place.table_id ≡ self.table.shared.table_id }
+        requires seat { IsSeat (table_of self) seat }
         requires out { (out.old.items ≡ []) × (self.buffers ≤ vec_capacity out.old) }
-        ensures pivot { MatchResult result (λ p. W.good p × ((q : W.Pivot) → In q seat.place.me.0.pivot.seen → W.grows q p) × FitsAll (λ b x. W.fits b p x) 0 out.new.items) (λ _. Unit {0}) }
-        ensures home { MatchResult result (λ p. TakesApart W.good W.fits W.grows W.posted W.busy self.posts seat.place.id seat.place.me.0 out.new.items (Some p)) (λ _. TakesApart W.good W.fits W.grows W.posted W.busy self.posts seat.place.id seat.place.me.0 out.new.items None) }
+        ensures pivot { MatchResult result (λ p. W.good p × ((q : W.Pivot) → In q (sees seat).pivot.seen → W.grows q p) × FitsAll (λ b x. W.fits b p x) 0 out.new.items) (λ _. Unit {0}) }
+        ensures home { MatchResult result (λ p. TakesApart W.good W.fits W.grows W.posted W.busy self.posts (seat_id seat) (sees seat) out.new.items (Some p)) (λ _. TakesApart W.good W.fits W.grows W.posted W.busy self.posts (seat_id seat) (sees seat) out.new.items None) }
+        ensures last { HasAll (sees seat) → MatchResult result (λ p. In p (sees seat).pivot.seen) (λ _. ⊥) }
+        ensures all { HasAll (sees seat) → (b : ℕ) → b < self.buffers → (x : W.Value) × (get_elem? out.new.items b ≡ some (Some x)) }
         ensures length { vec_len out.new ≡ self.buffers }
     {
         let Board {

@@ -1,6 +1,7 @@
 //! How values are claimed and given back.
-ghost use Rattle.std.specs.Prelude.{◌≡◌, ◌<◌, ◌+◌, ℕ, [], true, MatchResult};
-ghost use Rattle.ww_lock.specs.Acquiring.{HoldsOutside, IsSameAcquire, AnswersTry, AnswersLock, Claimed, view};
+ghost use Rattle.std.specs.Prelude.{◌≡◌, ◌<◌, ◌+◌, ℕ, [], true, length, MatchResult};
+ghost use Rattle.ww_lock.specs.Acquiring.{HoldsOutside, IsReady, IsSameAcquire, AnswersTry, AnswersLock, Claimed, view};
+ghost use Rattle.ww_lock.specs.Boards.{table_of};
 ghost use Rattle.ww_lock.specs.Rule.{In};
 ghost use Rattle.ww_lock.specs.Steps.{with_release, without};
 ghost use Rattle.ww_lock.specs.Held.{HasAt};
@@ -48,11 +49,13 @@ impl<W: Ward> Board<W> {
         acquire: &mut Acquire<W::Pivot, W::Value, W::Task>,
         buffer: BufferId,
     ) -> Result<(), TryLockError>
-        requires { HoldsOutside self.now.table.shared.table_id acquire.old × (buffer < self.now.buffers) }
-        ensures holds { HoldsOutside self.now.table.shared.table_id acquire.new }
+        requires { HoldsOutside (table_of self.now) acquire.old × (buffer < self.now.buffers) }
+        ensures holds { HoldsOutside (table_of self.now) acquire.new }
         ensures answers { AnswersTry buffer acquire.old acquire.new result }
+        ensures ready { IsReady W.fits (table_of self.now) acquire.old → IsReady W.fits (table_of self.now) acquire.new }
     {
-        if acquire.sealed {
+        let sealed = acquire.sealed;
+        if sealed {
             return Err(TryLockError::Sealed);
         }
         if let Some(_) = place_of(&acquire.held, buffer) {
@@ -81,9 +84,10 @@ impl<W: Ward> Board<W> {
         buffer: BufferId,
         rt: &R,
     ) -> Result<(), LockError>
-        requires { HoldsOutside self.now.table.shared.table_id acquire.old × (buffer < self.now.buffers) }
-        ensures holds { HoldsOutside self.now.table.shared.table_id acquire.new }
+        requires { HoldsOutside (table_of self.now) acquire.old × (buffer < self.now.buffers) }
+        ensures holds { HoldsOutside (table_of self.now) acquire.new }
         ensures answers { AnswersLock buffer acquire.old acquire.new result }
+        ensures ready { IsReady W.fits (table_of self.now) acquire.old → IsReady W.fits (table_of self.now) acquire.new }
     {
         let backoff = Backoff::new();
         let word = buffer.number() as usize + 2;
@@ -95,7 +99,8 @@ impl<W: Ward> Board<W> {
                 TryLockError::Sealed => return Err(LockError::Sealed),
                 TryLockError::Already => return Err(LockError::Already),
                 TryLockError::Older { holder } => {
-                    if acquire.held.len() > 0 {
+                    let holds_something = acquire.held.len() > 0;
+                    if holds_something {
                         return Err(LockError::Backoff { holder });
                     }
                     holder
@@ -116,9 +121,10 @@ impl<W: Ward> Board<W> {
         buffer: BufferId,
         rt: &R,
     ) -> Result<(), Sealed>
-        requires { HoldsOutside self.now.table.shared.table_id acquire.old × (buffer < self.now.buffers) × (acquire.old.held.items ≡ []) }
-        ensures holds { HoldsOutside self.now.table.shared.table_id acquire.new }
+        requires { HoldsOutside (table_of self.now) acquire.old × (buffer < self.now.buffers) × (acquire.old.held.items ≡ []) }
+        ensures holds { HoldsOutside (table_of self.now) acquire.new }
         ensures answers { MatchResult result (λ _. Claimed buffer acquire.old acquire.new) (λ _. (acquire.old.sealed ≡ true) × (acquire.new ≡ acquire.old)) }
+        ensures ready { IsReady W.fits (table_of self.now) acquire.old → IsReady W.fits (table_of self.now) acquire.new }
     {
         match self.lock(acquire, buffer, rt) {
             Ok(()) => Ok(()),
@@ -130,13 +136,15 @@ impl<W: Ward> Board<W> {
 
     /// Gives a value back (`ww_mutex_unlock`), and wakes those who wait for it.
     pub fn release(&self, acquire: &mut Acquire<W::Pivot, W::Value, W::Task>, buffer: BufferId)
-        requires holds { HoldsOutside self.now.table.shared.table_id acquire.old }
+        requires holds { HoldsOutside (table_of self.now) acquire.old }
         requires held { (i : ℕ) × HasAt buffer i acquire.old.held.items }
         requires fits { (x y : W.Value) → In (buffer, x) (view acquire.old).lock.owes → In (buffer, y) acquire.old.held.items → (p : W.Pivot) → W.fits buffer p x → W.fits buffer p y }
-        ensures holds { HoldsOutside self.now.table.shared.table_id acquire.new }
+        ensures holds { HoldsOutside (table_of self.now) acquire.new }
         ensures same { IsSameAcquire acquire.old acquire.new }
         ensures view { view acquire.new ≡ with_release buffer (view acquire.old) }
         ensures held { acquire.new.held.items ≡ without buffer acquire.old.held.items }
+        ensures fewer { length acquire.new.held.items < length acquire.old.held.items }
+        ensures ready { IsReady W.fits (table_of self.now) acquire.old → IsReady W.fits (table_of self.now) acquire.new }
     {
         let Some(i) = place_of(&acquire.held, buffer) else {
             unreachable!()

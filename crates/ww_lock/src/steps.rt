@@ -2,15 +2,16 @@
 ghost use Rattle.std.specs.Prelude.{◌≡◌, ◌≢◌, ◌<◌, ◌≤◌, ◌^◌, ◌+◌, [], ◌∷◌, ◌++◌, true, false, ℕ, List};
 ghost use Rattle.ww_lock.specs.Rule.{In};
 ghost use Rattle.ww_lock.specs.Held.{IsSameKeys, turned_by};
-ghost use Rattle.ww_lock.specs.Steps.{drawn, claimed, entered, settled, with_exit, with_release, with_post, with_look, right_half, joined};
+ghost use Rattle.ww_lock.specs.Steps.{drawn, exhausted, claimed, entered, settled, with_exit, with_release, with_post, with_look, left_half, right_half, joined, HasSeen, IsLater};
 ghost use Rattle.ww_lock.specs.Leaving.{MayLeaveWith};
-ghost use Rattle.ww_lock.specs.Fences.{NotBack};
 ghost use Rattle.atomic_table.specs.Table.{step, rest};
 ghost use Rattle.ww_lock.specs.declared.board.Slot.TheVariants.{Pivot, Value, Gone};
 ghost use mathlib.Core.Option.{none};
 
 use crate::board::{Announcement, Place, Rule, Slot, Start, TaskChange, View};
-use crate::plays::{Claim, Draw, Enter, Halves, Leave, Look, Post, ReadBack, Release, Settle};
+use crate::plays::{
+    Claim, Draw, Enter, Exhaust, Halves, Leave, Look, Post, ReadBack, Release, Settle,
+};
 use crate::ward::Ward;
 use atomic_table::Shared;
 use drm_types::BufferId;
@@ -29,11 +30,23 @@ pub(crate) fn draw<W: Ward>(
     place: &mut Place<W::Pivot, W::Value, W::Task>,
     old: u64,
 ) -> u64
-    requires { (place.old.table_id ≡ shared.now.table_id) × (1 < shared.now.table_id.words) × (old < 2 ^ 63) × (place.old.me.0.lock.owes ≡ []) }
+    requires { (place.old.table_id ≡ shared.now.table_id) × (1 < shared.now.table_id.words) × (old < 2 ^ 63) × (place.old.me.0.lock.owes ≡ []) × HasSeen place.old.me.0 }
     ensures seat { (place.new.table_id ≡ place.old.table_id) × (place.new.id ≡ place.old.id) }
     ensures drawn { drawn (step shared.now.table_id.slots 0 old (old + 1) none) place.old.me result place.new.me }
 {
     shared.compare_exchange::<Draw>(place, 0, old, old + 1)
+}
+
+// Where the counter is 2^63, the seat knows from now on that no ticket is left.
+pub(crate) fn exhaust<W: Ward>(
+    shared: &SharedTable<W>,
+    place: &mut Place<W::Pivot, W::Value, W::Task>,
+) -> u64
+    requires { (place.old.table_id ≡ shared.now.table_id) × (1 < shared.now.table_id.words) × HasSeen place.old.me.0 }
+    ensures seat { (place.new.table_id ≡ place.old.table_id) × (place.new.id ≡ place.old.id) }
+    ensures exhausted { exhausted (step shared.now.table_id.slots 0 0 0 none) place.old.me result place.new.me }
+{
+    shared.load::<Exhaust>(place, 0)
 }
 
 // Where the word of `buffer` is 0, the seat takes it.
@@ -75,7 +88,7 @@ pub(crate) fn split<W: Ward>(
     place: &mut Place<W::Pivot, W::Value, W::Task>,
 ) -> Place<W::Pivot, W::Value, W::Task>
     requires { (place.old.table_id ≡ shared.now.table_id) × (1 < shared.now.table_id.words) }
-    ensures { (place.new.table_id ≡ place.old.table_id) × (place.new.id ≡ place.old.id) × (place.new.me ≡ place.old.me) × (result.table_id ≡ place.old.table_id) × (result.me ≡ (right_half place.old.me.0, [])) }
+    ensures { (place.new.table_id ≡ place.old.table_id) × (place.new.id ≡ place.old.id) × (place.new.me ≡ (left_half place.old.me.0, place.old.me.1)) × (result.table_id ≡ place.old.table_id) × (result.me ≡ (right_half place.old.me.0, [])) }
 {
     shared.split_seat::<Halves>(place)
 }
@@ -96,7 +109,7 @@ pub(crate) fn enter<W: Ward>(
     shared: &SharedTable<W>,
     place: &mut Place<W::Pivot, W::Value, W::Task>,
 ) -> u64
-    requires { (place.old.table_id ≡ shared.now.table_id) × (1 < shared.now.table_id.words) }
+    requires { (place.old.table_id ≡ shared.now.table_id) × (1 < shared.now.table_id.words) × HasSeen place.old.me.0 }
     ensures seat { (place.new.table_id ≡ place.old.table_id) × (place.new.id ≡ place.old.id) }
     ensures entered { entered W.good W.fits W.grows W.posted W.busy (step shared.now.table_id.slots 1 0 1 none) place.old.me result place.new.me }
 {
@@ -179,8 +192,7 @@ pub(crate) fn look<W: Ward>(
 ) -> u64
     requires table { (place.old.table_id ≡ shared.now.table_id) × (word ≡ shared.now.table_id.slots + 1 + fence) × (word < shared.now.table_id.words) × (fence < shared.now.key.posts) }
     ensures seat { (place.new.table_id ≡ place.old.table_id) × (place.new.id ≡ place.old.id) × (place.new.me ≡ (with_look fence result place.old.me.0, place.old.me.1)) }
-    ensures seen { (p : W.Pivot) → In p place.old.me.0.pivot.seen → NotBack (W.posted p fence) result }
-    ensures looked { (x : ℕ) → In (fence, x) place.old.me.0.looked → NotBack x result }
+    ensures shown { (p : W.Pivot) × IsLater W.good W.grows W.posted W.busy place.old.me.0 p × (result ≡ W.posted p fence) }
 {
     shared.load::<Look<W>>(place, word)
 }
@@ -210,7 +222,7 @@ pub(crate) fn settle<W: Ward>(
     place: &mut Place<W::Pivot, W::Value, W::Task>,
 )
     requires table { (place.old.table_id ≡ shared.now.table_id) × (0 < shared.now.table_id.words) }
-    requires outside { (place.old.me.0.pivot.inside ≡ false) × ((q : W.Pivot) × (qs : List W.Pivot) × (place.old.me.0.pivot.seen ≡ q ∷ qs)) }
+    requires outside { (place.old.me.0.pivot.inside ≡ false) × HasSeen place.old.me.0 }
     ensures seat { (place.new.table_id ≡ place.old.table_id) × (place.new.id ≡ place.old.id) }
     ensures settled { settled W.grows (step shared.now.table_id.slots 0 0 0 none) place.old.me 0 place.new.me }
 {

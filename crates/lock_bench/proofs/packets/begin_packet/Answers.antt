@@ -1,5 +1,5 @@
-use Rattle.std.proofs.Common.{◌≡◌, ◌<◌, refl, true, Some, length, slice_get, sym, ap, ◌∙◌, arith}
-use Rattle.std.proofs.lemmas.Option.{slice_get-get_or}
+use Rattle.std.proofs.Common.{rules, ◌≡◌, ◌<◌, refl, true, false, Some, length, slice_get, ap, ◌∙◌, arith}
+use Rattle.std.proofs.lemmas.Option.{slice_get_within}
 use Rattle.lock_bench.proofs.Flags.{set_here, set_more}
 use Rattle.lock_bench.proofs.packets.begin_packet.Goals as goal
 
@@ -7,18 +7,11 @@ pub leave-requires-clause-facts : goal.leave-requires-clause-facts
 leave-requires-clause-facts g c =
     (c.enter-engines.result, ap (λ v. v.pivot.seen) c.enter-engines.ensures.view, tt, tt, (λ b x h. h), (λ f. refl), (λ t h. h))
 
-pub returns-then-place-len-clause-none : goal.returns-then-place-len-clause-none
-returns-then-place-len-clause-none g c none = (
-  c.leave.ensures.seat,
-  ap (λ v. v.task) c.leave.ensures.view.2 ∙ (ap (λ v. v.task) c.enter-engines.ensures.view ∙ c.requires.1),
-  (_, _, ap (λ v. v.pivot.seen) c.leave.ensures.view.2),
-)
-
 pub leave-requires-2-clause-facts : goal.leave-requires-2-clause-facts
 leave-requires-2-clause-facts g c =
     let flags = c.enter-engines.result.is_busy.items in
-    let inside : c.args.engine < length flags = omega (arith, c.if-place-len.false, c.len.ensures) in
-    let idle : slice_get flags c.args.engine ≡ Some c.index.result.now = slice_get-get_or _ _ _ inside ∙ ap Some (sym c.index.ensures) in (
+    let idle : slice_get flags c.args.engine ≡ Some false = search rules in
+    let inside : c.args.engine < length flags = slice_get_within flags c.args.engine false idle in (
       c.enter-engines.result,
       ap (λ v. v.pivot.seen) c.enter-engines.ensures.view,
       tt,
@@ -27,7 +20,7 @@ leave-requires-2-clause-facts g c =
       (λ f. refl),
       (
         ap (λ v. v.task) c.enter-engines.ensures.view ∙ c.requires.1,
-        (λ busy. absurd (cc (idle, busy, c.if-index.false))),
+        (λ busy. absurd (cc (idle, busy))),
         set_here flags c.args.engine true inside,
         (λ s h. set_more flags c.args.engine s inside h),
       ),

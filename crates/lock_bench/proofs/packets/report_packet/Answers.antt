@@ -5,7 +5,7 @@ use Rattle.lock_bench.proofs.packets.report_packet.Goals as goal
 
 pub index_mut-requires : goal.index_mut-requires
 index_mut-requires g c =
-    let inside = slice_get_within c.enter-engines.result.is_busy.items c.args.engine true (c.enter-engines.ensures.busy c.args.engine c.requires.1) in omega (arith, inside)
+    let inside = slice_get_within c.enter-engines.result.is_busy.items c.args.engine true (c.enter-engines.ensures.later.waits c.args.engine c.requires.1) in omega (arith, inside)
 
 pub leave-requires-clause-facts : goal.leave-requires-clause-facts
 leave-requires-clause-facts g c = (
@@ -23,4 +23,4 @@ leave-requires-clause-facts g c = (
 )
 
 pub returns : goal.returns
-returns g c = (c.leave.ensures.seat, ap (λ v. v.task) c.leave.ensures.view.2, (_, _, ap (λ v. v.pivot.seen) c.leave.ensures.view.2))
+returns g c = (c.leave.ensures.seat, ap (λ v. v.task) c.leave.ensures.view.2)

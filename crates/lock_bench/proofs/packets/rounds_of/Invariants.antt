@@ -1,5 +1,6 @@
-use Rattle.ww_lock.specs.Threads.{IsIdle}
+use Rattle.ww_lock.specs.Begun.{IsIdle}
+use Rattle.ww_lock.specs.Boards.{table_of}
 use Rattle.lock_bench.proofs.packets.rounds_of.Given as goal
 
 abbrev pub invariant-loop : goal.invariant-loop
-invariant-loop g l = IsIdle l.board.table.shared.table_id l.seat
+invariant-loop g l = IsIdle (table_of l.board) l.seat

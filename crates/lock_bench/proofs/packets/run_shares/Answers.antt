@@ -14,7 +14,8 @@ use Rattle.lock_bench.specs.contracts.packets.PacketsWard.TheImpl.{ghosts as war
 use Rattle.lock_bench.specs.contracts.packets.run_shares.{R-row}
 use Rattle.lock_bench.proofs.packets.run_shares.Given.{Over}
 use Rattle.lock_bench.proofs.packets.run_shares.Lts.{arg-0-4}
-use Rattle.ww_lock.specs.Threads.{IsIdle}
+use Rattle.ww_lock.specs.Begun.{IsIdle}
+use Rattle.ww_lock.specs.Boards.{table_of}
 use Rattle.ww_lock.proofs.Crosses.{seat_send, board_sync}
 use Rattle.lock_bench.proofs.packets.run_shares.Goals as goal
 
@@ -37,4 +38,4 @@ pub map_vec-requires-sync-F : goal.map_vec-requires-sync-F
 map_vec-requires-sync-F g c κs within = crossing g c.type_bounds.sync-R κs
 
 pub map_vec-requires-after_bounds : goal.map_vec-requires-after_bounds
-map_vec-requires-after_bounds g c κs within i x l e = subst (λ s. IsIdle c.args.board.now.table.shared.table_id s.seat) (sym e) (c.requires i x l)
+map_vec-requires-after_bounds g c κs within i x l e = subst (λ s. IsIdle (table_of c.args.board.now) s.seat) (sym e) (c.requires i x l)

@@ -1,7 +1,7 @@
+use Rattle.std.proofs.Common.{◌≡◌, length}
 use Rattle.atomic_table.specs.Seated.{TableId}
-use Rattle.ww_lock.specs.Held.{IsSameKeys}
-use Rattle.ww_lock.specs.Threads.{IsReady}
+use Rattle.ww_lock.specs.Acquiring.{IsReady}
 use Rattle.lock_bench.proofs.rounds.count_held.Given as goal
 
 abbrev pub invariant-loop-i : goal.invariant-loop-i
-invariant-loop-i l = ((z : TableId) → IsReady (λ _ _ _. Unit {0}) z l.fn.acquire → IsReady (λ _ _ _. Unit {0}) z l.acquire) × IsSameKeys l.acquire.held.items l.fn.acquire.held.items
+invariant-loop-i l = ((z : TableId) → IsReady (λ _ _ _. Unit {0}) z l.fn.acquire → IsReady (λ _ _ _. Unit {0}) z l.acquire) × (length l.acquire.held.items ≡ length l.fn.acquire.held.items)

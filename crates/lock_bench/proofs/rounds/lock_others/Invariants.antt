@@ -1,5 +1,6 @@
-use Rattle.ww_lock.specs.Threads.{IsReady}
+use Rattle.ww_lock.specs.Acquiring.{IsReady}
+use Rattle.ww_lock.specs.Boards.{table_of}
 use Rattle.lock_bench.proofs.rounds.lock_others.Given as goal
 
 abbrev pub invariant-loop-buffer : goal.invariant-loop-buffer
-invariant-loop-buffer g l = IsReady (λ _ _ _. Unit {0}) l.board.table.shared.table_id l.acquire
+invariant-loop-buffer g l = IsReady (λ _ _ _. Unit {0}) (table_of l.board) l.acquire

@@ -1,8 +1,6 @@
-use Rattle.std.proofs.Common.{rules, arith, ap, sym, subst, ◌∙◌, ◌<◌, ℕ, length, get_or}
+use Rattle.std.proofs.Common.{rules, arith, ap, ◌∙◌, ◌<◌, ℕ, length, get_or}
 use mathlib.Core.Option.{some}
 use Rattle.atomic_table.proofs.Lists.{at_index}
-use Rattle.ww_lock.proofs.Lists.{at_in}
-use Rattle.ww_lock.proofs.Ready.{released, without_fewer}
 use Rattle.lock_bench.proofs.rounds.release_all.Goals as goal
 
 pub release-requires-clause-held : goal.release-requires-clause-held
@@ -12,10 +10,7 @@ release-requires-clause-held c = let xs = c.loop-acquire.acquire.held.items in l
     (0, (e.1, at))
 
 pub loop-acquire-smaller : goal.loop-acquire-smaller
-loop-acquire-smaller c = let xs = c.loop-acquire.acquire.held.items in let e = c.index-held-0.result in let same = c.held-in-loop-acquire.ensures in
-    let l : 0 < length xs = (let k = c.held.ensures in let p = c.loop-acquire-test.true in first_of (search rules, omega arith)) in
-    let at = at_index xs 0 e l (c.index-held-0.is ∙ ap (λ z. get_or z 0 e) same) ∙ ap (λ (n : ℕ). some (n, e.1)) (ap (λ z. z.0) c.index-held-0.is) in
-    subst (λ ys. length ys < length xs) (sym c.release.ensures.held) (without_fewer _ e.1 xs (at_in xs 0 _ at))
+loop-acquire-smaller c = c.release.ensures.fewer
 
 pub loop-acquire-preserved : goal.loop-acquire-preserved
-loop-acquire-preserved c = released (λ _ _ _. Unit {0}) c.args.board.now.table.shared.table_id _ c.loop-acquire.acquire c.release.new.acquire c.loop-acquire.invariant c.release.ensures.holds c.release.ensures.same c.release.ensures.view c.release.ensures.held
+loop-acquire-preserved c = c.release.ensures.ready c.loop-acquire.invariant

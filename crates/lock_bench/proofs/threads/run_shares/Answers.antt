@@ -11,7 +11,8 @@ use Rattle.lock_bench.specs.contracts.rounds.CountersWard.TheImpl.{ghosts as war
 use Rattle.lock_bench.specs.contracts.threads.run_shares.{R-row}
 use Rattle.lock_bench.proofs.threads.run_shares.Given.{Over}
 use Rattle.lock_bench.proofs.threads.run_shares.Lts.{arg-0-4}
-use Rattle.ww_lock.specs.Threads.{IsIdle}
+use Rattle.ww_lock.specs.Begun.{IsIdle}
+use Rattle.ww_lock.specs.Boards.{table_of}
 use Rattle.ww_lock.proofs.Crosses.{seat_send, board_sync}
 use Rattle.lock_bench.proofs.threads.run_shares.Goals as goal
 
@@ -31,4 +32,4 @@ pub map_vec-requires-sync-F : goal.map_vec-requires-sync-F
 map_vec-requires-sync-F g c κs within = crossing g c.type_bounds.sync-R κs
 
 pub map_vec-requires-after_bounds : goal.map_vec-requires-after_bounds
-map_vec-requires-after_bounds g c κs within i x l e = (subst (λ s. IsIdle c.args.board.now.table.shared.table_id s.seat) (sym e) (c.requires.seats i x l), c.requires.locks)
+map_vec-requires-after_bounds g c κs within i x l e = (subst (λ s. IsIdle (table_of c.args.board.now) s.seat) (sym e) (c.requires.seats i x l), c.requires.locks)

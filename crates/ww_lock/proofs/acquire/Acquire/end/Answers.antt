@@ -8,4 +8,4 @@ none_owed [] e = refl
 none_owed (x ∷ xs) e = absurd (let n : suc (length (map number_of xs)) ≡ 0 = ap length e in omega arith)
 
 pub returns-clause-outside : goal.returns-clause-outside
-returns-clause-outside g c = λ z h. (h.seated, h.hands ∙ ap emptied c.requires.0, none_owed _ (h.keys ∙ ap (map number_of) c.requires.0), h.inside)
+returns-clause-outside g c = λ z h. (h.seated, h.hands ∙ ap emptied c.requires.0, none_owed _ (h.keys ∙ ap (map number_of) c.requires.0), h.inside, h.saw)

@@ -14,4 +14,5 @@ returns-clause-holds g c = λ inside z h. let owes = c.args.self.now.place.me.0.
   room = λ u. absurd (false≢true (sym u ∙ h.sealed));
   hands = h.hands ∙ ap (behind_pivot inside) (emptied_same owes xs c.requires);
   inside = h.inside;
+  saw = h.saw;
 }

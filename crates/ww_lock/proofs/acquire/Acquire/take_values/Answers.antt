@@ -14,6 +14,7 @@ returns-clause-lent g c = λ inside z h. let a = c.args.self.now in let owes = a
     within = within_same z.slots owes xs h.keys h.within;
     hands = h.hands ∙ ap (behind_pivot inside) (emptied_same xs owes (sym h.keys));
     inside = h.inside;
+    saw = h.saw;
   },
   h.keys ∙ ap (λ v. map number_of v.items) (sym c.replace.ensures.value),
 )

@@ -36,6 +36,7 @@ returns g c = let a = c.args.self.now in let xs = a.held.items in let b = c.args
           room = h.room;
           hands = h.hands ∙ ap (behind_pivot inside) (emptied_same xs ys (sym same));
           inside = h.inside;
+          saw = h.saw;
         };
       },
     )

@@ -7,7 +7,7 @@ use mathlib.Core.Option.{some}
 use Rattle.ww_lock.specs.declared.board.Slot.{Slot}
 use Rattle.ww_lock.specs.declared.board.Slot.TheVariants.{Value}
 use Rattle.ww_lock.specs.Lifetime.{TakesApart}
-use Rattle.ww_lock.proofs.Closing.{home_value, pivot_at_home, comes_back, set_false, more_back, back_same, Back, Whole, more_whole, whole_same, gives_home, gives_pivot, pivot_is_out}
+use Rattle.ww_lock.proofs.Closing.{home_value, pivot_at_home, comes_back, set_false, more_back, back_same, Back, Whole, more_whole, whole_same, gives_home, gives_pivot, pivot_is_out, comes_as_seen, pivot_not_out, all_there}
 use Rattle.ww_lock.proofs.board.Board.close.Goals as goal
 
 -- an option that is there exactly where A is
@@ -75,3 +75,21 @@ returns-then-at-ne0-clause-home g c = let w = g.W.Ward in let i = c.loop-b.invar
       gives_home w.good w.fits w.grows w.posted w.busy _ _ _ _ _ e.values.2 c.loop-b.out.items (let had = i.6 in let low = i.5 in let last = c.loop-b-test.false in let count = e.counts.1 in let size = s.2 in omega arith) back whole,
       pivot_is_out w.good w.fits w.grows w.posted w.busy _ _ _ _ _ e.values.2 c.word-at.result c.word-at.ensures c.if-at-ne0.true,
     )
+
+pub returns-clause-last : goal.returns-clause-last
+returns-clause-last g c = let w = g.W.Ward in let e = c.close_with-closed.ensures in let t = c.take-pivot.ensures.others in
+    λ all. comes_as_seen w.good w.fits w.grows w.posted w.busy _ _ _ _ _ e.values.2 all c.in-Pivot.pivot (c.word-at.ensures ∙ ap some c.if-at-ne0.false) (c.take-pivot.ensures.value ∙ ap some c.in-Pivot.is)
+
+pub returns-then-at-ne0-clause-last : goal.returns-then-at-ne0-clause-last
+returns-then-at-ne0-clause-last g c = let w = g.W.Ward in let e = c.close_with-closed.ensures in
+    λ all. pivot_not_out w.good w.fits w.grows w.posted w.busy _ _ _ _ _ e.values.2 all c.word-at.result c.word-at.ensures c.if-at-ne0.true
+
+pub returns-clause-all : goal.returns-clause-all
+returns-clause-all g c = let w = g.W.Ward in let i = c.loop-b.invariant in let e = c.close_with-closed.ensures in let t = c.take-pivot.ensures.others in let n = slots_counts c.close_with-closed.result.slots in let s = c.args.self.sized in
+    let whole = whole_same _ _ _ _ c.loop-b.out.items (ap slots_items (i.0 ∙ t.3)) (i.1 ∙ t.0) i.9 in
+    λ all b low. all_there w.good w.fits w.grows w.posted w.busy _ _ _ _ _ e.values.2 c.loop-b.out.items (let had = i.6 in let low' = i.5 in let last = c.loop-b-test.false in let count = e.counts.1 in let size = s.2 in omega arith) whole all b (let had = i.6 in let low' = i.5 in let last = c.loop-b-test.false in omega arith)
+
+pub returns-then-at-ne0-clause-all : goal.returns-then-at-ne0-clause-all
+returns-then-at-ne0-clause-all g c = let w = g.W.Ward in let i = c.loop-b.invariant in let e = c.close_with-closed.ensures in let t = c.take-pivot.ensures.others in let n = slots_counts c.close_with-closed.result.slots in let s = c.args.self.sized in
+    let whole = whole_same _ _ _ _ c.loop-b.out.items (ap slots_items (i.0 ∙ t.3)) (i.1 ∙ t.0) i.9 in
+    λ all b low. all_there w.good w.fits w.grows w.posted w.busy _ _ _ _ _ e.values.2 c.loop-b.out.items (let had = i.6 in let low' = i.5 in let last = c.loop-b-test.false in let count = e.counts.1 in let size = s.2 in omega arith) whole all b (let had = i.6 in let low' = i.5 in let last = c.loop-b-test.false in omega arith)

@@ -1,4 +1,4 @@
-use Rattle.std.proofs.Common.{ap, ◌∙◌, ◌∷◌, map}
+use Rattle.std.proofs.Common.{ap, ◌∙◌, [], ◌∷◌, map}
 use Rattle.ww_lock.specs.Steps.{number_of}
 use Rattle.ww_lock.specs.declared.board.Slot.TheVariants.{Gone}
 use Rattle.ww_lock.proofs.board.Board.enter_with.Goals as goal
@@ -13,4 +13,5 @@ returns-clause-holds g c = let st = c.requires in let e = c.take_pivot.ensures i
   room = st.room;
   hands = ap (λ m. m.1) e.entered ∙ ap (λ l. (0, Gone) ∷ l) st.hands;
   inside = ap (λ v. v.pivot.inside) sees;
+  saw = (c.take_pivot.result, [], ap (λ v. v.pivot.seen) sees);
 }

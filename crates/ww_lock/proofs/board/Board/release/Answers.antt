@@ -1,4 +1,4 @@
-use Rattle.std.proofs.Common.{rules, arith, sym, subst, ap, ◌∙◌, ◌≡◌, ◌+◌, ◌-◌, ◌∷◌, length, take, drop, map, length-drop}
+use Rattle.std.proofs.Common.{rules, arith, refl, sym, subst, ap, ◌∙◌, ◌≡◌, ◌+◌, ◌-◌, ◌∷◌, length, take, drop, map, length-drop}
 use mathlib.Core.Option.{some-injective}
 use Rattle.atomic_table.specs.Table.{rest}
 use Rattle.atomic_table.proofs.Lists.{at_index}
@@ -9,6 +9,7 @@ use Rattle.ww_lock.specs.Steps.{with_release, without, number_of}
 use Rattle.ww_lock.proofs.Finding.{below}
 use Rattle.ww_lock.proofs.Lists.{at_in, key_in, in_without}
 use Rattle.ww_lock.proofs.Trying.{without_apart}
+use Rattle.ww_lock.proofs.Ready.{released}
 use Rattle.ww_lock.proofs.Releasing.{removed, without_keys, brought, turned_back}
 use Rattle.ww_lock.proofs.board.Board.release.Goals as goal
 
@@ -55,4 +56,10 @@ returns-clause-holds g c = let st = c.requires.holds in let a = c.args.acquire.n
       room = λ u. let q = st.room u in let k = c.remove-value.ensures.capacity in omega arith;
       hands = ap (λ m. m.1) last.2 ∙ (ap (λ m. turned_by (c.len.result - i) m.1) gave.released ∙ (ap (turned_by (c.len.result - i)) slots ∙ (turned_back (take i xs) (drop (i + 1) xs) (c.len.result - i) later ∙ ap emptied (sym by))));
       inside = ap (λ v. v.pivot.inside) sees ∙ st.inside;
+      saw = (st.saw.0, st.saw.1, ap (λ v. v.pivot.seen) sees ∙ st.saw.2);
     }
+
+pub returns-clause-ready : goal.returns-clause-ready
+returns-clause-ready g c = λ ready. let b = c.args.buffer in
+    let sees = ap (λ m. m.0) c.bring-2.ensures.2 ∙ (ap (λ m. m.0) c.release.ensures.released ∙ ap (λ m. with_release b m.0) c.bring.ensures.2) in
+    released g.W.Ward.fits c.args.self.now.table.shared.table_id b c.args.acquire.now _ ready (returns-clause-holds g c) (refl, refl, c.bring-2.ensures.1 ∙ (c.release.ensures.seat.1 ∙ c.bring.ensures.1)) sees (returns-clause-held g c)

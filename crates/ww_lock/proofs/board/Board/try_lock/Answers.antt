@@ -1,4 +1,4 @@
-use Rattle.std.proofs.Common.{rules, arith, refl, sym, ap, subst, ◌∙◌, ◌≡◌, ◌+◌, ℕ, List, [], ◌∷◌, ◌++◌, ⊎_elim, length-append}
+use Rattle.std.proofs.Common.{Ok, Err, rules, arith, refl, sym, ap, subst, ◌∙◌, ◌≡◌, ◌+◌, ℕ, List, [], ◌∷◌, ◌++◌, ⊎_elim, length-append}
 use Rattle.atomic_table.specs.Table.{rest}
 use Rattle.ww_lock.specs.Rule.{In}
 use Rattle.ww_lock.specs.Steps.{with_claim}
@@ -6,6 +6,8 @@ use Rattle.ww_lock.specs.Held.{IsSameKeys, IsApart, emptied}
 use Rattle.ww_lock.specs.declared.board.Slot.TheVariants.{Value, Gone}
 use Rattle.ww_lock.specs.Acquiring.{view}
 use Rattle.ww_lock.proofs.Lists.{in_last}
+use Rattle.ww_lock.specs.declared.locks.TryLockError.TheVariants.{Older, Younger}
+use Rattle.ww_lock.proofs.Ready.{tried}
 use Rattle.ww_lock.proofs.Trying.{lacks_same, apart_fits, apart_last, emptied_last, keys_last, first_value}
 use Rattle.ww_lock.proofs.board.Board.try_lock.Goals as goal
 
@@ -17,7 +19,7 @@ pull-value-requires-clause-slot g c = let e = (c.claim-found.ensures.claimed c.a
     (e.0, ap (λ m. m.1) e.1 ∙ ap (λ l. (c.args.buffer + 1, Value e.0) ∷ l) (sym (ap (λ m. rest m.1) e.1)))
 
 pub push_reserved-requires : goal.push_reserved-requires
-push_reserved-requires g c = let a = c.args.acquire.now in let st = c.requires.0 in let b = c.args.buffer in let x = c.pull-value.result in let sized = c.args.self.now.sized in let s₁ = sized.1 in let room = st.room c.if-acquire.false in let low = c.requires.1 in
+push_reserved-requires g c = let a = c.args.acquire.now in let st = c.requires.0 in let b = c.args.buffer in let x = c.pull-value.result in let sized = c.args.self.now.sized in let s₁ = sized.1 in let room = st.room c.if-sealed.false in let low = c.requires.1 in
     let n = apart_fits c.args.self.now.buffers (a.held.items ++ (b, x) ∷ []) (apart_last b x a.held.items st.apart c.in_default.ensures.found)
     (λ d y h. ⊎_elim (λ t. let w = st.within d y t in omega arith) (λ t. let e : d ≡ b = ap (λ z. z.0) t in omega arith) (in_last (d, y) (b, x) a.held.items h)) in
     first_of (search rules, omega (arith, length-append a.held.items ((b, x) ∷ [])))
@@ -34,12 +36,13 @@ returns-then-found-eq0-clause-holds g c = let a = c.args.acquire.now in let st =
       room = λ u. let q = st.room u in let k = r.capacity in omega arith;
       hands = ap (λ m. m.1) p.seat.2 ∙ (ap (λ l. l ++ (b + 1, Gone) ∷ []) (ap (λ m. rest m.1) e.1 ∙ st.hands) ∙ (sym (emptied_last b x a.held.items) ∙ ap emptied (sym r.items)));
       inside = ap (λ v. v.pivot.inside) sees ∙ st.inside;
+      saw = (st.saw.0, st.saw.1, ap (λ v. v.pivot.seen) sees ∙ st.saw.2);
     }
 
 pub returns-then-found-eq0-clause-answers : goal.returns-then-found-eq0-clause-answers
 returns-then-found-eq0-clause-answers g c = let b = c.args.buffer in let x = c.pull-value.result in let e = (c.claim-found.ensures.claimed b refl).0 c.if-found-eq0.true in let p = c.pull-value.ensures in
     let same : e.0 ≡ x = ap (first_value x) (sym (ap (λ m. m.1) e.1) ∙ p.value) in
-    (c.if-acquire.false, c.in_default.ensures.found, (refl, refl, p.seat.1 ∙ c.claim-found.ensures.seat.1), (x, ap (λ m. m.0) p.seat.2 ∙ (ap (λ m. m.0) e.1 ∙ ap (λ z. with_claim b z (view c.args.acquire.now)) same), c.push_reserved.ensures.items))
+    (c.if-sealed.false, c.in_default.ensures.found, (refl, refl, p.seat.1 ∙ c.claim-found.ensures.seat.1), (x, ap (λ m. m.0) p.seat.2 ∙ (ap (λ m. m.0) e.1 ∙ ap (λ z. with_claim b z (view c.args.acquire.now)) same), c.push_reserved.ensures.items))
 
 pub returns-then-found-ticket-clause-holds : goal.returns-then-found-ticket-clause-holds
 returns-then-found-ticket-clause-holds g c = let st = c.requires.0 in let e = ((c.claim-found.ensures.claimed c.args.buffer refl).1 c.if-found-eq0.false).1 in record {
@@ -51,11 +54,12 @@ returns-then-found-ticket-clause-holds g c = let st = c.requires.0 in let e = ((
   room = st.room;
   hands = ap (λ m. m.1) e ∙ st.hands;
   inside = ap (λ m. m.0.pivot.inside) e ∙ st.inside;
+  saw = (st.saw.0, st.saw.1, ap (λ m. m.0.pivot.seen) e ∙ st.saw.2);
 }
 
 pub returns-then-found-ticket-clause-answers : goal.returns-then-found-ticket-clause-answers
 returns-then-found-ticket-clause-answers g c = let f = (c.claim-found.ensures.claimed c.args.buffer refl).1 c.if-found-eq0.false in
-    (c.if-acquire.false, c.in_default.ensures.found, (refl, refl, c.claim-found.ensures.seat.1), c.if-found-ticket.true, ap (λ m. m.0) f.1, refl)
+    (c.if-sealed.false, c.in_default.ensures.found, (refl, refl, c.claim-found.ensures.seat.1), c.if-found-ticket.true, ap (λ m. m.0) f.1, refl)
 
 pub returns-else-found-ticket-clause-holds : goal.returns-else-found-ticket-clause-holds
 returns-else-found-ticket-clause-holds g c = let st = c.requires.0 in let e = ((c.claim-found.ensures.claimed c.args.buffer refl).1 c.if-found-eq0.false).1 in record {
@@ -67,8 +71,18 @@ returns-else-found-ticket-clause-holds g c = let st = c.requires.0 in let e = ((
   room = st.room;
   hands = ap (λ m. m.1) e ∙ st.hands;
   inside = ap (λ m. m.0.pivot.inside) e ∙ st.inside;
+  saw = (st.saw.0, st.saw.1, ap (λ m. m.0.pivot.seen) e ∙ st.saw.2);
 }
 
 pub returns-else-found-ticket-clause-answers : goal.returns-else-found-ticket-clause-answers
 returns-else-found-ticket-clause-answers g c = let f = (c.claim-found.ensures.claimed c.args.buffer refl).1 c.if-found-eq0.false in let t = c.requires.0.ticket.0 in let ne = f.0 in let up = c.if-found-ticket.false in
-    (c.if-acquire.false, c.in_default.ensures.found, (refl, refl, c.claim-found.ensures.seat.1), omega arith, ap (λ m. m.0) f.1, refl)
+    (c.if-sealed.false, c.in_default.ensures.found, (refl, refl, c.claim-found.ensures.seat.1), omega arith, ap (λ m. m.0) f.1, refl)
+
+pub returns-then-found-eq0-clause-ready : goal.returns-then-found-eq0-clause-ready
+returns-then-found-eq0-clause-ready g c = λ ready. tried g.W.Ward.fits c.args.self.now.table.shared.table_id c.args.buffer c.args.acquire.now _ (Ok tt) ready (returns-then-found-eq0-clause-holds g c) (returns-then-found-eq0-clause-answers g c)
+
+pub returns-then-found-ticket-clause-ready : goal.returns-then-found-ticket-clause-ready
+returns-then-found-ticket-clause-ready g c = λ ready. tried g.W.Ward.fits c.args.self.now.table.shared.table_id c.args.buffer c.args.acquire.now _ (Err (Older c.claim-found.result)) ready (returns-then-found-ticket-clause-holds g c) (returns-then-found-ticket-clause-answers g c)
+
+pub returns-else-found-ticket-clause-ready : goal.returns-else-found-ticket-clause-ready
+returns-else-found-ticket-clause-ready g c = λ ready. tried g.W.Ward.fits c.args.self.now.table.shared.table_id c.args.buffer c.args.acquire.now _ (Err (Younger c.claim-found.result)) ready (returns-else-found-ticket-clause-holds g c) (returns-else-found-ticket-clause-answers g c)

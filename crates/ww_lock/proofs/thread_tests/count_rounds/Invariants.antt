@@ -1,6 +1,0 @@
-use Rattle.std.proofs.Common.{◌<◌, All}
-use Rattle.ww_lock.specs.Threads.{IsIdle}
-use Rattle.ww_lock.proofs.thread_tests.count_rounds.Given as goal
-
-abbrev pub invariant-loop : goal.invariant-loop
-invariant-loop g l = IsIdle l.board.table.shared.table_id l.seat × All (λ b. b < l.board.buffers) l.order.items

@@ -1,6 +1,0 @@
-use Rattle.std.proofs.Common.{All}
-use Rattle.ww_lock.specs.Threads.{IsIdle}
-use Rattle.ww_lock.proofs.thread_tests.jobs_of.Given as goal
-
-abbrev pub invariant-loop-thread : goal.invariant-loop-thread
-invariant-loop-thread l = IsIdle l.board.table.shared.table_id l.seat × All (λ j. IsIdle l.board.table.shared.table_id j.seat) l.jobs.items

@@ -1,0 +1,2 @@
+pub mod Wards
+pub mod Numbers
