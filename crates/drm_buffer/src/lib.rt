@@ -7,7 +7,5 @@
 
 mod memory;
 mod ranges;
-#[cfg(test)]
-mod tests;
 
 pub use memory::{Memory, size_in};

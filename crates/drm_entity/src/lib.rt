@@ -7,7 +7,5 @@
 #![tactic(auto)]
 
 mod entities;
-#[cfg(test)]
-mod tests;
 
 pub use entities::Entities;

@@ -11,8 +11,6 @@ mod links;
 mod pair;
 mod phase;
 mod table;
-#[cfg(test)]
-mod tests;
 mod timeline;
 mod waiters;
 

@@ -152,7 +152,8 @@ impl Table {
         ensures places { length self.new.links.items ≡ length self.old.links.items }
     {
         for of in 0..64 {
-            if self.unmet[entity as usize] == 0 {
+            let is_done = self.unmet[entity as usize] == 0;
+            if is_done {
                 return;
             }
             self.clear(entity as usize * 64 + of);

@@ -6,9 +6,7 @@ use Rattle.std.proofs.lemmas.List.Folds.{list_any-append}
 use Rattle.std.proofs.lemmas.Map.Keys.{IsDistinct-cons, IsDistinct-head, IsDistinct-tail}
 use Rattle.drm_types.specs.Firsts.{when}
 use Rattle.drm_job.specs.Fault.{repeat_after}
-use Rattle.drm_job.proofs.Repeats.{first_of_one}
-use Rattle.drm_job.proofs.NoFault.{false_where, none_where, none_more}
-use Rattle.drm_job.proofs.Within.{none_first}
+use Rattle.drm_types.proofs.Firsts.{none_first, first_of_one, none_more, none_where, false_where}
 
 -- a number that is not among these
 abbrev pub IsNew : List ℕ → ℕ → Type 0

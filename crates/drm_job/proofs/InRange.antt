@@ -13,7 +13,7 @@ use Rattle.drm_job.specs.declared.Draft.{Draft}
 use Rattle.drm_job.specs.declared.JobFault.TheVariants.{PacketRange}
 use Rattle.drm_job.specs.Fault.{packet_tests, packet_fault, job_tests, IsJob}
 use Rattle.drm_job.specs.Ranges.{RunsIn}
-use Rattle.drm_job.proofs.Within.{none_first, none_at, none_when}
+use Rattle.drm_types.proofs.Firsts.{none_first, none_at, none_when}
 
 -- a packet without a fault is in range
 pub range_from_fault : (spec : DeviceSpec) (job : Draft) (n : ℕ) (p : Packet) → packet_fault spec job n p ≡ None → is_in_range p spec.buffers ≡ true

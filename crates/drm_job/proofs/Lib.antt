@@ -2,6 +2,5 @@ pub mod Apart
 pub mod Within
 pub mod InRange
 pub mod Repeats
-pub mod NoFault
 pub mod Distinct
 pub mod Sound

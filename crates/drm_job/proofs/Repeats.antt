@@ -4,12 +4,8 @@ use Rattle.std.specs.List.{list_any}
 use Rattle.std.proofs.lemmas.List.{at_drop_more, take_more, map-append}
 use Rattle.drm_types.specs.declared.access.Access.{Access}
 use Rattle.drm_types.specs.Firsts.{when, first_of}
+use Rattle.drm_types.proofs.Firsts.{first_of_one}
 use Rattle.drm_job.specs.Fault.{repeat_after}
-
--- the first of one
-pub first_of_one : {F : Type 0} (o : Option F) → first_of (o ∷ []) ≡ o
-first_of_one None = refl
-first_of_one (Some f) = refl
 
 -- the buffers that are declared
 abbrev pub buffers : List (ℕ × Access) → List ℕ

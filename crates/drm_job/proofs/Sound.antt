@@ -20,8 +20,8 @@ use Rattle.drm_job.specs.Fault.{buffers_of, repeat_after, is_undeclared, packet_
 use Rattle.drm_job.specs.Sound.{IsSound}
 use Rattle.drm_job.proofs.Distinct.{distinct_from, none_repeats, IsNew}
 use Rattle.drm_job.proofs.InRange.{runs_in}
-use Rattle.drm_job.proofs.NoFault.{none_more, none_where, false_where, none_of_map, none_found, finds_none}
-use Rattle.drm_job.proofs.Within.{none_at, none_when, stays_within}
+use Rattle.drm_types.proofs.Firsts.{none_at, none_when, none_more, none_where, false_where, none_of_map, none_found, finds_none}
+use Rattle.drm_job.proofs.Within.{stays_within}
 
 -- a job is sound
 pub sound_from : (spec : DeviceSpec) (job : Draft) → IsJob spec job → IsSound spec job

@@ -9,8 +9,6 @@ mod conflict;
 mod faults;
 mod job;
 mod laws;
-#[cfg(test)]
-mod tests;
 
 pub use conflict::conflicts;
 use drm_packet::Packet;

@@ -8,8 +8,6 @@
 mod buffers;
 mod laws;
 mod run;
-#[cfg(test)]
-mod tests;
 
 pub use buffers::Buffers;
 use drm_types::BufferId;

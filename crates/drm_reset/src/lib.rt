@@ -6,8 +6,6 @@
 #![tactic(auto)]
 
 mod karma;
-#[cfg(test)]
-mod tests;
 mod verdict;
 
 pub use karma::Karma;

@@ -30,9 +30,8 @@ impl Deps {
     pub fn new() -> Deps
         ensures { result ≡ [] }
     {
-        Deps {
-            list: ArrayVec::new(),
-        }
+        let list = ArrayVec::new();
+        Deps { list }
     }
 
     /// How many entities there is a fence of.

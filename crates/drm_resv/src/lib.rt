@@ -11,8 +11,6 @@ mod deps;
 mod entry;
 mod resv;
 mod stored;
-#[cfg(test)]
-mod tests;
 
 pub use deps::Deps;
 pub use entry::Entry;

@@ -1,4 +1,4 @@
-ghost use Rattle.std.specs.Prelude.{◌≡◌, ℕ, ◌<◌, ◌≤◌, IsTrue, IsFalse, [], length, OnOk, slice_get, Some, cond, not, ◌&&◌};
+ghost use Rattle.std.specs.Prelude.{◌≡◌, ℕ, ◌<◌, ◌≤◌, IsTrue, IsFalse, [], length, OnOk, IsOk, slice_get, Some, cond, not, ◌&&◌};
 ghost use Rattle.drm_resv.specs.Entries.{added_to, entries_of, replaces};
 ghost use Rattle.drm_resv.specs.Noting.{all_noted};
 ghost use Rattle.drm_resv.specs.Active.{least_active as least_active_of, lesser};
@@ -66,12 +66,13 @@ impl Resv {
         self.entries.len() < self.entries.capacity() && self.history.len() < self.history.capacity()
     }
 
-    /// Takes room for one use more (`dma_resv_reserve_fences`). Where memory is refused, nothing but the room may
-    /// have changed. It takes no memory where there is room.
+    /// Takes room for one use more (`dma_resv_reserve_fences`). Nothing but the room may change, and room that was there
+    /// stays, also where memory is refused. It asks for none where there is room, and so it cannot fail there.
     pub fn reserve(&mut self) -> Result<(), AllocError>
         ensures kept { self.new.kept ≡ self.old.kept }
         ensures ok { OnOk result (IsTrue self.new.has_room) }
-        ensures room { IsTrue self.old.has_room → OnOk result (IsTrue self.new.has_room) }
+        ensures room { IsTrue self.old.has_room → IsTrue self.new.has_room }
+        ensures succeeds { IsTrue self.old.has_room → IsOk result }
     {
         self.entries.reserve(1)?;
         self.history.reserve(1)?;

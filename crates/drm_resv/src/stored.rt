@@ -29,7 +29,7 @@ impl StoredDeps {
     /// it is for nothing.
     pub fn of(alloc: Global, deps: &Deps, more: u32) -> Result<StoredDeps, AllocError>
         ensures list { IfOk result (λ s. s.list ≡ deps.now) }
-        ensures places { IfOk result (λ s. length deps.now + more ≤ s.places) }
+        ensures places { IfOk result (λ s. s.places ≡ length deps.now + more) }
     {
         let entries = deps.entries();
         let mut list = Vec::with_capacity(alloc, entries.len() + more as usize)?;

@@ -10,8 +10,6 @@
 mod credits;
 mod pending;
 mod rings;
-#[cfg(test)]
-mod tests;
 
 pub use credits::Credits;
 pub use pending::Pending;

@@ -7,8 +7,6 @@
 
 mod key;
 mod queue;
-#[cfg(test)]
-mod tests;
 
 pub use key::Key;
 pub use queue::RunQueue;

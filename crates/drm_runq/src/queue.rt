@@ -91,7 +91,8 @@ impl RunQueue {
         ensures none { IfNone result (NoneReady (F.post ready) self.now) }
     {
         for place in &self.order {
-            if ready(place.entity) {
+            let is_ready = ready(place.entity);
+            if is_ready {
                 return Some(place.entity);
             }
         }

@@ -8,8 +8,6 @@
 
 mod laws;
 mod serial;
-#[cfg(test)]
-mod tests;
 
 pub use laws::{next_packet_runs_last, serial_keeps_sizes};
 pub use serial::{Serial, Turn};

@@ -11,8 +11,6 @@ mod outcome;
 mod sequence;
 mod spec;
 mod spec_check;
-#[cfg(test)]
-mod tests;
 
 pub use access::{Access, Usage, adds, wanted};
 pub use ids::{BufferId, CtxId, EntityId, FenceId, Moment, RingId, Ticket};

@@ -11,12 +11,12 @@ clear-requires-clause-there c =
     let counted = c.loop-of.invariant.linked.counted in
     omega (arith, c.requires.there, c.loop-of-test.true, c.loop-of.invariant.entities, counted.room)
 
-pub returns-then-index-eq0-clause-pairs : goal.returns-then-index-eq0-clause-pairs
-returns-then-index-eq0-clause-pairs c =
+pub returns-then-is_done-clause-pairs : goal.returns-then-is_done-clause-pairs
+returns-then-is_done-clause-pairs c =
     let counted = c.loop-of.invariant.linked.counted in
     let there : c.args.entity < length c.loop-of.self.unmet.items = omega (arith, c.requires.there, c.loop-of.invariant.entities) in
     sym (filter_kept (λ p. not (p.entity == c.args.entity)) c.loop-of.self.cells.items
-    (λ k p at. ap not (differs p.entity c.args.entity (λ same. none_waits _ _ c.args.entity _ k p counted there c.index.ensures c.if-index-eq0.true at same))))
+    (λ k p at. ap not (differs p.entity c.args.entity (λ same. none_waits _ _ c.args.entity _ k p counted there c.index.ensures c.if-is_done.true at same))))
     ∙ c.loop-of.invariant.kept
 
 pub loop-of-preserved : goal.loop-of-preserved

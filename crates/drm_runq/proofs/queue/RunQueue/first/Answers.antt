@@ -3,14 +3,14 @@ use Rattle.std.proofs.lemmas.Option.{slice_get-get_or}
 use Rattle.drm_runq.proofs.Kept.{first_found, none_found, one_more_no}
 use Rattle.drm_runq.proofs.queue.RunQueue.first.Goals as goal
 
-pub returns-then-ready-clause-found : goal.returns-then-ready-clause-found
-returns-then-ready-clause-found g c =
+pub returns-then-is_ready-clause-found : goal.returns-then-is_ready-clause-found
+returns-then-is_ready-clause-found g c =
     first_found _ _ _ _ _ _ _ c.self.view_is c.deref-place-items.ensures.value c.self.invariant.0 (slice_get-get_or _ _ _ c.loop-place-test.true)
-    c.if-ready.ensures c.loop-place.invariant
+    c.if-is_ready.ensures c.loop-place.invariant
 
 pub loop-place-preserved : goal.loop-place-preserved
 loop-place-preserved g c =
-    one_more_no _ (λ e. goal.F-post g c.args.ready e false) _ _ (slice_get-get_or _ _ _ c.loop-place-test.true) c.if-ready.ensures c.loop-place.invariant
+    one_more_no _ (λ e. goal.F-post g c.args.ready e false) _ _ (slice_get-get_or _ _ _ c.loop-place-test.true) c.if-is_ready.ensures c.loop-place.invariant
 
 pub returns-clause-none : goal.returns-clause-none
 returns-clause-none g c =

@@ -1,0 +1,6 @@
+use Rattle.std.proofs.Common.{rules, arith}
+use Rattle.std.proofs.lemmas.Grind.{common_steps}
+use Rattle.drm_fence.proofs.timeline.Timeline.is_full.Goals as goal
+
+pub returns : goal.returns
+returns c = search rules

@@ -1,0 +1,9 @@
+use Rattle.std.proofs.Common.{rules, arith}
+use Rattle.std.proofs.lemmas.Grind.{common_steps}
+use Rattle.drm_fence.proofs.timeline.Timeline.status.Goals as goal
+
+pub returns-in-Some-clause-not_armed : goal.returns-in-Some-clause-not_armed
+returns-in-Some-clause-not_armed c = search rules
+
+pub returns-in-None-clause-ok : goal.returns-in-None-clause-ok
+returns-in-None-clause-ok c = search rules

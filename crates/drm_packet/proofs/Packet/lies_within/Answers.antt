@@ -1,0 +1,9 @@
+use Rattle.std.proofs.Common.{rules, arith}
+use Rattle.std.proofs.lemmas.Grind.{common_steps}
+use Rattle.drm_packet.proofs.Packet.lies_within.Goals as goal
+
+pub returns-then-is_range : goal.returns-then-is_range
+returns-then-is_range c = search rules
+
+pub returns-else-is_range : goal.returns-else-is_range
+returns-else-is_range c = search rules

@@ -1,0 +1,6 @@
+use Rattle.std.proofs.Common.{rules, arith}
+use Rattle.std.proofs.lemmas.Grind.{common_steps}
+use Rattle.drm_packet.proofs.Packet.writes.Goals as goal
+
+pub returns-in-Fill : goal.returns-in-Fill
+returns-in-Fill c = search rules

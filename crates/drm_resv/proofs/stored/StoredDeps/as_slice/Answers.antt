@@ -1,0 +1,6 @@
+use Rattle.std.proofs.Common.{rules, arith}
+use Rattle.std.proofs.lemmas.Grind.{common_steps}
+use Rattle.drm_resv.proofs.stored.StoredDeps.as_slice.Goals as goal
+
+pub returns-clause-list : goal.returns-clause-list
+returns-clause-list c = search rules

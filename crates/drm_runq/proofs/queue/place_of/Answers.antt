@@ -1,0 +1,6 @@
+use Rattle.std.proofs.Common.{rules, arith}
+use Rattle.std.proofs.lemmas.Grind.{common_steps}
+use Rattle.drm_runq.proofs.queue.place_of.Goals as goal
+
+pub returns-clause-after : goal.returns-clause-after
+returns-clause-after c = search rules

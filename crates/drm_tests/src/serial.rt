@@ -1,0 +1,65 @@
+//! A worked list of turns.
+ghost use Rattle.std.specs.Prelude.{IfOk};
+ghost use Rattle.drm_job.specs.Ranges.{RunsIn};
+
+use crate::{add, buffers_of, device};
+use drm_job::{Draft, Job, check};
+use drm_serial::{Serial, Turn};
+use drm_types::{Access, BufferId, DeviceSpec, Sequence};
+use std::alloc::Global;
+use std::test::Fail;
+
+// A job that adds one buffer to the other, so many times.
+fn adding_job(
+    alloc: Global,
+    spec: &DeviceSpec,
+    source: u32,
+    target: u32,
+    times: usize,
+) -> Result<Job, Fail>
+    ensures { IfOk result (λ job. RunsIn spec.now.buffers job) }
+{
+    let declared = [
+        (BufferId::new(target), Access::Write),
+        (BufferId::new(source), Access::Read),
+    ];
+    let draft = Draft {
+        entity: 0,
+        credits: 1,
+        declared: Sequence::from_vec(Vec::from_slice(alloc, &declared)?),
+        after: Sequence::new(alloc),
+        packets: Sequence::from_vec(vec![in alloc; add((source, 0), (target, 0), 1); times]?),
+    };
+    match check(draft, spec) {
+        Ok(job) => Ok(job),
+        Err((_draft, fault)) => Err(Fail::from(fault)),
+    }
+}
+
+#[test]
+fn turns_run_in_order(rt: HostRuntime) -> Result<(), Fail> {
+    let spec = device(
+        rt.alloc(),
+        buffers_of(rt.alloc(), &[&[0], &[1]])?,
+        (1, 4),
+        1,
+        8,
+    )?;
+    let first = adding_job(rt.alloc(), &spec, 1, 0, 3)?;
+    let second = adding_job(rt.alloc(), &spec, 0, 1, 1)?;
+    let turns = [
+        Turn {
+            job: &first,
+            ran: 2,
+        },
+        Turn {
+            job: &second,
+            ran: 1,
+        },
+    ];
+    let buffers = Serial::run(rt.alloc(), &spec.buffers, &turns)?;
+    assert_eq!(rt; buffers.len(), 2);
+    assert_eq!(rt; buffers.as_slice()[0].as_slice(), [2].as_slice());
+    assert_eq!(rt; buffers.as_slice()[1].as_slice(), [3].as_slice());
+    Ok(())
+}
