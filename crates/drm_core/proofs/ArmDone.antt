@@ -16,7 +16,7 @@ use Rattle.drm_job.specs.declared.Draft.{Draft}
 use Rattle.drm_job.specs.declared.JobFault.TheVariants.{NoEntity}
 use Rattle.drm_job.specs.Conflicts.{conflicts}
 use Rattle.drm_job.specs.Fault.{job_tests, IsJob}
-use Rattle.drm_job.proofs.Within.{none_first, none_at, none_when}
+use Rattle.drm_types.proofs.Firsts.{none_first, none_at, none_when}
 use Rattle.drm_fence.specs.declared.phase.Phase.TheVariants.{Queued}
 use Rattle.drm_fence.specs.Fences.{Fences}
 use Rattle.drm_entity.specs.Rows.{EntityRows, pushed}

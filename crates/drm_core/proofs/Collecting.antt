@@ -15,9 +15,10 @@ use Rattle.drm_job.specs.declared.Draft.{Draft}
 use Rattle.drm_job.specs.declared.JobFault.TheVariants.{NoBuffer, DeclaredTwice}
 use Rattle.drm_job.specs.Conflicts.{must_wait, conflicts}
 use Rattle.drm_job.specs.Fault.{repeat_after, buffers_of, job_tests, IsJob}
-use Rattle.drm_job.proofs.Apart.{find_found, conflicts_at}
-use Rattle.drm_job.proofs.Repeats.{first_of_one}
-use Rattle.drm_job.proofs.Within.{none_first, none_at}
+use Rattle.drm_types.proofs.Firsts.{find_found}
+use Rattle.drm_job.proofs.Apart.{conflicts_at}
+use Rattle.drm_types.proofs.Firsts.{first_of_one}
+use Rattle.drm_types.proofs.Firsts.{none_first, none_at}
 use Rattle.drm_fence.specs.declared.phase.Phase.{Phase}
 use Rattle.drm_fence.specs.declared.phase.Phase.TheVariants.{Queued, Scheduled, Ended}
 use Rattle.drm_fence.specs.Phases.{has_ended, outcome_of}

@@ -5,7 +5,7 @@ use Rattle.std.specs.Prelude.{is_none, nat_lt}
 use Rattle.std.proofs.lemmas.Bool.{ltb-false, not-false}
 use Rattle.std.proofs.lemmas.List.{length-set, length-map}
 use Rattle.drm_types.specs.Firsts.{when}
-use Rattle.drm_job.proofs.Within.{none_first}
+use Rattle.drm_types.proofs.Firsts.{none_first}
 use Rattle.drm_packet.specs.declared.Packet.{Packet}
 use Rattle.drm_types.specs.declared.outcome.Outcome.TheVariants as outcome
 use Rattle.drm_core.specs.declared.event.Answer.{Answer}

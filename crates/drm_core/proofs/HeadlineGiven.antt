@@ -7,7 +7,7 @@ use Rattle.std.proofs.lemmas.Bool.{cases_eq, both_ways, eqb-true}
 use Rattle.drm_types.specs.Firsts.{when, first_of}
 use Rattle.drm_types.specs.declared.spec.DeviceSpec.{DeviceSpec}
 use Rattle.drm_buffer.specs.Memory.{bytes_of}
-use Rattle.drm_job.proofs.Within.{none_first}
+use Rattle.drm_types.proofs.Firsts.{none_first}
 use Rattle.drm_core.specs.declared.event.Answer.{Answer}
 use Rattle.drm_core.specs.declared.event.Answer.TheVariants as answer
 use Rattle.drm_core.specs.declared.event.Event.{Event}

@@ -10,7 +10,7 @@ use Rattle.drm_types.specs.declared.spec.RingSpec.{RingSpec}
 use Rattle.drm_buffer.specs.Memory.{bytes_of}
 use Rattle.drm_serial.specs.Serial.{serial}
 use Rattle.drm_job.specs.Fault.{IsJob}
-use Rattle.drm_job.proofs.Within.{none_first, none_when}
+use Rattle.drm_types.proofs.Firsts.{none_first, none_when}
 use Rattle.drm_fence.specs.declared.phase.Phase.{Phase}
 use Rattle.drm_fence.specs.declared.phase.Phase.TheVariants.{Queued, Scheduled, Ended}
 use Rattle.drm_fence.specs.Phases.{has_ended, status_of}

@@ -15,7 +15,7 @@ use Rattle.drm_types.specs.declared.access.Usage.TheVariants.{Write}
 use Rattle.drm_types.specs.declared.spec.DeviceSpec.{DeviceSpec}
 use Rattle.drm_job.specs.declared.Draft.{Draft}
 use Rattle.drm_job.specs.Fault.{job_fault, buffers_of}
-use Rattle.drm_job.proofs.Within.{none_first, none_when}
+use Rattle.drm_types.proofs.Firsts.{none_first, none_when}
 use Rattle.drm_fence.specs.Phases.{has_ended}
 use Rattle.drm_core.specs.declared.event.Answer.{Answer}
 use Rattle.drm_core.specs.declared.event.Answer.TheVariants as answer

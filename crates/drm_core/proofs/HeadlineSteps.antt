@@ -19,7 +19,8 @@ use Rattle.drm_buffer.specs.Memory.{bytes_of}
 use Rattle.drm_job.specs.declared.Draft.{Draft}
 use Rattle.drm_job.specs.Uses.{access_of, may_write, can_write}
 use Rattle.drm_job.proofs.Apart.{IsWithin}
-use Rattle.drm_job.proofs.Within.{none_first, stays_within}
+use Rattle.drm_types.proofs.Firsts.{none_first}
+use Rattle.drm_job.proofs.Within.{stays_within}
 use Rattle.drm_serial.proofs.Commute.{within_at}
 use Rattle.drm_fence.specs.Phases.{has_ended}
 use Rattle.drm_fence.specs.declared.phase.Phase.{Phase}

@@ -40,7 +40,7 @@ use Rattle.drm_core.specs.Outcomes.{context_changed}
 use Rattle.std.specs.Vec.{with_item}
 use Rattle.drm_types.specs.Limits.{spec_fault, is_between, whole}
 use Rattle.drm_types.specs.declared.spec.DeviceSpec.{DeviceSpec}
-use Rattle.drm_job.proofs.Within.{none_first, none_when}
+use Rattle.drm_types.proofs.Firsts.{none_first, none_when}
 
 -- the number of the first that is found is its place
 find_numbered : {X : Type 0} (p : X → Bool) (n : ℕ) (xs : List X) → option_map (λ (e : ℕ × X). e.0) (find (λ (e : ℕ × X). p e.1) (enumerate_from n xs)) ≡ position_from p n xs

@@ -18,7 +18,7 @@ use Rattle.drm_types.specs.Limits.{spec_fault, whole, each, is_between}
 use Rattle.drm_job.specs.declared.Draft.{Draft}
 use Rattle.drm_job.specs.declared.JobFault.TheVariants.{NoCredits}
 use Rattle.drm_job.specs.Fault.{job_tests, IsJob}
-use Rattle.drm_job.proofs.Within.{none_at}
+use Rattle.drm_types.proofs.Firsts.{none_at}
 use Rattle.drm_fence.specs.declared.phase.Phase.TheVariants.{Scheduled}
 use Rattle.drm_fence.specs.Fences.{Fences}
 use Rattle.drm_entity.specs.Rows.{EntityRows, queue_at, popped}

@@ -10,7 +10,7 @@ use Rattle.drm_types.specs.Firsts.{when, first_of}
 use Rattle.drm_types.specs.declared.access.Access.{Access}
 use Rattle.drm_job.specs.declared.Draft.{Draft}
 use Rattle.drm_job.specs.Fault.{job_fault, IsJob, buffers_of}
-use Rattle.drm_job.proofs.Repeats.{first_of_one}
+use Rattle.drm_types.proofs.Firsts.{first_of_one}
 use Rattle.drm_core.specs.declared.event.Answer.{Answer}
 use Rattle.drm_core.specs.declared.event.Answer.TheVariants as answer
 use Rattle.drm_core.specs.declared.event.Event.TheVariants as event

@@ -7,7 +7,7 @@ use Rattle.std.proofs.lemmas.Bool.{both_ways, or_left, or_from, not-true, cases_
 use Rattle.drm_packet.specs.declared.Packet.{Packet}
 use Rattle.drm_packet.specs.Effect.{effect}
 use Rattle.drm_job.specs.Conflicts.{conflicts}
-use Rattle.drm_job.proofs.Apart.{find_found}
+use Rattle.drm_types.proofs.Firsts.{find_found}
 use Rattle.drm_job.proofs.Within.{stays_within}
 use Rattle.drm_serial.specs.Serial.{serial}
 use Rattle.drm_serial.proofs.Commute.{packet_more, LaterAreApart, IsApartFrom, turn_apart, within_at}

@@ -17,7 +17,7 @@ use Rattle.drm_job.specs.declared.Draft.{Draft}
 use Rattle.drm_job.specs.declared.DraftList.TheVariants.{Packets}
 use Rattle.drm_job.specs.declared.JobFault.TheVariants.{NoEntity, TooMany}
 use Rattle.drm_job.specs.Fault.{job_tests, IsJob}
-use Rattle.drm_job.proofs.Within.{none_at, none_when}
+use Rattle.drm_types.proofs.Firsts.{none_at, none_when}
 use Rattle.drm_job.proofs.InRange.{runs_in}
 use Rattle.drm_fence.specs.declared.timeline.FenceState.{FenceState}
 use Rattle.drm_fence.specs.declared.phase.Phase.{Phase}

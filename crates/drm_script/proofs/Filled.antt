@@ -8,7 +8,7 @@ use Rattle.drm_types.specs.declared.spec.BadSpec.{BadSpec}
 use Rattle.drm_types.specs.declared.spec.DeviceSpec.{DeviceSpec}
 use Rattle.drm_types.specs.Limits.{is_between, each, spec_fault}
 use Rattle.drm_text.specs.Grammar.{AreBytes}
-use Rattle.drm_job.proofs.Within.{none_at}
+use Rattle.drm_types.proofs.Firsts.{none_at}
 use Rattle.drm_core.proofs.PickDone.{spec_tests}
 use Rattle.drm_script.specs.JournalGrammar.{HasBytes}
 
