@@ -1,5 +1,4 @@
-use Rattle.std.proofs.Common.{rules, arith}
-use Rattle.std.proofs.lemmas.Grind.{common_steps}
+use Rattle.std.proofs.Common.{rules}
 use Rattle.drm_core.proofs.choice.Candidate.goes_first.Goals as goal
 
 pub returns-then-rank-other_rank-2 : goal.returns-then-rank-other_rank-2
