@@ -1,8 +1,7 @@
 -- The job that a ring takes next is the least that may begin.
-use Rattle.std.proofs.Common.{◌≡◌, ℕ, zero, suc, ◌+◌, ◌<◌, ◌≤◌, Bool, true, false, not, cond, ◌&&◌, ◌==◌, List, [], ◌∷◌, ◌++◌, length, map, Some, None, Option, refl, sym, ap, subst, ◌∙◌, inl, inr, ◌⊎◌, arith, slice_get}
+use Rattle.std.proofs.Common.{◌≡◌, ℕ, zero, suc, ◌+◌, ◌<◌, ◌≤◌, Bool, true, false, not, cond, ◌&&◌, ◌==◌, List, [], ◌∷◌, ◌++◌, Some, None, Option, refl, sym, ap, subst, ◌∙◌, inl, inr, ◌⊎◌, arith, slice_get}
 use Rattle.std.specs.Prelude.{filter, find, option_map}
 use Rattle.std.specs.Option.{option_map_or}
-use Rattle.std.specs.List.{flat_map}
 use Rattle.std.proofs.lemmas.Bool.{and_parts, and_from, eqb-true, eq-eqb, both_ways, cases_Bool, cases_eq, cases_lt}
 use Rattle.std.proofs.lemmas.Option.{slice_get_within}
 use Rattle.drm_types.specs.Firsts.{first}
@@ -16,9 +15,8 @@ use Rattle.drm_core.specs.State.{EntityState, DeviceState}
 use Rattle.drm_core.specs.Journal.{numbered}
 use Rattle.drm_core.specs.Arming.{ring_of}
 use Rattle.drm_core.specs.Order.{is_ready}
-use Rattle.drm_core.specs.Choice.{queue_of, is_head_of, may_begin, ready_heads, choice}
-use Rattle.drm_core.specs.Chosen.{IsFirstQueued, MayBegin, rank_at, GoesBefore, IsLeast, NoneMayBegin, ChoosesLeast, ChoiceIsLeast}
-use Rattle.drm_core.specs.Ring.{is_stopped}
+use Rattle.drm_core.specs.Choice.{is_head_of, may_begin, ready_heads, choice}
+use Rattle.drm_core.specs.Chosen.{IsFirstQueued, MayBegin, rank_at, GoesBefore, IsLeast, NoneMayBegin, ChoiceIsLeast}
 use Rattle.drm_core.specs.Steady.{IsSteady}
 use Rattle.drm_core.proofs.ChoiceIs.{is_ready_head, is_queued_of, numbered_get, get_numbered, first-filter, head_of_queue}
 use Rattle.drm_core.proofs.ChoiceByKeys.{find_at, first_map}

@@ -1,5 +1,5 @@
 -- How a device over plain tables finds the job that a ring takes next.
-use Rattle.std.specs.Prelude.{◌≡◌, ℕ, ◌<◌, Bool, true, false, List, [], length, map, Option, Some, None, slice_get, IsTrue, IsFalse, if◌then◌else◌}
+use Rattle.std.specs.Prelude.{◌≡◌, ℕ, ◌<◌, Bool, true, false, List, [], length, map, Option, Some, None, slice_get, IsFalse, if◌then◌else◌}
 use Rattle.drm_types.specs.declared.spec.DeviceSpec.{DeviceSpec}
 use Rattle.drm_fence.specs.Phases.{has_ended}
 use Rattle.drm_entity.specs.Rows.{EntityRow, EntityRows, queue_at}

@@ -1,13 +1,13 @@
-use Rattle.std.proofs.Common.{◌≡◌, ◌<◌, ◌==◌, ◌&&◌, ◌∙◌, not, true, false, sym, ap, subst, inl, inr, length, slice_get}
+use Rattle.std.proofs.Common.{◌≡◌, ◌<◌, ◌==◌, ◌∙◌, not, sym, ap, subst, length, slice_get}
 use Rattle.std.specs.List.{list_all}
 use Rattle.std.specs.Prelude.{IfSome}
-use Rattle.std.proofs.lemmas.Bool.{and_parts, cases_Bool, eqb-true, eqb-false}
+use Rattle.std.proofs.lemmas.Bool.{and_parts, eqb-true}
 use Rattle.std.proofs.lemmas.Option.{slice_get-get_or}
 use Rattle.drm_core.specs.Journal.{is_at}
-use Rattle.drm_core.specs.Order.{is_met, is_ready}
+use Rattle.drm_core.specs.Order.{is_met}
 use Rattle.drm_core.specs.Plain.{marks_of, marks}
 use Rattle.drm_core.proofs.Records.{to_map, stands_within, at_index}
-use Rattle.drm_core.proofs.Candidates.{IsLook, other_ring, not_ready, is_candidate, ready_by_waits, not_picked, active_is}
+use Rattle.drm_core.proofs.Candidates.{IsLook, is_candidate, ready_by_waits, not_picked, active_is}
 use Rattle.drm_core.proofs.Queues.{head_there}
 use Rattle.drm_core.proofs.choice.candidate_of.Goals as goal
 

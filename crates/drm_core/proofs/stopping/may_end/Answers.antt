@@ -1,5 +1,4 @@
-use Rattle.std.proofs.Common.{rules, arith}
-use Rattle.std.proofs.lemmas.Grind.{common_steps}
+use Rattle.std.proofs.Common.{rules}
 use Rattle.drm_core.proofs.stopping.may_end.Goals as goal
 
 pub returns-then-have_outcomes : goal.returns-then-have_outcomes

@@ -1,5 +1,4 @@
-use Rattle.std.proofs.Common.{rules, arith}
-use Rattle.std.proofs.lemmas.Grind.{common_steps}
+use Rattle.std.proofs.Common.{rules}
 use Rattle.drm_core.proofs.device_calls.Device.build.Goals as goal
 
 pub returns-in-Err-clause-err : goal.returns-in-Err-clause-err

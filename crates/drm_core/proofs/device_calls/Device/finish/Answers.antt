@@ -1,4 +1,4 @@
-use Rattle.std.proofs.Common.{◌<◌, length, sym, subst}
+use Rattle.std.proofs.Common.{rules, ◌<◌, length, sym, subst}
 use Rattle.drm_core.specs.Grows.{Grows}
 use Rattle.drm_core.specs.State.{DeviceState}
 use Rattle.drm_core.specs.Tables.{state_of}
@@ -10,3 +10,6 @@ returns-clause-grows c =
     subst (λ (d : DeviceState). Grows d (state_of c.finish.new.self)) c.self.view_is
     (finish_grown c.self.inside.table c.finish.new.self c.args.ring c.args.now c.finish.result c.self.invariant
     (subst (λ (d : DeviceState). c.args.ring < length d.spec.rings) (sym c.self.view_is) c.requires.there) c.finish.ensures.finished c.finish.ensures.refused)
+
+pub returns-clause-refused : goal.returns-clause-refused
+returns-clause-refused c = search rules

@@ -1,4 +1,4 @@
-use Rattle.std.proofs.Common.{subst}
+use Rattle.std.proofs.Common.{rules, subst}
 use Rattle.drm_core.specs.Grows.{Grows}
 use Rattle.drm_core.specs.State.{DeviceState}
 use Rattle.drm_core.specs.Tables.{state_of}
@@ -9,3 +9,6 @@ pub returns-clause-grows : goal.returns-clause-grows
 returns-clause-grows c =
     subst (λ (d : DeviceState). Grows d (state_of c.reap.new.self)) c.self.view_is
     (reap_grown c.self.inside.table c.reap.new.self c.args.entity c.reap.result c.self.invariant c.reap.ensures.reaped c.reap.ensures.refused)
+
+pub returns-clause-refused : goal.returns-clause-refused
+returns-clause-refused c = search rules

@@ -1,6 +1,8 @@
-use Rattle.std.proofs.Common.{rules, arith}
-use Rattle.std.proofs.lemmas.Grind.{common_steps}
+use Rattle.std.proofs.Common.{rules}
 use Rattle.drm_core.proofs.event.Event.names_exist.Goals as goal
 
 pub returns-in-Begin : goal.returns-in-Begin
 returns-in-Begin c = search rules
+
+pub returns-in-Cancel : goal.returns-in-Cancel
+returns-in-Cancel c = search rules

@@ -1,4 +1,4 @@
-use Rattle.std.proofs.Common.{rules, ◌∙◌, sym}
+use Rattle.std.proofs.Common.{◌∙◌, sym}
 use Rattle.std.proofs.lemmas.Option.{slice_get_within}
 use Rattle.drm_reset.specs.declared.verdict.Verdict.TheVariants as verdict
 use Rattle.drm_core.specs.Tables.{state_of}
