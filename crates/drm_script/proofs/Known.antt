@@ -1,8 +1,8 @@
 -- Known bytes of readers and writers.
-use Rattle.std.proofs.Common.{◌≡◌, ◌<◌, ◌≤◌, ℕ, ◌+◌, List, [], ◌++◌, length, take, drop, append_assoc, append-nil, take-add, Option, Some, None, Result, Err, ap, sym, ◌∙◌, arith, inl, inr}
+use Rattle.std.proofs.Common.{◌≡◌, ◌<◌, ◌≤◌, ℕ, ◌+◌, List, [], length, take, drop, append-nil, take-add, Option, Some, None, Result, Err, ap, sym, ◌∙◌, arith, inl, inr}
 use Rattle.std.specs.Prelude.{IfSome}
 use Rattle.std.specs.Io.KnownBytes.{Appends, Consumes, IsAtEnd, Keeps}
-use Rattle.std.proofs.KnownBytes.{Consumes-trans}
+use Rattle.std.proofs.KnownBytes.{Appends-trans, Consumes-trans}
 use Rattle.std.proofs.Math.ListN.{drop_of_length-le}
 use Rattle.std.proofs.Math.Seq.{drop-append_seam, take-append_seam}
 use Rattle.std.proofs.Common.{lt-ltb}
@@ -53,16 +53,7 @@ reads_front old new room len most within few end a =
 
 -- what was written, and then more of the rest
 pub appends_more : (old mid new : Option (List ℕ)) (bytes : List ℕ) (k n : ℕ) → Appends old mid (take k bytes) → Appends mid new (take n (drop k bytes)) → Appends old new (take (k + n) bytes)
-appends_more None mid new bytes k n a b = tt
-appends_more (Some xs) None new bytes k n a b = absurd a
-appends_more (Some xs) (Some ys) None bytes k n a b = absurd b
-appends_more (Some xs) (Some ys) (Some zs) bytes k n a b = rw (b, a, append_assoc) (ap (λ (t : List ℕ). xs ++ t) (sym (take-add k n bytes)))
-
-pub appends_kept : (old mid new : Option (List ℕ)) (bytes : List ℕ) → Appends old mid bytes → Keeps mid new → Appends old new bytes
-appends_kept None mid new bytes a b = tt
-appends_kept (Some xs) None new bytes a b = absurd a
-appends_kept (Some xs) (Some ys) None bytes a b = absurd b
-appends_kept (Some xs) (Some ys) (Some zs) bytes a b = b ∙ a
+appends_more old mid new bytes k n a b = rw (take-add k n bytes) (Appends-trans old mid new (take k bytes) (take n (drop k bytes)) a b)
 
 -- a text that is too long is seen to be by its first bytes
 pub judge_script_taken : (text : List ℕ) → judge_script (take 1048577 text) ≡ judge_script text
