@@ -95,18 +95,16 @@ impl<W: Ward> Board<W> {
             let Err(refusal) = self.try_lock(acquire, buffer) else {
                 return Ok(());
             };
-            let holder = match refusal {
+            let (holder, is_older) = match refusal {
                 TryLockError::Sealed => return Err(LockError::Sealed),
                 TryLockError::Already => return Err(LockError::Already),
-                TryLockError::Older { holder } => {
-                    let holds_something = acquire.held.len() > 0;
-                    if holds_something {
-                        return Err(LockError::Backoff { holder });
-                    }
-                    holder
-                }
-                TryLockError::Younger { holder } => holder,
+                TryLockError::Older { holder } => (holder, true),
+                TryLockError::Younger { holder } => (holder, false),
             };
+            let backs_off = is_older && acquire.held.len() > 0;
+            if backs_off {
+                return Err(LockError::Backoff { holder });
+            }
             let low = (holder & 0xffff_ffff) as u32;
             self.sleepers
                 .pause(&self.table.shared, &backoff, word, low, rt);

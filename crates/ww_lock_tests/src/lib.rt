@@ -5,11 +5,15 @@
 //! and looks, `tasks` begins and ends a task, `appending` and `counting` run threads.
 #![tactic(auto)]
 
-ghost use Rattle.std.specs.Prelude.{◌≡◌, ◌<◌, All, [], IfOk, IfSome};
+ghost use Rattle.std.specs.Prelude.{◌≡◌, ◌<◌, ◌≤◌, ℕ, All, [], Some, vec_capacity, IfOk, IfSome};
 ghost use Rattle.atomic_table.specs.Seated.{TableId};
 ghost use Rattle.ww_lock.specs.Acquiring.{IsReady};
-ghost use Rattle.ww_lock.specs.Begun.{IsIdle};
+ghost use Rattle.ww_lock.specs.Begun.{IsIdle, IsSeat, sees};
 ghost use Rattle.ww_lock.specs.Boards.{table_of};
+ghost use Rattle.ww_lock.specs.Lifetime.{HasAll};
+ghost use Rattle.ww_lock.specs.Rule.{In};
+ghost use lib.ListN.{get_elem?};
+ghost use mathlib.Core.Option.{some};
 
 #[cfg(test)]
 mod appending;
@@ -66,11 +70,26 @@ pub type CountingSeat = Seat<u64, u64, ()>;
 pub fn board_of_two(alloc: Global) -> Result<(Board<Counters>, CountingSeat), AllocError>
     ensures seat { IfOk result (λ t. IsIdle (table_of t.0) t.1) }
     ensures board { IfOk result (λ t. t.0.buffers ≡ 2) }
+    ensures whole { IfOk result (λ t. HasAll (sees t.1)) }
 {
     let mut values = Vec::with_capacity(alloc, 2)?;
     values.push_reserved(5u64);
     values.push_reserved(6u64);
     Board::<Counters>::new(alloc, 1, values, 0)
+}
+
+/// Closes a board by the seat that has taken in all others: its pivot comes back as it was seen, and every value.
+pub fn close_whole(board: Board<Counters>, seat: CountingSeat, out: &mut Vec<Option<u64>>) -> u64
+    requires seat { IsSeat (table_of board) seat }
+    requires whole { HasAll (sees seat) }
+    requires out { (out.old.items ≡ []) × (board.buffers ≤ vec_capacity out.old) }
+    ensures pivot { In result (sees seat).pivot.seen }
+    ensures values { (b : ℕ) → b < board.buffers → (x : ℕ) × (get_elem? out.new.items b ≡ some (Some x)) }
+{
+    match board.close(seat, out) {
+        Ok(pivot) => pivot,
+        Err(_inside) => unreachable!(),
+    }
 }
 
 /// Locks each buffer of the order that is not held yet, or answers the one for which the caller has to back off.

@@ -4,7 +4,7 @@ ghost use Rattle.ww_lock.specs.Acquiring.{IsReady};
 ghost use Rattle.ww_lock.specs.Begun.{IsIdle};
 ghost use Rattle.ww_lock.specs.Boards.{table_of};
 
-use crate::{Counters, Counting, CountingSeat, board_of_two, count_held, release_all};
+use crate::{Counters, Counting, CountingSeat, board_of_two, close_whole, count_held, release_all};
 use drm_types::BufferId;
 use std::alloc::Global;
 use std::process::Abort;
@@ -105,7 +105,7 @@ fn a_closed_board_gives_back_what_it_had(rt: HostRuntime) -> Result<(), Fail> {
     let (board, seat) = board_of_two(alloc)?;
     assert!(rt; board.buffers() == 2);
     let mut out = Vec::with_capacity(alloc, 2)?;
-    assert!(rt; board.close(seat, &mut out).is_ok_and(|pivot| pivot == 1));
-    assert!(rt; out[0] == Some(5) && out[1] == Some(6));
+    assert!(rt; close_whole(board, seat, &mut out) == 1);
+    assert!(rt; out.len() == 2 && out[0] == Some(5) && out[1] == Some(6));
     Ok(())
 }
