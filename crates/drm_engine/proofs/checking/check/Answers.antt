@@ -6,3 +6,6 @@ returns-in-Ok-put_all g c = search rules
 
 pub returns : goal.returns
 returns g c = search rules
+
+pub returns-in-Err : goal.returns-in-Err
+returns-in-Err g c = search rules
