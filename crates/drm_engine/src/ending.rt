@@ -20,7 +20,7 @@ pub enum Ending {
     NoInput,
     /// Memory was refused outside of an event. Nothing was written.
     NoMemory,
-    /// A write failed. What was written is the front of what was to be written.
+    /// A write failed. What was written is a front of what was to be written, and not all of it.
     NoOutput,
 }
 

@@ -1,0 +1,5 @@
+use Rattle.std.proofs.Common.{rules}
+use Rattle.drm_engine.proofs.ending.Ending.status.Goals as goal
+
+pub returns-in-Differs : goal.returns-in-Differs
+returns-in-Differs c = search rules
