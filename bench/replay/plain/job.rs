@@ -282,9 +282,10 @@ fn transfer(cursor: &mut Cursor) -> Option<[u32; 5]> {
 
 #[inline]
 fn field(cursor: &mut Cursor) -> Option<u32> {
-    if !cursor.takes(b":") {
+    if cursor.next() != b':' {
         return None;
     }
+    cursor.at += 1;
     cursor.digits(LARGEST).map(|value| value as u32)
 }
 

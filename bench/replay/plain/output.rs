@@ -4,7 +4,7 @@ use std::fs::File;
 use std::io::{self, Write};
 use std::os::fd::AsFd;
 
-const PIECE: usize = 1 << 16;
+const PIECE: usize = 1 << 15;
 /// Two digits for each byte, and a word before them.
 const LONGEST_LINE: usize = 2 * crate::header::BUFFER_LIMIT + 64;
 

@@ -155,10 +155,14 @@ impl<'t> Cursor<'t> {
         matches!(self.next(), b' ' | b'\n')
     }
 
-    /// Digits that spell a number up to the limit.
+    /// Digits that spell a number up to the limit, which is at least 9.
     #[inline(always)]
     pub fn digits(&mut self, limit: u64) -> Option<u64> {
         let rest = &self.text[self.at..];
+        if rest[0].is_ascii_digit() && !rest[1].is_ascii_digit() {
+            self.at += 1;
+            return Some(u64::from(rest[0] - b'0'));
+        }
         let mut value = 0_u64;
         let mut length = 0;
         for byte in rest {
@@ -173,7 +177,7 @@ impl<'t> Cursor<'t> {
         if length >= 20 {
             value = std::str::from_utf8(&rest[..length]).ok()?.parse().ok()?;
         }
-        let is_spelled = length == 1 || length > 1 && rest[0] != b'0';
+        let is_spelled = length > 1 && rest[0] != b'0';
         (is_spelled && value <= limit).then_some(value)
     }
 
