@@ -15,7 +15,7 @@ use drm_types::{
 };
 use std::alloc::{AllocError, Global};
 
-/// A packet, with its buffers, offsets and length in the order of the specification's words.
+/// A packet, with its buffers, offsets and length in the order of a script's words.
 #[derive(Clone, Copy)]
 pub enum Work {
     Fill(u32, u32, u32, u8),
