@@ -1,5 +1,4 @@
-use Rattle.std.proofs.Common.{rules, arith}
-use Rattle.std.proofs.lemmas.Grind.{common_steps}
+use Rattle.std.proofs.Common.{rules}
 use Rattle.drm_packet.proofs.Packet.lies_within.Goals as goal
 
 pub returns-then-is_range : goal.returns-then-is_range

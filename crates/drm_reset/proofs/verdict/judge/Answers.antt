@@ -1,5 +1,4 @@
-use Rattle.std.proofs.Common.{rules, arith}
-use Rattle.std.proofs.lemmas.Grind.{common_steps}
+use Rattle.std.proofs.Common.{rules}
 use Rattle.drm_reset.proofs.verdict.judge.Goals as goal
 
 pub returns-then-age-timeout : goal.returns-then-age-timeout

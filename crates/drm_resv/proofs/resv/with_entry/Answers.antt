@@ -1,5 +1,4 @@
-use Rattle.std.proofs.Common.{rules, arith}
-use Rattle.std.proofs.lemmas.Grind.{common_steps}
+use Rattle.std.proofs.Common.{rules}
 use Rattle.drm_resv.proofs.resv.with_entry.Goals as goal
 
 pub returns-then-not-is_as_strong_as : goal.returns-then-not-is_as_strong_as

@@ -1,5 +1,4 @@
-use Rattle.std.proofs.Common.{rules, arith}
-use Rattle.std.proofs.lemmas.Grind.{common_steps}
+use Rattle.std.proofs.Common.{rules}
 use Rattle.drm_runq.proofs.queue.is_before.Goals as goal
 
 pub returns-then-rank-other : goal.returns-then-rank-other

@@ -1,5 +1,4 @@
-use Rattle.std.proofs.Common.{rules, arith}
-use Rattle.std.proofs.lemmas.Grind.{common_steps}
+use Rattle.std.proofs.Common.{rules}
 use Rattle.drm_runq.proofs.queue.place_of.Goals as goal
 
 pub returns-clause-after : goal.returns-clause-after

@@ -1,5 +1,4 @@
-use Rattle.std.proofs.Common.{rules, arith}
-use Rattle.std.proofs.lemmas.Grind.{common_steps}
+use Rattle.std.proofs.Common.{rules}
 use Rattle.drm_fence.proofs.timeline.Timeline.status.Goals as goal
 
 pub returns-in-Some-clause-not_armed : goal.returns-in-Some-clause-not_armed

@@ -1,5 +1,4 @@
-use Rattle.std.proofs.Common.{rules, arith}
-use Rattle.std.proofs.lemmas.Grind.{common_steps}
+use Rattle.std.proofs.Common.{rules}
 use Rattle.drm_resv.proofs.entry.Entry.replaces.Goals as goal
 
 pub returns-then-is_as_strong_as : goal.returns-then-is_as_strong_as
