@@ -1,4 +1,3 @@
-use Rattle.ww_lock.specs.Boards.{table_of}
 use contract.Lifetimes.{Lfts}
 use denote.Param.{param}
 use denote.Param.Send.{IsSend, IsSync, sendable}

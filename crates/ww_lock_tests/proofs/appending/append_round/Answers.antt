@@ -3,9 +3,6 @@ use Rattle.ww_lock.specs.Held.{Lacks}
 use Rattle.ww_lock.specs.Rule.{In}
 use Rattle.ww_lock.proofs.Lists.{key_in}
 use Rattle.ww_lock.proofs.Trying.{lacks_same}
-use Rattle.ww_lock.specs.Acquiring.{IsReady}
-use Rattle.ww_lock.specs.Begun.{IsIdle}
-use Rattle.ww_lock.specs.Boards.{table_of}
 use Rattle.ww_lock_tests.proofs.appending.append_round.Goals as goal
 
 pub returns-in-Err-Memory : goal.returns-in-Err-Memory
