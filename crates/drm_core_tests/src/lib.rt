@@ -76,8 +76,8 @@ pub fn device(
     })
 }
 
-/// The packet of these numbers.
-pub fn packet_of(work: Work) -> Packet {
+// The packet of these numbers.
+fn packet_of(work: Work) -> Packet {
     match work {
         Work::Fill(buffer, offset, len, byte) => Packet::Fill {
             buffer: BufferId::new(buffer),
