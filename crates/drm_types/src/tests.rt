@@ -5,6 +5,10 @@ use crate::{
 use std::alloc::{AllocError, Global};
 use std::test::Fail;
 
+fn rings_of(alloc: Global, list: &[u32]) -> Result<Sequence<u32>, AllocError> {
+    Ok(Sequence::from_vec(Vec::from_slice(alloc, list)?))
+}
+
 // A device of one buffer, one ring and one entity.
 fn small(alloc: Global) -> Result<DeviceSpec, AllocError> {
     let mut bytes = Sequence::new(alloc);
@@ -19,7 +23,7 @@ fn small(alloc: Global) -> Result<DeviceSpec, AllocError> {
     })?;
     let mut entities = Sequence::new(alloc);
     entities.push(EntitySpec {
-        ring: 0,
+        rings: rings_of(alloc, &[0])?,
         priority: Priority::Normal,
     })?;
     Ok(DeviceSpec {
@@ -43,7 +47,7 @@ fn the_first_part_is_told(rt: HostRuntime) -> Result<(), Fail> {
     spec.max_jobs = 65_536;
     assert_eq!(rt; spec.check(), Err(BadSpec { part: 8, index: 0 }));
     spec.entities.push(EntitySpec {
-        ring: 1,
+        rings: rings_of(rt.alloc(), &[1])?,
         priority: Priority::Low,
     })?;
     assert_eq!(rt; spec.check(), Err(BadSpec { part: 7, index: 1 }));
