@@ -1,3 +1,4 @@
 pub mod Sizes
 pub mod Sums
 pub mod Written
+pub mod Stores

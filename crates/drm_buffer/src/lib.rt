@@ -5,7 +5,13 @@
 //! the source before they write, also where both ranges overlap.
 #![tactic(auto)]
 
+mod buffer;
 mod memory;
+mod place;
 mod ranges;
+mod store;
 
+pub use buffer::Buffer;
 pub use memory::{Memory, size_in};
+pub use place::Place;
+pub use store::Store;

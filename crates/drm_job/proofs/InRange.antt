@@ -19,7 +19,7 @@ use Rattle.drm_types.proofs.Firsts.{none_first, none_at, none_when}
 pub range_from_fault : (spec : DeviceSpec) (job : Draft) (n : ℕ) (p : Packet) → packet_fault spec job n p ≡ None → is_in_range p spec.buffers ≡ true
 range_from_fault spec job n p none =
     none_when (is_in_range p spec.buffers) (PacketRange n)
-    (none_at (packet_tests spec job n p) 2 (when (not (is_in_range p spec.buffers)) (PacketRange n)) none refl)
+    (none_at (packet_tests spec job n p) 3 (when (not (is_in_range p spec.buffers)) (PacketRange n)) none refl)
 
 -- packets without a fault are in range of each memory of these sizes
 pub range_each : (spec : DeviceSpec) (job : Draft) (memory : List (List ℕ)) (n : ℕ) (ps : List Packet) → sizes_of memory ≡ sizes_of spec.buffers
@@ -33,5 +33,5 @@ range_each spec job memory n (p ∷ ps) same none =
 -- a job of a device can run in each memory of its sizes
 pub runs_in : (spec : DeviceSpec) (job : Draft) (memory : List (List ℕ)) → IsJob spec job → sizes_of memory ≡ sizes_of spec.buffers → RunsIn memory job
 runs_in spec job memory none same =
-    let packets = none_at (job_tests spec job) 7 (first_of (map (λ p. packet_fault spec job p.0 p.1) (enumerate_from 0 job.packets))) none refl in
+    let packets = none_at (job_tests spec job) 8 (first_of (map (λ p. packet_fault spec job p.0 p.1) (enumerate_from 0 job.packets))) none refl in
     All-from_recursion (λ p. IsTrue (is_in_range p memory)) job.packets (range_each spec job memory 0 job.packets same packets)

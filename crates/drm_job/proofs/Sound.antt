@@ -8,15 +8,16 @@ use Rattle.std.proofs.lemmas.List.Elements.{All-weaker, All-from_recursion, recu
 use Rattle.std.proofs.lemmas.List.Folds.{list_all-append}
 use Rattle.std.proofs.lemmas.List.Sums.{AllPass-from_list_all, list_all-from_AllPass}
 use Rattle.drm_types.specs.declared.access.Access.{Access}
+use Rattle.drm_types.specs.declared.access.Access.TheVariants as access
 use Rattle.drm_types.specs.declared.spec.DeviceSpec.{DeviceSpec}
 use Rattle.drm_types.specs.Firsts.{when, first_of}
 use Rattle.drm_packet.specs.declared.Packet.{Packet}
 use Rattle.drm_packet.specs.Touches.{reads, writes, touches, is_in_range}
 use Rattle.drm_job.specs.declared.Draft.{Draft}
 use Rattle.drm_job.specs.declared.DraftList.TheVariants.{Declared, After, Packets}
-use Rattle.drm_job.specs.declared.JobFault.TheVariants.{NoEntity, NoCredits, TooMany, NoBuffer, DeclaredTwice, PacketUndeclared, PacketReadOnly, PacketRange}
-use Rattle.drm_job.specs.Uses.{access_of, may_read, may_write, is_declared, is_writable}
-use Rattle.drm_job.specs.Fault.{buffers_of, repeat_after, is_undeclared, packet_fault, job_tests, IsJob}
+use Rattle.drm_job.specs.declared.JobFault.TheVariants.{NoEntity, NoCredits, TooMany, NoBuffer, DeclaredTwice, MoveNotKernel, PacketUndeclared, PacketOnHold, PacketReadOnly, PacketRange}
+use Rattle.drm_job.specs.Uses.{access_of, may_read, may_write, can_read, can_write, is_declared, is_writable}
+use Rattle.drm_job.specs.Fault.{buffers_of, repeat_after, wrongly_moved, is_undeclared, is_on_hold, packet_fault, job_tests, IsJob}
 use Rattle.drm_job.specs.Sound.{IsSound}
 use Rattle.drm_job.proofs.Distinct.{distinct_from, none_repeats, IsNew}
 use Rattle.drm_job.proofs.InRange.{runs_in}
@@ -45,6 +46,7 @@ sound_from spec job none =
           (none_at (job_tests spec job) 4 (when (nat_lt 64 (length job.packets)) (TooMany Packets)) none refl));
       buffers = All-weaker (λ b. nat_le (length spec.buffers) b ≡ false) (λ b. b < length spec.buffers) (λ b fail. leb-false (length spec.buffers) b fail) (buffers_of job) fails;
       distinct = (distinct_from [] (buffers_of job) repeats).1;
+      moves = none_of_map MoveNotKernel (wrongly_moved spec job) (none_at (job_tests spec job) 7 (option_map MoveNotKernel (wrongly_moved spec job)) none refl);
       within = stays_within spec job none;
       ranges = runs_in spec job spec.buffers none refl;
     }
@@ -71,17 +73,36 @@ touches_declared job p read written =
     ∙ and_from (list_all (λ b. is_some (access_of job b)) (reads p)) (list_all (λ b. is_some (access_of job b)) (writes p))
     (all_declared job may_read (reads p) read) (all_declared job may_write (writes p) written)
 
+-- who may write may read
+pub writable_readable : (o : Option Access) → option_map_or may_write o false ≡ true → option_map_or may_read o false ≡ true
+writable_readable None never = never
+writable_readable (Some access.Read) never = refl
+writable_readable (Some access.Write) is = refl
+writable_readable (Some access.Hold) never = never
+writable_readable (Some access.Move) is = refl
+
+-- and touches nothing that is only held
+pub touches_readable : (job : Draft) (p : Packet) → is_declared job p ≡ true → is_writable job p ≡ true → list_all (can_read job) (touches p) ≡ true
+touches_readable job p read written =
+    list_all-append (can_read job) (reads p) (writes p)
+    ∙ and_from (list_all (can_read job) (reads p)) (list_all (can_read job) (writes p)) read
+    (list_all-from_AllPass (can_read job) (writes p)
+    (All-weaker (λ b. can_write job b ≡ true) (λ b. can_read job b ≡ true) (λ b is. writable_readable (access_of job b) is) (writes p)
+    (AllPass-from_list_all (can_write job) (writes p) written)))
+
 -- a packet that stays within, and within its buffers, has no fault
 pub no_packet_fault : (spec : DeviceSpec) (job : Draft) (n : ℕ) (p : Packet) → is_declared job p ≡ true → is_writable job p ≡ true
     → is_in_range p spec.buffers ≡ true → packet_fault spec job n p ≡ None
 no_packet_fault spec job n p read written in_range =
     let undeclared = when (is_undeclared job p) (PacketUndeclared n) in
+    let on_hold = when (is_on_hold job p) (PacketOnHold n) in
     let read_only = when (not (is_writable job p)) (PacketReadOnly n) in
     let range = when (not (is_in_range p spec.buffers)) (PacketRange n) in
-    none_more undeclared (read_only ∷ range ∷ [])
+    none_more undeclared (on_hold ∷ read_only ∷ range ∷ [])
     (none_where (is_undeclared job p) (PacketUndeclared n) (ap not (touches_declared job p read written)))
+    (none_more on_hold (read_only ∷ range ∷ []) (none_where (is_on_hold job p) (PacketOnHold n) (ap not (touches_readable job p read written)))
     (none_more read_only (range ∷ []) (none_where (not (is_writable job p)) (PacketReadOnly n) (ap not written))
-    (none_more range [] (none_where (not (is_in_range p spec.buffers)) (PacketRange n) (ap not in_range)) refl))
+    (none_more range [] (none_where (not (is_in_range p spec.buffers)) (PacketRange n) (ap not in_range)) refl)))
 
 -- packets that do have none, one after another
 pub no_faults : (spec : DeviceSpec) (job : Draft) (n : ℕ) (ps : List Packet)
@@ -111,6 +132,7 @@ job_from spec job sound =
     let packets = when (nat_lt 64 (length job.packets)) (TooMany Packets) in
     let missing = option_map NoBuffer (find (λ b. nat_le (length spec.buffers) b) (buffers_of job)) in
     let twice = option_map DeclaredTwice (repeat_after [] (buffers_of job)) in
+    let moved = option_map MoveNotKernel (wrongly_moved spec job) in
     let faulty = first_of (map (λ p. packet_fault spec job p.0 p.1) (enumerate_from 0 job.packets)) in
     let some : job.credits ≡ 0 → ⊥ = λ none. lt_ne (sym none) sound.credits in
     let fails : All (λ b. nat_le (length spec.buffers) b ≡ false) (buffers_of job) =
@@ -118,19 +140,20 @@ job_from spec job sound =
     let found : find (λ b. nat_le (length spec.buffers) b) (buffers_of job) ≡ None =
     finds_none (λ b. nat_le (length spec.buffers) b) (buffers_of job) (recursion_from_All (λ b. nat_le (length spec.buffers) b ≡ false) (buffers_of job) fails) in
     let once : repeat_after [] (buffers_of job) ≡ None = none_repeats [] (buffers_of job) (all_new (buffers_of job)) sound.distinct in
-    none_more entity (credits ∷ declared ∷ after ∷ packets ∷ missing ∷ twice ∷ faulty ∷ [])
+    none_more entity (credits ∷ declared ∷ after ∷ packets ∷ missing ∷ twice ∷ moved ∷ faulty ∷ [])
     (none_where (not (nat_lt job.entity (length spec.entities))) NoEntity (ap not (lt-ltb job.entity (length spec.entities) sound.entity)))
-    (none_more credits (declared ∷ after ∷ packets ∷ missing ∷ twice ∷ faulty ∷ []) (none_where (job.credits == 0) NoCredits (ne_eqb job.credits 0 some))
-    (none_more declared (after ∷ packets ∷ missing ∷ twice ∷ faulty ∷ [])
+    (none_more credits (declared ∷ after ∷ packets ∷ missing ∷ twice ∷ moved ∷ faulty ∷ []) (none_where (job.credits == 0) NoCredits (ne_eqb job.credits 0 some))
+    (none_more declared (after ∷ packets ∷ missing ∷ twice ∷ moved ∷ faulty ∷ [])
     (none_where (nat_lt 16 (length job.declared)) (TooMany Declared) (le-ltb 16 (length job.declared) sound.few_declared))
-    (none_more after (packets ∷ missing ∷ twice ∷ faulty ∷ [])
+    (none_more after (packets ∷ missing ∷ twice ∷ moved ∷ faulty ∷ [])
     (none_where (nat_lt 16 (length job.after)) (TooMany After) (le-ltb 16 (length job.after) sound.few_after))
-    (none_more packets (missing ∷ twice ∷ faulty ∷ [])
+    (none_more packets (missing ∷ twice ∷ moved ∷ faulty ∷ [])
     (none_where (nat_lt 64 (length job.packets)) (TooMany Packets) (le-ltb 64 (length job.packets) sound.few_packets))
-    (none_more missing (twice ∷ faulty ∷ []) (ap (option_map NoBuffer) found)
-    (none_more twice (faulty ∷ []) (ap (option_map DeclaredTwice) once)
+    (none_more missing (twice ∷ moved ∷ faulty ∷ []) (ap (option_map NoBuffer) found)
+    (none_more twice (moved ∷ faulty ∷ []) (ap (option_map DeclaredTwice) once)
+    (none_more moved (faulty ∷ []) (ap (option_map MoveNotKernel) sound.moves)
     (none_more faulty []
     (no_faults spec job 0 job.packets
     (recursion_from_All (λ p. IsTrue (is_declared job p) × IsTrue (is_writable job p)) job.packets sound.within)
     (recursion_from_All (λ p. IsTrue (is_in_range p spec.buffers)) job.packets sound.ranges))
-    refl)))))))
+    refl))))))))

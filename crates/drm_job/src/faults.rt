@@ -1,12 +1,13 @@
-ghost use Rattle.std.specs.Prelude.{◌≡◌, ◌≤◌, ◌==◌, [], length, map, find, nat_le, Some, MatchResult};
+ghost use Rattle.std.specs.Prelude.{◌≡◌, ◌≤◌, ◌==◌, [], option_map, length, map, find, nat_le, Some, MatchResult};
 ghost use Rattle.std.specs.List.{enumerate_from, list_any};
 ghost use Rattle.drm_types.specs.Firsts.{first_of};
-ghost use Rattle.drm_job.specs.Fault.{IsJob, job_fault, packet_fault as fault_of_packet, repeat_after};
+ghost use Rattle.drm_job.specs.Fault.{IsJob, job_fault, packet_fault as fault_of_packet, repeat_after, is_kernel as is_kernel_of, wrongly_moved as wrongly_moved_by};
+ghost use Rattle.drm_job.specs.Uses.{is_move};
 
 use crate::job::Job;
 use crate::{Draft, DraftList, JobFault};
 use drm_packet::Packet;
-use drm_types::{Access, BufferId, DeviceSpec};
+use drm_types::{Access, BufferId, DeviceSpec, EntityId};
 
 // How many buffers a job may declare, how many fences it may name, and how many packets it may have.
 const MAX_DECLARED: usize = 16;
@@ -61,7 +62,49 @@ fn first_fault(draft: &Draft, spec: &DeviceSpec) -> Option<JobFault>
     if let Some(buffer) = first_repeat(draft.declared.as_slice()) {
         return Some(JobFault::DeclaredTwice { buffer });
     }
+    if let Some(buffer) = wrongly_moved(draft, spec) {
+        return Some(JobFault::MoveNotKernel { buffer });
+    }
     first_packet_fault(draft, spec)
+}
+
+// The first buffer that is declared for moving, where the entity is not of KERNEL priority.
+fn wrongly_moved(draft: &Draft, spec: &DeviceSpec) -> Option<BufferId>
+    ensures { result ≡ wrongly_moved_by spec.now draft.now }
+{
+    if is_kernel(spec, draft.entity) {
+        return None;
+    }
+    first_moved(draft.declared.as_slice())
+}
+
+// Whether the entity is there and of KERNEL priority.
+fn is_kernel(spec: &DeviceSpec, entity: EntityId) -> bool
+    ensures { result ≡ is_kernel_of spec.now entity }
+{
+    match spec.entities.as_slice().get(entity as usize) {
+        Some(entity) => entity.priority.rank() == 0,
+        None => false,
+    }
+}
+
+// The first buffer that is declared for moving.
+fn first_moved(declared: &[(BufferId, Access)]) -> Option<BufferId>
+    ensures { result ≡ option_map (λ d. d.0) (find (λ d. is_move d.1) declared.now) }
+{
+    declared
+        .iter()
+        .find(|declared| moves(declared.1))
+        .map(|declared| declared.0)
+}
+
+fn moves(access: Access) -> bool
+    ensures { result ≡ is_move access }
+{
+    match access {
+        Access::Move => true,
+        Access::Read | Access::Write | Access::Hold => false,
+    }
 }
 
 // The first declared buffer that is not there.
@@ -116,6 +159,9 @@ fn packet_fault(draft: &Draft, spec: &DeviceSpec, place: u32, packet: &Packet) -
 {
     if !draft.declares(packet) {
         return Some(JobFault::PacketUndeclared { packet: place });
+    }
+    if !draft.lets_touch(packet) {
+        return Some(JobFault::PacketOnHold { packet: place });
     }
     if !draft.lets_write(packet) {
         return Some(JobFault::PacketReadOnly { packet: place });

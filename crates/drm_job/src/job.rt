@@ -1,5 +1,5 @@
 ghost use Rattle.std.specs.Prelude.{◌≡◌, ◌<◌, length, slice_get, Some, is_some};
-ghost use Rattle.drm_job.specs.Uses.{access_of as access_in, is_writable, StaysWithin};
+ghost use Rattle.drm_job.specs.Uses.{access_of as access_in, can_read, can_write, is_writable, StaysWithin};
 ghost use Rattle.std.specs.List.{list_all};
 ghost use Rattle.drm_packet.specs.Touches.{touches};
 
@@ -123,6 +123,29 @@ impl Draft {
             .all(|buffer| self.access_of(*buffer).is_some())
     }
 
+    // Whether the packet may touch each of its buffers.
+    pub(crate) fn lets_touch(&self, packet: &Packet) -> bool
+        ensures { result ≡ list_all (can_read self.now) (touches packet.now) }
+    {
+        self.lets_read_all(packet.reads().as_slice())
+            && self.lets_read_all(packet.writes().as_slice())
+    }
+
+    fn lets_read_all(&self, buffers: &[BufferId]) -> bool
+        ensures { result ≡ list_all (can_read self.now) buffers.now }
+    {
+        buffers.iter().all(|buffer| self.lets_read(*buffer))
+    }
+
+    fn lets_read(&self, buffer: BufferId) -> bool
+        ensures { result ≡ can_read self.now buffer }
+    {
+        match self.access_of(buffer) {
+            Some(Access::Read | Access::Write | Access::Move) => true,
+            Some(Access::Hold) | None => false,
+        }
+    }
+
     // Whether the draft declares each buffer that the packet writes for writing.
     pub(crate) fn lets_write(&self, packet: &Packet) -> bool
         ensures { result ≡ is_writable self.now packet.now }
@@ -131,6 +154,15 @@ impl Draft {
             .writes()
             .as_slice()
             .iter()
-            .all(|buffer| self.access_of(*buffer) == Some(Access::Write))
+            .all(|buffer| self.lets_write_to(*buffer))
+    }
+
+    fn lets_write_to(&self, buffer: BufferId) -> bool
+        ensures { result ≡ can_write self.now buffer }
+    {
+        match self.access_of(buffer) {
+            Some(Access::Write | Access::Move) => true,
+            Some(Access::Read | Access::Hold) | None => false,
+        }
     }
 }

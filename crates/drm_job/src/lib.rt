@@ -40,7 +40,7 @@ pub enum DraftList {
     Packets,
 }
 
-/// Why a draft is no job of a device, in the order in which faults are looked for. The three faults of a packet
+/// Why a draft is no job of a device, in the order in which faults are looked for. The four faults of a packet
 /// are looked for in one packet after another.
 #[derive(Clone, Copy, Debug, PartialEq, Eq)]
 pub enum JobFault {
@@ -55,8 +55,12 @@ pub enum JobFault {
     NoBuffer { buffer: BufferId },
     /// The first declared buffer that stands before it too.
     DeclaredTwice { buffer: BufferId },
+    /// The first buffer that is declared for moving, where the entity is not of KERNEL priority.
+    MoveNotKernel { buffer: BufferId },
     /// The packet touches a buffer that is not declared.
     PacketUndeclared { packet: u32 },
+    /// The packet touches a buffer that is declared for holding.
+    PacketOnHold { packet: u32 },
     /// The packet writes a buffer that is declared for reading.
     PacketReadOnly { packet: u32 },
     /// A range of the packet is empty or leaves its buffer.

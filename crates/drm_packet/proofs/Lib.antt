@@ -1,2 +1,4 @@
 pub mod Commute
 pub mod Sizes
+pub mod PartEffects
+pub mod InStores

@@ -1,3 +1,4 @@
 pub mod Effect
 pub mod Touches
 pub mod Laws
+pub mod Parts

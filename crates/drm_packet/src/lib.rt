@@ -7,6 +7,7 @@
 
 mod buffers;
 mod laws;
+mod parts;
 mod run;
 
 pub use buffers::Buffers;

@@ -7,6 +7,10 @@ use drm_types::{
 use std::alloc::{AllocError, Global};
 use std::test::Fail;
 
+fn rings_of(alloc: Global, list: &[u32]) -> Result<Sequence<u32>, AllocError> {
+    Ok(Sequence::from_vec(Vec::from_slice(alloc, list)?))
+}
+
 // A device of one buffer, one ring and one entity.
 fn small(alloc: Global) -> Result<DeviceSpec, AllocError> {
     device(alloc, buffers_of(alloc, &[&[0]])?, (1, 4), 1, 8)
@@ -25,7 +29,7 @@ fn the_first_part_is_told(rt: HostRuntime) -> Result<(), Fail> {
     spec.max_jobs = 65_536;
     assert_eq!(rt; spec.check(), Err(BadSpec { part: 8, index: 0 }));
     spec.entities.push(EntitySpec {
-        ring: 1,
+        rings: rings_of(rt.alloc(), &[1])?,
         priority: Priority::Low,
     })?;
     assert_eq!(rt; spec.check(), Err(BadSpec { part: 7, index: 1 }));

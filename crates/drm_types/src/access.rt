@@ -8,6 +8,11 @@ pub enum Access {
     Read,
     /// Its packets may read and write the buffer. It waits for readers and writers.
     Write,
+    /// Its packets do not touch the buffer: it is only kept from being moved. It waits for moves alone.
+    Hold,
+    /// Its packets may read and write the buffer, as memory management does that moves it. It waits for everybody, and
+    /// everybody for it. Only an entity of KERNEL priority declares it.
+    Move,
 }
 
 /// What a fence stands for at a buffer (`enum dma_resv_usage`), strongest first. Asking for a usage gives the
@@ -34,6 +39,8 @@ pub fn wanted(access: Access) -> Usage
     match access {
         Access::Read => Usage::Write,
         Access::Write => Usage::Read,
+        Access::Hold => Usage::Kernel,
+        Access::Move => Usage::Bookkeep,
     }
 }
 
@@ -44,6 +51,8 @@ pub fn adds(access: Access) -> Usage
     match access {
         Access::Read => Usage::Read,
         Access::Write => Usage::Write,
+        Access::Hold => Usage::Bookkeep,
+        Access::Move => Usage::Kernel,
     }
 }
 

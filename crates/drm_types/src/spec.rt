@@ -42,11 +42,11 @@ pub struct RingSpec {
     pub hang_limit: u32,
 }
 
-/// An entity: its ring and its priority.
-#[derive(Clone, Copy, Debug, PartialEq, Eq)]
+/// An entity: its rings and its priority.
+#[derive(Drop)]
 pub struct EntitySpec {
-    /// The ring that it feeds, one that is there.
-    pub ring: RingId,
+    /// The rings that it may feed (`sched_list`): 1 to 8 that are there, none twice.
+    pub rings: Sequence<RingId>,
     /// The run queue of the ring in which it stands.
     pub priority: Priority,
 }
@@ -58,7 +58,7 @@ pub struct DeviceSpec {
     pub buffers: Sequence<Sequence<u8>>,
     /// 1 to 8 rings.
     pub rings: Sequence<RingSpec>,
-    /// 1 to 64 entities, each on a ring that is there.
+    /// 1 to 64 entities, each with rings that are there.
     pub entities: Sequence<EntitySpec>,
     /// How many jobs the device takes in its life, 1 to 65,535.
     pub max_jobs: u32,
@@ -67,7 +67,7 @@ pub struct DeviceSpec {
 /// The first part of a description that is out of its limits, and the index in it.
 ///
 /// Parts: 0 number of buffers, 1 size of a buffer, 2 number of rings, 3 credit limit, 4 timeout and 5 hang
-/// limit of a ring, 6 number of entities, 7 ring of an entity, 8 number of jobs. Parts 0, 2, 6 and 8 have
+/// limit of a ring, 6 number of entities, 7 rings of an entity, 8 number of jobs. Parts 0, 2, 6 and 8 have
 /// index 0.
 #[derive(Clone, Copy, Debug, PartialEq, Eq)]
 pub struct BadSpec {

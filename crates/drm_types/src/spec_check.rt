@@ -1,8 +1,10 @@
 ghost use Rattle.std.specs.Prelude.{◌≡◌, ◌≤◌, ◌<◌, ℕ, List, length, Option, Some, None, option_map, position, not, MatchResult, nat_lt, IfSome};
 ghost use Rattle.std.specs.Option.{ForSome};
+ghost use Rattle.std.specs.List.{list_all};
 ghost use Rattle.drm_types.specs.declared.spec.BadSpec.{BadSpec};
-ghost use Rattle.drm_types.specs.Limits.{whole as whole_fault, each as each_fault, is_between as is_between_both, spec_fault};
+ghost use Rattle.drm_types.specs.Limits.{whole as whole_fault, each as each_fault, is_between as is_between_both, are_distinct as all_distinct, are_rings as are_rings_of, spec_fault};
 
+use crate::ids::RingId;
 use crate::sequence::Sequence;
 use crate::spec::{BadSpec, DeviceSpec, EntitySpec, RingSpec};
 
@@ -71,9 +73,9 @@ impl DeviceSpec {
 
     fn check_entity_rings(&self) -> Result<(), BadSpec>
         requires { length self.now.entities ≤ 64 }
-        ensures { let fault = each_fault 7 (λ entity. nat_lt entity.ring (length self.now.rings)) self.now.entities in MatchResult result (λ _. fault ≡ None) (λ bad. fault ≡ Some bad) }
+        ensures { let fault = each_fault 7 (λ entity. are_rings_of (length self.now.rings) entity.rings) self.now.entities in MatchResult result (λ _. fault ≡ None) (λ bad. fault ≡ Some bad) }
     {
-        each(7, bad_ring(self.entities.as_slice(), self.rings.len()))
+        each(7, bad_rings(self.entities.as_slice(), self.rings.len()))
     }
 
     fn check_job_count(&self) -> Result<(), BadSpec>
@@ -151,11 +153,37 @@ fn bad_hang_limit(rings: &[RingSpec]) -> Option<usize>
         .position(|ring| !is_between(0, 1000, ring.hang_limit as usize))
 }
 
-fn bad_ring(entities: &[EntitySpec], rings: usize) -> Option<usize>
-    ensures place { result ≡ position (λ entity. not (nat_lt entity.ring rings)) entities.now }
+fn bad_rings(entities: &[EntitySpec], rings: usize) -> Option<usize>
+    ensures place { result ≡ position (λ entity. not (are_rings_of rings entity.rings)) entities.now }
     ensures within { IfSome result (λ i. i < length entities.now) }
 {
     entities
         .iter()
-        .position(|entity| entity.ring as usize >= rings)
+        .position(|entity| !are_rings(entity.rings.as_slice(), rings))
+}
+
+// Whether the list of an entity's rings is one for so many rings.
+fn are_rings(list: &[RingId], rings: usize) -> bool
+    ensures { result ≡ are_rings_of rings list.now }
+{
+    is_between(1, 8, list.len()) && are_there(list, rings) && are_distinct(list)
+}
+
+// Whether each of these rings is there.
+fn are_there(list: &[RingId], rings: usize) -> bool
+    ensures { result ≡ list_all (λ ring. nat_lt ring rings) list.now }
+{
+    list.iter().all(|ring| (*ring as usize) < rings)
+}
+
+// Whether no ring stands twice.
+fn are_distinct(list: &[RingId]) -> bool
+    ensures { result ≡ all_distinct list.now }
+{
+    for (i, ring) in list.iter().enumerate() {
+        if list[i + 1..].contains(ring) {
+            return false;
+        }
+    }
+    true
 }

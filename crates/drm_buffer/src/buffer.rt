@@ -1,0 +1,107 @@
+ghost use Rattle.std.specs.Prelude.{◌≡◌, ◌+◌, ◌≤◌, length, replicate, slice_range};
+ghost use Rattle.drm_buffer.specs.Memory.{overwritten, range_sums};
+
+use crate::ranges;
+use std::marker::Model;
+
+/// The bytes of one buffer, by itself: a packet runs on it while it is out of its memory.
+#[derive(Drop)]
+pub struct Buffer {
+    bytes: Vec<u8>,
+}
+
+impl Model for Buffer {
+    ghost use Rattle.std.specs.Prelude.{List, ℕ};
+
+    ghost Value = { List ℕ };
+
+    ghost view = { λ b. b.bytes.items };
+}
+
+impl Buffer {
+    pub(crate) fn of(bytes: Vec<u8>) -> Buffer
+        ensures { result ≡ bytes.items }
+    {
+        Buffer { bytes }
+    }
+
+    pub(crate) fn into_bytes(self) -> Vec<u8>
+        ensures { result.items ≡ self }
+    {
+        let Buffer { bytes } = self;
+        bytes
+    }
+
+    /// The bytes, to look at.
+    pub fn as_slice(&self) -> &[u8]
+        ensures { result.now ≡ self.now }
+    {
+        self.bytes.as_slice()
+    }
+
+    /// Writes the byte into each place of the range.
+    pub fn fill(&mut self, offset: u32, len: u32, byte: u8)
+        requires { offset + len ≤ length self.old }
+        ensures { self.new ≡ overwritten self.old offset (replicate len byte) }
+    {
+        ranges::fill(self.bytes.as_mut_slice(), offset as usize, len as usize, byte);
+    }
+
+    /// Writes a range of the source over as many places.
+    pub fn copy(&mut self, offset: u32, source: &Buffer, source_offset: u32, len: u32)
+        requires target { offset + len ≤ length self.old }
+        requires source { source_offset + len ≤ length source.now }
+        ensures { self.new ≡ overwritten self.old offset (slice_range source.now source_offset (source_offset + len)) }
+    {
+        ranges::copy(
+            self.bytes.as_mut_slice(),
+            offset as usize,
+            source.bytes.as_slice(),
+            source_offset as usize,
+            len as usize,
+        );
+    }
+
+    /// The same within the buffer.
+    pub fn copy_within(&mut self, offset: u32, source_offset: u32, len: u32)
+        requires target { offset + len ≤ length self.old }
+        requires source { source_offset + len ≤ length self.old }
+        ensures { self.new ≡ overwritten self.old offset (slice_range self.old source_offset (source_offset + len)) }
+    {
+        ranges::copy_within(
+            self.bytes.as_mut_slice(),
+            offset as usize,
+            source_offset as usize,
+            len as usize,
+        );
+    }
+
+    /// Adds a range of the source to as many places, each modulo 256.
+    pub fn add(&mut self, offset: u32, source: &Buffer, source_offset: u32, len: u32)
+        requires target { offset + len ≤ length self.old }
+        requires source { source_offset + len ≤ length source.now }
+        ensures { self.new ≡ overwritten self.old offset (range_sums self.old source.now offset source_offset len) }
+    {
+        ranges::add(
+            self.bytes.as_mut_slice(),
+            offset as usize,
+            source.bytes.as_slice(),
+            source_offset as usize,
+            len as usize,
+        );
+    }
+
+    /// The same within the buffer.
+    pub fn add_within(&mut self, offset: u32, source_offset: u32, len: u32)
+        requires target { offset + len ≤ length self.old }
+        requires source { source_offset + len ≤ length self.old }
+        ensures { self.new ≡ overwritten self.old offset (range_sums self.old self.old offset source_offset len) }
+    {
+        ranges::add_within(
+            self.bytes.as_mut_slice(),
+            offset as usize,
+            source_offset as usize,
+            len as usize,
+        );
+    }
+}
