@@ -24,13 +24,13 @@ use Rattle.drm_core.specs.declared.journal.JobRecord.{JobRecord}
 use Rattle.drm_core.specs.declared.table.Table.{Table}
 use Rattle.drm_core.specs.declared.event.Refusal.TheVariants.{Stopped, Full, NoFence}
 use Rattle.drm_core.specs.State.{DeviceState}
-use Rattle.drm_core.specs.Arming.{ring_of, new_record, armed_device}
+use Rattle.drm_core.specs.Arming.{arming_ring, new_record, armed_device}
 use Rattle.drm_core.specs.Refusals.{arm_refusal}
 use Rattle.drm_core.specs.Ring.{is_stopped}
 use Rattle.drm_core.specs.Steady.{IsSteady}
 use Rattle.drm_core.specs.Waits.{IsDependency, DepsStand}
 use Rattle.drm_core.specs.Plain.{marks, WaitsStand, QueuesStand}
-use Rattle.drm_core.specs.Tables.{state_of, fence_of, IsWhole}
+use Rattle.drm_core.specs.Tables.{state_of, fence_state_of, IsWhole}
 use Rattle.drm_core.specs.Cores.{MeetsPlan, DepsCover, all_named, entity_at}
 use Rattle.drm_core.proofs.PickLawful.{get_push_cases}
 use Rattle.drm_core.proofs.PickDone.{spec_tests}
@@ -178,7 +178,7 @@ abbrev pub armed_tables : Table → Vec JobRecord Global → Vec (List (ℕ × �
 armed_tables t journal waits fences entities = record t { journal = journal; waits = waits; fences = fences; entities = entities }
 
 pub arm_done : (t : Table) (job : Draft) (deps : List (ℕ × ℕ)) (ring : ℕ) (journal : Vec JobRecord Global) (waits : Vec (List (ℕ × ℕ)) Global) (fences : Fences) (entities : EntityRows) → IsWhole t
-    → IsJob t.spec job → DepsCover (state_of t) job deps → arm_refusal (state_of t) job ≡ None → ring ≡ ring_of (state_of t) job.entity
+    → IsJob t.spec job → DepsCover (state_of t) job deps → arm_refusal (state_of t) job ≡ None → ring ≡ arming_ring (state_of t) job.entity
     → journal.items ≡ t.journal.items ++ record (new_record (state_of t) job) { ring = ring } ∷ []
     → waits.items ≡ t.waits.items ++ all_named t.journal.items deps job.after ∷ []
     → fences.list ≡ t.fences.list ++ record { phase = Queued; ran = 0 } ∷ [] → vec_capacity journal ≡ vec_capacity t.journal → vec_capacity waits ≡ vec_capacity t.waits
@@ -200,7 +200,7 @@ arm_done t job deps ring journal waits fences entities w is_job cover may ring_i
         limits = w.limits;
         count = subst (λ n. n ≤ t.spec.max_jobs) (sym (ap length items_are ∙ length-append t.journal.items (new ∷ []))) (let place = arms.place in omega (arith, place));
         fences = list ∙ (ap (λ fs. fs ++ record { phase = Queued; ran = 0 } ∷ []) w.fences
-            ∙ (sym (map-append fence_of t.journal.items (new ∷ [])) ∙ ap (map fence_of) (sym items_are)));
+            ∙ (sym (map-append fence_state_of t.journal.items (new ∷ [])) ∙ ap (map fence_state_of) (sym items_are)));
         waits = subst (λ ws. WaitsStand journal.items ws) (sym waits_are)
             (subst (λ js. WaitsStand js (t.waits.items ++ all_named t.journal.items deps job.after ∷ [])) (sym items_are) (waits_armed d job deps t.waits.items new w.waits refl cover arms));
         queues = subst (QueuesStand journal.items) (sym queued)
@@ -216,11 +216,3 @@ arm_done t job deps ring journal waits fences entities w is_job cover may ring_i
         };
       },
     )
-
--- the ring that the description names for an entity
-pub ring_found : (d : DeviceState) (es : List EntitySpec) (e entity : ℕ) (blank : EntitySpec) → es ≡ d.spec.entities → e ≡ entity → entity < length d.spec.entities
-    → (get_or es e blank).ring ≡ ring_of d entity
-ring_found d es e entity blank es_is e_is lt =
-    ap (λ xs. (get_or xs e blank).ring) es_is
-    ∙ (ap (λ k. (get_or d.spec.entities k blank).ring) e_is
-    ∙ sym (ap (λ o. option_map_or (λ (x : EntitySpec). x.ring) o 0) (slice_get-get_or d.spec.entities entity blank lt)))

@@ -8,17 +8,18 @@ use Rattle.drm_types.specs.declared.spec.RingSpec.{RingSpec}
 use Rattle.drm_types.specs.declared.spec.DeviceSpec.{DeviceSpec}
 use Rattle.drm_entity.specs.Rows.{EntityRow, EntityRows}
 use Rattle.drm_buffer.specs.Memory.{sizes_of}
+use Rattle.drm_buffer.specs.Stored.{Stored, all_in}
 use Rattle.drm_resv.specs.Reservation.{WithRoom}
 use Rattle.drm_core.specs.declared.journal.JobRecord.{JobRecord}
-use Rattle.drm_core.specs.declared.table.RingRow.{RingRow}
+use Rattle.drm_core.specs.declared.table.RingJobs.{RingJobs}
 use Rattle.drm_core.specs.declared.table.Table.{Table}
 use Rattle.drm_core.specs.declared.cores.ContextRow.{ContextRow}
 use Rattle.drm_core.specs.declared.cores.CoreTable.{CoreTable}
 use Rattle.drm_core.specs.State.{DeviceState, CoreState, opened_device, opened}
 use Rattle.drm_core.specs.Steady.{IsSteady, IsSteadyCore}
 use Rattle.drm_core.specs.Plain.{marks_of, marks, WaitsStand, QueuesStand}
-use Rattle.drm_core.specs.Tables.{state_of, ring_of_row, fence_of, HasRooms, IsWhole}
-use Rattle.drm_core.specs.Cores.{core_state, context_of_row, plan_at, IsCore}
+use Rattle.drm_core.specs.Tables.{state_of, ring_state_of, fence_state_of, HasRooms, IsWhole, AllIn}
+use Rattle.drm_core.specs.Cores.{core_state, context_of_row, planned_by, IsCore}
 use Rattle.drm_core.specs.Building.{HaveRoomFor}
 use Rattle.drm_core.proofs.Opening.{opened_steady, opened_core_steady}
 use Rattle.drm_core.proofs.PickLawful.{get_push_cases}
@@ -36,14 +37,14 @@ map_same f (suc n) x = ap (λ ys. f x ∷ ys) (map_same f n x)
 pub map_push_same : {X Y : Type 0} (f : X → Y) (xs : List X) (x : X) (n : ℕ) (y : Y) → map f xs ≡ replicate n y → f x ≡ y → map f (xs ++ x ∷ []) ≡ replicate (n + 1) y
 map_push_same f xs x n y so_far is = map-append f xs (x ∷ []) ∙ (ap (λ ys. ys ++ f x ∷ []) so_far ∙ (ap (λ z. replicate n y ++ z ∷ []) is ∙ replicate_more n y))
 
-pub room_push : (specs : List RingSpec) (rows : List RingRow) (row : RingRow) → HaveRoomFor specs rows
+pub room_push : (specs : List RingSpec) (rows : List RingJobs) (row : RingJobs) → HaveRoomFor specs rows
     → option_map_or (λ (s : RingSpec). s.credit_limit) (slice_get specs (length rows)) 0 ≤ vec_capacity row.pending → HaveRoomFor specs (rows ++ row ∷ [])
 room_push specs rows row have room k found is =
     elim (get_push_cases rows row k found is) [
       | inl old ↦ have k found old
       | inr new ↦
           subst (λ n. option_map_or (λ (s : RingSpec). s.credit_limit) (slice_get specs n) 0 ≤ vec_capacity found.pending) (sym new.0)
-          (subst (λ (r : RingRow). option_map_or (λ (s : RingSpec). s.credit_limit) (slice_get specs (length rows)) 0 ≤ vec_capacity r.pending) (sym new.1) room)
+          (subst (λ (r : RingJobs). option_map_or (λ (s : RingSpec). s.credit_limit) (slice_get specs (length rows)) 0 ≤ vec_capacity r.pending) (sym new.1) room)
     ]
 
 -- entities with nothing queued and no marks
@@ -63,12 +64,12 @@ no_queues spec entity lt = by_row (length spec.entities) entity
     by_row (suc n) (suc entity) = by_row n entity
 
 -- the tables of a device on which no job was armed
-pub blank_device : (t : Table) → t.memory ≡ t.spec.buffers → t.journal.items ≡ []
-    → map ring_of_row t.rings.items ≡ map (λ (ring : RingSpec). record { pending = []; since = 0 }) t.spec.rings
+pub blank_device : (t : Table) → t.memory ≡ all_in t.spec.buffers → t.journal.items ≡ []
+    → map ring_state_of t.rings.items ≡ map (λ (ring : RingSpec). record { pending = []; since = 0 }) t.spec.rings
     → t.entities ≡ blank_entities t.spec → state_of t ≡ opened_device t.spec
 blank_device t memory journal rings entities =
-    ap (λ m. let d : DeviceState = record { spec = t.spec; memory = m; journal = t.journal.items; rings = map ring_of_row t.rings.items; entities = marks t.entities } in d) memory
-    ∙ (ap (λ j. let d : DeviceState = record { spec = t.spec; memory = t.spec.buffers; journal = j; rings = map ring_of_row t.rings.items; entities = marks t.entities } in d) journal
+    ap (λ m. let d : DeviceState = record { spec = t.spec; memory = m; journal = t.journal.items; rings = map ring_state_of t.rings.items; entities = marks t.entities } in d) (ap (λ (s : Stored). s.bytes) memory)
+    ∙ (ap (λ j. let d : DeviceState = record { spec = t.spec; memory = t.spec.buffers; journal = j; rings = map ring_state_of t.rings.items; entities = marks t.entities } in d) journal
     ∙ (ap (λ rs. let d : DeviceState = record { spec = t.spec; memory = t.spec.buffers; journal = []; rings = rs; entities = marks t.entities } in d) rings
     ∙ ap (λ es. record (opened_device t.spec) { entities = es })
     (ap marks entities ∙ (map_same marks_of (length t.spec.entities) (record { queue = []; is_stopped = false; is_guilty = false })
@@ -88,7 +89,7 @@ blank_whole t opened limits fences waits entities rooms =
       steady = subst IsSteady (sym opened) (opened_steady t.spec);
       limits = limits;
       count = let none : length t.journal.items ≡ 0 = ap length no_jobs in omega (arith, none);
-      fences = fences ∙ ap (map fence_of) (sym no_jobs);
+      fences = fences ∙ ap (map fence_state_of) (sym no_jobs);
       waits = no_waits t.journal.items t.waits.items no_jobs waits;
       queues = subst (QueuesStand t.journal.items) (sym entities) (subst (λ js. QueuesStand js (blank_entities t.spec)) (sym no_jobs) (no_queues t.spec));
       sizes = ap (λ (d : DeviceState). sizes_of d.memory) opened;
@@ -117,12 +118,13 @@ no_plan zero ctx = refl
 no_plan (suc n) zero = refl
 no_plan (suc n) (suc ctx) = no_plan n ctx
 
-pub blank_is_core : (c : CoreTable) → core_state c ≡ opened c.table.spec → IsWhole c.table → c.contexts.items ≡ replicate 64 None → IsCore c
-blank_is_core c is whole contexts = record {
+pub blank_is_core : (c : CoreTable) → core_state c ≡ opened c.table.spec → IsWhole c.table → AllIn c.table → c.contexts.items ≡ replicate 64 None → IsCore c
+blank_is_core c is whole inside contexts = record {
   steady = subst IsSteadyCore (sym is) (opened_core_steady c.table.spec);
   whole = whole;
+  inside = inside;
   plans = λ ctx plan found.
-      let none : plan_at c ctx ≡ None = ap (λ rows. option_map_or (λ o. option_map_or (λ (row : ContextRow). row.plan) o None) (slice_get rows ctx) None) contexts ∙ no_plan 64 ctx in
+      let none : planned_by c ctx ≡ None = ap (λ rows. option_map_or (λ o. option_map_or (λ (row : ContextRow). row.plan) o None) (slice_get rows ctx) None) contexts ∙ no_plan 64 ctx in
       let clash : None ≡ Some plan = sym none ∙ found in absurd (cc (clash));
   reservation_count =
       sym (length-map c.reservations.items (λ (r : WithRoom). r.kept))

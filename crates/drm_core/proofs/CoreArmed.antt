@@ -28,15 +28,16 @@ use Rattle.drm_core.specs.Arming.{new_record, armed_device, armed_reservation, a
 use Rattle.drm_core.specs.Outcomes.{armed_core}
 use Rattle.drm_core.specs.Reservation.{usage_at, is_signaled}
 use Rattle.drm_core.specs.Steady.{IsSteadyCore}
-use Rattle.drm_core.specs.Tables.{state_of, fence_of, IsWhole}
-use Rattle.drm_core.specs.Cores.{core_state, MeetsPlan, DepsCover, plan_at, PlanStands, IsCore}
-use Rattle.drm_core.specs.Planning.{HasUse, HaveUses, AreApart}
+use Rattle.drm_core.specs.Tables.{state_of, fence_state_of, IsWhole}
+use Rattle.drm_core.specs.Cores.{core_state, MeetsPlan, DepsCover, planned_by, PlanStands, IsCore}
+use Rattle.drm_core.specs.Planning.{HasUse, HaveUses, ShareNoBuffer}
 use Rattle.drm_core.proofs.Records.{to_map, from_map}
 use Rattle.drm_core.proofs.Pairs.{find_first}
 use Rattle.drm_core.proofs.ChoiceIs.{get_numbered}
 use Rattle.drm_core.proofs.PickLawful.{get_push_cases}
 use Rattle.drm_core.proofs.ArmLawful.{get_before_push}
 use Rattle.drm_core.proofs.CoreSteps.{arm_kept}
+use Rattle.drm_core.proofs.Stored.{all_in_kept}
 
 -- two lists that have the same at each place are one
 pub list_ext : {X : Type 0} (xs ys : List X) → length xs ≡ length ys → ((k : ℕ) (x : X) → slice_get xs k ≡ Some x → slice_get ys k ≡ Some x) → xs ≡ ys
@@ -49,10 +50,10 @@ list_ext (x ∷ xs) (y ∷ ys) count each =
     ap (λ z. z ∷ xs) (sym first) ∙ ap (λ zs. y ∷ zs) rest
 
 -- whether a fence has an outcome, by the timeline and by the journal
-pub ended_alike : (js : List JobRecord) (fs : List FenceState) → fs ≡ map fence_of js → has_ended_at fs ≡ is_signaled js
+pub ended_alike : (js : List JobRecord) (fs : List FenceState) → fs ≡ map fence_state_of js → has_ended_at fs ≡ is_signaled js
 ended_alike js fs tie = ap has_ended_at tie ∙ (λ i f. by_map js f i)
   where
-    by_map : (js : List JobRecord) (f : ℕ) → has_ended_at (map fence_of js) f ≡ is_signaled js f
+    by_map : (js : List JobRecord) (f : ℕ) → has_ended_at (map fence_state_of js) f ≡ is_signaled js f
     by_map [] f = refl
     by_map (r ∷ js) zero = refl
     by_map (r ∷ js) (suc f) = by_map js f
@@ -71,7 +72,7 @@ length-enumerate n [] = refl
 length-enumerate n (x ∷ xs) = ap suc (length-enumerate (n + 1) xs)
 
 -- the reservations after the uses were added are those of the definition
-pub reservations_armed : (js : List JobRecord) (fs : List FenceState) (job : Draft) (old new : List WithRoom) → fs ≡ map fence_of js
+pub reservations_armed : (js : List JobRecord) (fs : List FenceState) (job : Draft) (old new : List WithRoom) → fs ≡ map fence_state_of js
     → HaveUses (has_ended_at fs) (length js) job old new → map (λ r. r.kept) new ≡ armed_reservations js job (map (λ r. r.kept) old)
 reservations_armed js fs job old new tie uses =
     list_ext (map kept_of new) (armed_reservations js job (map kept_of old)) counts each
@@ -121,7 +122,7 @@ used_declared job buffer usage is = by_find (find (λ (d : ℕ × Access). d.0 =
         (found.0, d, found.1, eqb-true d.0 buffer found.2)
 
 -- jobs that declare no buffer in common do not conflict
-pub apart_conflicts : (job other : Draft) → AreApart job other → conflicts job other ≡ true → ⊥
+pub apart_conflicts : (job other : Draft) → ShareNoBuffer job other → conflicts job other ≡ true → ⊥
 apart_conflicts job other apart meets =
     let first = any_at (λ (d : ℕ × Access). list_any (λ (e : ℕ × Access). (d.0 == e.0) && must_wait d.1 e.1) other.declared) job.declared meets in
     let second = any_at (λ (e : ℕ × Access). (first.1.0 == e.0) && must_wait first.1.1 e.1) other.declared first.3 in
@@ -129,7 +130,7 @@ apart_conflicts job other apart meets =
 
 -- the plan of another context stands after the arming
 pub plan_stands_on : (c n : CoreTable) (ctx : ℕ) (plan : Plan) (job : Draft) (ended : ℕ → Bool) → state_of n.table ≡ armed_device (state_of c.table) job → n.holders.items ≡ c.holders.items
-    → HaveUses ended (length c.table.journal.items) job c.reservations.items n.reservations.items → AreApart job plan.job → PlanStands c ctx plan → PlanStands n ctx plan
+    → HaveUses ended (length c.table.journal.items) job c.reservations.items n.reservations.items → ShareNoBuffer job plan.job → PlanStands c ctx plan → PlanStands n ctx plan
 plan_stands_on c n ctx plan job ended armed holders uses apart stands = record {
   covers = subst (λ d. DepsCover d plan.job plan.deps) (sym armed) (record {
     covers = λ i x at meets going.
@@ -178,10 +179,10 @@ abbrev pub armed_parts : CoreTable → Table → Vec WithRoom Global → CoreTab
 armed_parts c u rs = record c { table = u; reservations = rs }
 
 pub core_armed : (c : CoreTable) (u : Table) (rs : Vec WithRoom Global) (job : Draft) → IsCore c → IsJob c.table.spec job
-    → HaveUses (has_ended_at c.table.fences.list) (length c.table.journal.items) job c.reservations.items rs.items → state_of u ≡ armed_device (state_of c.table) job → IsWhole u
-    → ((ctx : ℕ) (other : Plan) → plan_at c ctx ≡ Some other → AreApart job other.job)
+    → HaveUses (has_ended_at c.table.fences.list) (length c.table.journal.items) job c.reservations.items rs.items → state_of u ≡ armed_device (state_of c.table) job → IsWhole u → u.memory.out ≡ c.table.memory.out
+    → ((ctx : ℕ) (other : Plan) → planned_by c ctx ≡ Some other → ShareNoBuffer job other.job)
     → (core_state (armed_parts c u rs) ≡ armed_core (core_state c) job) × IsCore (armed_parts c u rs)
-core_armed c u rs job core is_job uses armed whole apart =
+core_armed c u rs job core is_job uses armed whole out apart =
     let state : core_state (armed_parts c u rs) ≡ armed_core (core_state c) job =
     ap (λ d. let s : CoreState = record (core_state c) { device = d; reservations = map (λ r. r.kept) rs.items } in s) armed
     ∙ ap (λ xs. let s : CoreState = record (core_state c) { device = armed_device (state_of c.table) job; reservations = xs } in s)
@@ -190,6 +191,7 @@ core_armed c u rs job core is_job uses armed whole apart =
       record {
         steady = subst IsSteadyCore (sym state) (arm_kept (core_state c) job core.steady is_job).steady;
         whole = whole;
+        inside = all_in_kept c.table u core.inside (ap (λ (d : DeviceState). d.spec) armed) out;
         plans = λ ctx plan is. plan_stands_on c (armed_parts c u rs) ctx plan job (has_ended_at c.table.fences.list) armed refl uses (apart ctx plan is) (core.plans ctx plan is);
         reservation_count = uses.count ∙ (core.reservation_count ∙ ap (λ (d : DeviceState). length d.spec.buffers) (sym armed));
         holder_count = core.holder_count ∙ ap (λ (d : DeviceState). length d.spec.buffers) (sym armed);

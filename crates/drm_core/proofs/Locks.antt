@@ -22,8 +22,8 @@ use Rattle.drm_core.specs.Outcomes.{outcome_of_event}
 use Rattle.drm_core.specs.Names.{names_exist}
 use Rattle.drm_core.specs.Step.{unless_refused, reply}
 use Rattle.drm_core.specs.Steady.{IsSteadyCore}
-use Rattle.drm_core.specs.Tables.{state_of, IsWhole}
-use Rattle.drm_core.specs.Cores.{core_state, DepsCover, plan_at, IsCore}
+use Rattle.drm_core.specs.Tables.{state_of, IsWhole, AllIn}
+use Rattle.drm_core.specs.Cores.{core_state, DepsCover, planned_by, IsCore}
 use Rattle.drm_core.proofs.CoreSteps.{reply_kept}
 use Rattle.drm_core.proofs.Pairs.{get_set_other}
 use Rattle.drm_core.proofs.Candidates.{at_index}
@@ -94,11 +94,12 @@ plan_cases (x ∷ xs) (suc ctx) (suc k) row plan is =
 -- a core with the same device and the same reservations
 pub core_kept : (c n : CoreTable) (e : Event) (a : Answer) → IsCore c → n.table ≡ c.table → n.reservations ≡ c.reservations
     → names_exist c.table.spec e ≡ true → reply (core_state c) e ≡ (a, core_state n)
-    → ((k : ℕ) (plan : Plan) → plan_at n k ≡ Some plan → (plan_at c k ≡ Some plan) × IsTrue (holds_all (core_state n) k plan.job))
+    → ((k : ℕ) (plan : Plan) → planned_by n k ≡ Some plan → (planned_by c k ≡ Some plan) × IsTrue (holds_all (core_state n) k plan.job))
     → length n.holders.items ≡ length c.holders.items → length n.contexts.items ≡ length c.contexts.items → n.next_ticket ≤ 2 ^ 63 → IsCore n
 core_kept c n e a core table resvs names is plans holders contexts tickets = record {
   steady = subst IsSteadyCore (ap (λ (p : Answer × CoreState). p.1) is) (reply_kept (core_state c) e core.steady names).steady;
   whole = subst IsWhole (sym table) core.whole;
+  inside = subst AllIn (sym table) core.inside;
   plans = λ k plan at.
       let kept = plans k plan at in
       let old = core.plans k plan kept.0 in

@@ -14,7 +14,7 @@ use Rattle.drm_types.specs.declared.spec.RingSpec.{RingSpec}
 use Rattle.drm_types.specs.declared.spec.EntitySpec.{EntitySpec}
 use Rattle.drm_types.specs.declared.spec.BadSpec.{BadSpec}
 use Rattle.drm_types.specs.Firsts.{when}
-use Rattle.drm_types.specs.Limits.{spec_fault, whole, each, is_between}
+use Rattle.drm_types.specs.Limits.{spec_fault, whole, each, is_between, are_rings}
 use Rattle.drm_job.specs.declared.Draft.{Draft}
 use Rattle.drm_job.specs.declared.JobFault.TheVariants.{NoCredits}
 use Rattle.drm_job.specs.Fault.{job_tests, IsJob}
@@ -23,7 +23,7 @@ use Rattle.drm_fence.specs.declared.phase.Phase.TheVariants.{Scheduled}
 use Rattle.drm_fence.specs.Fences.{Fences}
 use Rattle.drm_entity.specs.Rows.{EntityRows, queue_at, popped}
 use Rattle.drm_core.specs.declared.journal.JobRecord.{JobRecord}
-use Rattle.drm_core.specs.declared.table.RingRow.{RingRow}
+use Rattle.drm_core.specs.declared.table.RingJobs.{RingJobs}
 use Rattle.drm_core.specs.declared.table.Table.{Table}
 use Rattle.drm_core.specs.declared.event.Answer.TheVariants as answer
 use Rattle.drm_core.specs.Journal.{changed_at}
@@ -31,7 +31,7 @@ use Rattle.drm_core.specs.Choice.{choice}
 use Rattle.drm_core.specs.Ring.{credits_of, free_credits, credit_limit_of, pending_of, is_guilty, ring_changed}
 use Rattle.drm_core.specs.Refusals.{pick_refusal}
 use Rattle.drm_core.specs.Outcomes.{pick_outcome, picked_device}
-use Rattle.drm_core.specs.Tables.{state_of, fence_of, ring_of_row, put_in, IsWhole}
+use Rattle.drm_core.specs.Tables.{state_of, fence_state_of, ring_state_of, put_in, IsWhole}
 use Rattle.drm_core.proofs.Records.{changed_is}
 use Rattle.drm_core.proofs.Pending.{contains_at}
 use Rattle.drm_core.proofs.DeviceSteps.{IsKept, pick_kept, not_when}
@@ -64,7 +64,7 @@ spec_tests spec =
     ∷ each 4 (λ ring. is_between 1 4294967295 ring.timeout) spec.rings
     ∷ each 5 (λ ring. is_between 0 1000 ring.hang_limit) spec.rings
     ∷ whole 6 (is_between 1 64 (length spec.entities))
-    ∷ each 7 (λ entity. nat_lt entity.ring (length spec.rings)) spec.entities
+    ∷ each 7 (λ entity. are_rings (length spec.rings) entity.rings) spec.entities
     ∷ whole 8 (is_between 1 65535 spec.max_jobs)
     ∷ []
 
@@ -89,11 +89,11 @@ some_limit spec ring none there =
     let least = leb-true 1 r.credit_limit (and_parts (nat_le 1 r.credit_limit) (nat_le r.credit_limit 65535) passes).0 in
     subst (λ o. 0 < option_map_or (λ (x : RingSpec). x.credit_limit) o 0) (sym at) least
 
--- the ring of an entity is there
-pub ring_there : (spec : DeviceSpec) (entity : ℕ) (e : EntitySpec) → spec_fault spec ≡ None → slice_get spec.entities entity ≡ Some e → e.ring < length spec.rings
-ring_there spec entity e none at =
-    let is_there : EntitySpec → Bool = λ x. nat_lt x.ring (length spec.rings) in
-    ltb-true e.ring (length spec.rings)
+-- the rings of an entity are there
+pub rings_there : (spec : DeviceSpec) (entity : ℕ) (e : EntitySpec) → spec_fault spec ≡ None → slice_get spec.entities entity ≡ Some e
+    → are_rings (length spec.rings) e.rings ≡ true
+rings_there spec entity e none at =
+    let is_there : EntitySpec → Bool = λ x. are_rings (length spec.rings) x.rings in
     (none_bad is_there 0 spec.entities entity e
     (position_from-zero-none (λ x. not (is_there x)) spec.entities
     (no_place (λ i. record { part = 7; index = i }) (position (λ x. not (is_there x)) spec.entities)
@@ -131,7 +131,7 @@ each_counts t ring w there k f at =
     subst (λ o. 0 < option_map_or (λ (x : JobRecord). min x.job.credits (credit_limit_of (state_of t) ring)) o 0) (sym r.1) (omega (arith, limit, credits))
 
 -- one more job that fits finds room
-pub room_for_one : (t : Table) (ring f : ℕ) (r : JobRecord) (row : RingRow) → IsWhole t → ring < length t.spec.rings → slice_get t.journal.items f ≡ Some r
+pub room_for_one : (t : Table) (ring f : ℕ) (r : JobRecord) (row : RingJobs) → IsWhole t → ring < length t.spec.rings → slice_get t.journal.items f ≡ Some r
     → slice_get t.rings.items ring ≡ Some row → nat_lt (free_credits (state_of t) ring) (credits_of (state_of t) ring f) ≡ false
     → vec_len row.pending < vec_capacity row.pending
 room_for_one t ring f r row w there at at_row fits =
@@ -177,15 +177,15 @@ taken_popped t ring f r entity skipped items new result w chosen taken given som
     (stands_popped t.journal.items t.entities new entity f r (begin r) result chosen.at taken.of_entity chosen.queued refl taken.head taken.there some none w.queues)
 
 -- the tables after the pick
-abbrev pub picked_tables : Table → ℕ → Vec JobRecord Global → Fences → RingRow → EntityRows → Table
+abbrev pub picked_tables : Table → ℕ → Vec JobRecord Global → Fences → RingJobs → EntityRows → Table
 picked_tables t ring journal fences row entities = record t { journal = journal; fences = fences; rings = with_item t.rings ring row; entities = entities }
 
-pub pick_done : (t : Table) (ring now f : ℕ) (r : JobRecord) (skipped : Bool) (journal : Vec JobRecord Global) (fences : Fences) (row new : RingRow) (entities : EntityRows) → IsWhole t
+pub pick_done : (t : Table) (ring now f : ℕ) (r : JobRecord) (skipped : Bool) (journal : Vec JobRecord Global) (fences : Fences) (row new : RingJobs) (entities : EntityRows) → IsWhole t
     → ring < length t.spec.rings → choice (state_of t) ring ≡ Some f → nat_lt (free_credits (state_of t) ring) (credits_of (state_of t) ring f) ≡ false
     → slice_get t.journal.items f ≡ Some r → skipped ≡ is_guilty (state_of t) r.job.entity
     → journal.items ≡ changed_at t.journal.items f (λ r. record r { phase = Scheduled; is_skipped = skipped || r.is_skipped })
-    → fences.list ≡ map fence_of journal.items → vec_capacity journal ≡ vec_capacity t.journal → fences.places ≡ t.fences.places
-    → slice_get t.rings.items ring ≡ Some row → ring_of_row new ≡ put_in f now (ring_of_row row) → vec_capacity new.pending ≡ vec_capacity row.pending → IsPopped journal.items t.entities entities
+    → fences.list ≡ map fence_state_of journal.items → vec_capacity journal ≡ vec_capacity t.journal → fences.places ≡ t.fences.places
+    → slice_get t.rings.items ring ≡ Some row → ring_state_of new ≡ put_in f now (ring_state_of row) → vec_capacity new.pending ≡ vec_capacity row.pending → IsPopped journal.items t.entities entities
     → (pick_refusal (state_of t) ring ≡ None)
     × (pick_outcome (state_of t) ring now ≡ (answer.Picked f skipped, state_of (picked_tables t ring journal fences new entities)))
     × IsWhole (picked_tables t ring journal fences new entities)
@@ -202,7 +202,7 @@ pick_done t ring now f r skipped journal fences row new entities w there is fits
     ∙ (ap (λ b. let q : Left = (answer.Picked f b, picked_device d ring now f) in q) (sym guilt)
     ∙ (ap (λ j. let q : Left = (answer.Picked f skipped, record d { journal = j; rings = ring_changed d.rings ring (put_in f now) }) in q) (sym given)
     ∙ (ap (λ rs. let q : Left = (answer.Picked f skipped, record d { journal = journal.items; rings = rs }) in q) (sym rings)
-    ∙ ap (λ es. let q : Left = (answer.Picked f skipped, record d { journal = journal.items; rings = map ring_of_row (set t.rings.items ring new); entities = es }) in q) (sym left_queue.marks_same)))) in
+    ∙ ap (λ es. let q : Left = (answer.Picked f skipped, record d { journal = journal.items; rings = map ring_state_of (set t.rings.items ring new); entities = es }) in q) (sym left_queue.marks_same)))) in
     let may = pick_may d ring f is fits in (
       may,
       takes,

@@ -26,8 +26,8 @@ use Rattle.drm_core.specs.Outcomes.{armed_core, context_changed}
 use Rattle.drm_core.specs.Step.{Step, reply}
 use Rattle.drm_core.specs.Steady.{IsSteadyCore}
 use Rattle.drm_core.specs.Tables.{state_of}
-use Rattle.drm_core.specs.Cores.{core_state, context_of_row, DepsCover, plan_at, PlanStands, IsCore}
-use Rattle.drm_core.specs.Planning.{holds_in, AreRoomy, AreApart}
+use Rattle.drm_core.specs.Cores.{core_state, context_of_row, DepsCover, planned_by, PlanStands, IsCore}
+use Rattle.drm_core.specs.Planning.{holds_in, AreRoomy, ShareNoBuffer}
 use Rattle.drm_core.proofs.CoreSteps.{reply_kept}
 use Rattle.drm_core.proofs.LatestStands.{all_at}
 use Rattle.drm_core.proofs.Locks.{plan_of_row, plan_in, plan_cases, reply_is, row_changed}
@@ -82,6 +82,7 @@ plan_done s c ctx draft plan row new core same there job begun none held covers 
       record {
         steady = subst IsSteadyCore (ap (λ (p : Answer × CoreState). p.1) replies) (reply_kept (core_state c) (event.Plan ctx draft) core.steady (lt-ltb ctx 64 there)).steady;
         whole = core.whole;
+        inside = core.inside;
         plans = λ k other at.
             elim (plan_cases c.contexts.items ctx k (option_map (with_plan plan) row) other at) [
               | inl here ↦ subst (λ n. PlanStands planned n other) (sym here.0) (subst (PlanStands planned ctx) (the_plan row other here.1) stands)
@@ -126,7 +127,7 @@ plan_done s c ctx draft plan row new core same there job begun none held covers 
 -- ---- a plan is armed
 
 -- the job that a context has planned is that of its row
-pub planned_job : (c : CoreTable) (k : ℕ) → plan_of (core_state c) k ≡ option_map (λ (p : Plan). p.job) (plan_at c k)
+pub planned_job : (c : CoreTable) (k : ℕ) → plan_of (core_state c) k ≡ option_map (λ (p : Plan). p.job) (planned_by c k)
 planned_job c k = in_rows c.contexts.items k
   where
     in_rows : (cs : List (Option ContextRow)) (k : ℕ)
@@ -138,7 +139,7 @@ planned_job c k = in_rows c.contexts.items k
     in_rows (row ∷ cs) (suc k) = in_rows cs k
 
 -- the plan of a row that an index found
-pub planned_there : (c : CoreTable) (ctx : ℕ) (row : Option ContextRow) (plan : Option Plan) → IsCore c → ctx < 64 → row ≡ get_or c.contexts.items ctx row → plan_of_row row ≡ plan → plan_at c ctx ≡ plan
+pub planned_there : (c : CoreTable) (ctx : ℕ) (row : Option ContextRow) (plan : Option Plan) → IsCore c → ctx < 64 → row ≡ get_or c.contexts.items ctx row → plan_of_row row ≡ plan → planned_by c ctx ≡ plan
 planned_there c ctx row plan core there row_is is = ap (λ o. option_map_or plan_of_row o None) (row_there c ctx row core there row_is) ∙ is
 
 -- what an arming tests, where there is a plan
@@ -174,12 +175,12 @@ pub record MayArm (c n : CoreTable) (ctx : ℕ) (plan : Plan) : Type 0 where
   pub covers : DepsCover (state_of c.table) plan.job plan.deps
   pub may : arm_refusal (state_of c.table) plan.job ≡ None
   pub roomy : AreRoomy plan.job c.reservations.items
-  pub apart : (k : ℕ) (other : Plan) → plan_at n k ≡ Some other → AreApart plan.job other.job
+  pub apart : (k : ℕ) (other : Plan) → planned_by n k ≡ Some other → ShareNoBuffer plan.job other.job
   pub core : IsCore n
   pub replies : reply (core_state c) (event.Arm ctx) ≡ (answer.Armed (length c.table.journal.items), armed_core (core_state n) plan.job)
 
 -- plans of two contexts share no buffer: each holds all of its own
-pub plans_apart : (c : CoreTable) (ctx k : ℕ) (plan other : Plan) → IsCore c → plan_at c ctx ≡ Some plan → plan_at c k ≡ Some other → k ≢ ctx → AreApart plan.job other.job
+pub plans_apart : (c : CoreTable) (ctx k : ℕ) (plan other : Plan) → IsCore c → planned_by c ctx ≡ Some plan → planned_by c k ≡ Some other → k ≢ ctx → ShareNoBuffer plan.job other.job
 plans_apart c ctx k plan other core here there differ i j d e at_d at_e same =
     let s = core_state c in
     let held = all_at (holds s ctx) (buffers_of plan.job) i d.0 (core.plans ctx plan here).holds (to_map (λ (x : ℕ × Access). x.0) plan.job.declared i d at_d) in
@@ -204,6 +205,7 @@ plan_taken c ctx plan row new core there early row_is is new_is =
           reservations = core.steady.reservations;
         };
         whole = core.whole;
+        inside = core.inside;
         plans = λ k other at.
             let old = core.plans k other (still k other at).1 in
             record { covers = old.covers; holds = old.holds; room = old.room };
@@ -222,7 +224,7 @@ plan_taken c ctx plan row new core there early row_is is new_is =
     left : CoreTable
     left = record c { contexts = with_item c.contexts ctx (option_map without_plan row) }
 
-    planned : plan_at c ctx ≡ Some plan
+    planned : planned_by c ctx ≡ Some plan
     planned = planned_there c ctx row (Some plan) core there row_is is
 
     stands : PlanStands c ctx plan
@@ -238,7 +240,7 @@ plan_taken c ctx plan row new core there early row_is is new_is =
     no_plan None = refl
     no_plan (Some r) = refl
 
-    still : (k : ℕ) (other : Plan) → plan_at left k ≡ Some other → (k ≢ ctx) × (plan_at c k ≡ Some other)
+    still : (k : ℕ) (other : Plan) → planned_by left k ≡ Some other → (k ≢ ctx) × (planned_by c k ≡ Some other)
     still k other at =
         elim (plan_cases c.contexts.items ctx k (option_map without_plan row) other at) [
           | inl here ↦ absurd (let never : None ≡ Some other = sym (no_plan row) ∙ here.1 in cc (never))
@@ -246,9 +248,9 @@ plan_taken c ctx plan row new core there early row_is is new_is =
         ]
 
     steady_plan : (k : ℕ) (job : Draft) → plan_of (core_state left) k ≡ Some job → IsJob c.table.spec job
-    steady_plan k job at = of_plan (plan_at left k) refl (sym (planned_job left k) ∙ at)
+    steady_plan k job at = of_plan (planned_by left k) refl (sym (planned_job left k) ∙ at)
       where
-        of_plan : (o : Option Plan) → plan_at left k ≡ o → option_map (λ (p : Plan). p.job) o ≡ Some job → IsJob c.table.spec job
+        of_plan : (o : Option Plan) → planned_by left k ≡ o → option_map (λ (p : Plan). p.job) o ≡ Some job → IsJob c.table.spec job
         of_plan None at none = absurd (let never : None ≡ Some job = none in cc (never))
         of_plan (Some p) at some =
             let same : Some p.job ≡ Some job = some in

@@ -29,8 +29,8 @@ use Rattle.drm_core.specs.Outcomes.{outcome_of_event, armed_core}
 use Rattle.drm_core.specs.Step.{unless_refused, reply, Step}
 use Rattle.drm_core.specs.Steady.{IsSteadyCore}
 use Rattle.drm_core.specs.Reservation.{usage_at, Fits}
-use Rattle.drm_core.specs.Cores.{core_state, plan_at, PlanStands, IsCore}
-use Rattle.drm_core.specs.Planning.{MoreRoom, HasRoomFor, AreRoomy, AreApart, is_held_in}
+use Rattle.drm_core.specs.Cores.{core_state, planned_by, PlanStands, IsCore}
+use Rattle.drm_core.specs.Planning.{MoreRoom, HasRoomFor, AreRoomy, ShareNoBuffer, is_held_in}
 use Rattle.drm_core.specs.Tables.{state_of}
 use Rattle.drm_core.specs.declared.table.Table.{Table}
 use Rattle.drm_core.specs.declared.cores.ContextRow.{ContextRow}
@@ -90,6 +90,7 @@ roomier c rs core more =
       record {
         steady = subst IsSteadyCore (sym state) core.steady;
         whole = core.whole;
+        inside = core.inside;
         plans = λ ctx plan is.
             let stands = core.plans ctx plan is in
             record { covers = stands.covers; holds = stands.holds; room = λ b r at used. room_of plan stands b r at used };
@@ -125,7 +126,7 @@ held_by s ctx buffer is = by_holder (option_and_then (λ o. o) (slice_get s.hold
 
 -- a plan shares no buffer with a job whose buffers nobody holds
 pub free_apart : (c : CoreTable) (job : Draft) → IsCore c → find (is_held (core_state c)) (buffers_of job) ≡ None
-    → (ctx : ℕ) (other : Plan) → plan_at c ctx ≡ Some other → AreApart job other.job
+    → (ctx : ℕ) (other : Plan) → planned_by c ctx ≡ Some other → ShareNoBuffer job other.job
 free_apart c job core none ctx other is i j d e at_d at_e same =
     let s = core_state c in
     let free = each_fails (is_held s) (buffers_of job) i d.0 none (to_map (λ (x : ℕ × Access). x.0) job.declared i d at_d) in
@@ -194,5 +195,5 @@ submit_armed c n m draft job f none is same table job_is late number armed =
     ∙ sym (reply_is (core_state c) (event.Submit draft) (submit_early (core_state c) draft None none is) may)))
 
 -- the plans are those of the state before, where nothing but the room changed
-pub plans_same : (c n : CoreTable) (ctx : ℕ) (other : Plan) → n.contexts ≡ c.contexts → plan_at n ctx ≡ Some other → plan_at c ctx ≡ Some other
+pub plans_same : (c n : CoreTable) (ctx : ℕ) (other : Plan) → n.contexts ≡ c.contexts → planned_by n ctx ≡ Some other → planned_by c ctx ≡ Some other
 plans_same c n ctx other same is = subst (λ cs. option_map_or (λ o. option_map_or (λ (row : ContextRow). row.plan) o None) (slice_get cs.items ctx) None ≡ Some other) same is

@@ -26,15 +26,15 @@ use Rattle.drm_fence.specs.Fences.{fence_changed}
 use Rattle.drm_fence.specs.Phases.{has_ended}
 use Rattle.drm_core.specs.declared.journal.JobRecord.{JobRecord}
 use Rattle.drm_core.specs.declared.table.Table.{Table}
-use Rattle.drm_core.specs.declared.table.RingRow.{RingRow}
+use Rattle.drm_core.specs.declared.table.RingJobs.{RingJobs}
 use Rattle.drm_core.specs.State.{RingState, DeviceState}
 use Rattle.drm_core.specs.Journal.{is_at}
 use Rattle.drm_core.specs.Ring.{current_of, pending_of, credit_limit_of, ring_changed}
-use Rattle.drm_core.specs.Grows.{Grows, RecordGrows, GoesOn, Each}
+use Rattle.drm_core.specs.Grows.{Grows, RecordGrows, GoesOn, EachInPlace}
 use Rattle.drm_core.specs.Order.{comes_after}
 use Rattle.drm_core.specs.Waits.{DepsStand, IsDependency}
 use Rattle.drm_core.specs.Plain.{marks_of, WaitsStand, QueuesStand}
-use Rattle.drm_core.specs.Tables.{state_of, fence_of, ring_of_row, IsWhole, HasRooms}
+use Rattle.drm_core.specs.Tables.{state_of, fence_state_of, ring_state_of, IsWhole, HasRooms}
 use Rattle.drm_core.proofs.Records.{to_map}
 use Rattle.drm_core.proofs.Pairs.{get_set_cases}
 use Rattle.drm_core.proofs.RingChange.{ring_changed_is}
@@ -51,7 +51,7 @@ neither false b is = (refl, is)
 -- a ring of the description has a row
 pub row_there : (t : Table) (ring : ℕ) → IsWhole t → ring < length t.spec.rings → ring < length t.rings.items
 row_there t ring w there =
-    let count : length t.rings.items ≡ length t.spec.rings = sym (length-map t.rings.items ring_of_row) ∙ w.steady.lawful.ring_count in
+    let count : length t.rings.items ≡ length t.spec.rings = sym (length-map t.rings.items ring_state_of) ∙ w.steady.lawful.ring_count in
     omega (arith, there, count)
 
 -- so has an entity
@@ -79,11 +79,11 @@ pub record IsRunning (t : Table) (ring f : ℕ) (r : JobRecord) : Type 0 where
   pub current : IsCurrent (state_of t) ring f r
   pub left : r.ran < length r.job.packets
   pub job : IsJob t.spec r.job
-  pub fence : slice_get t.fences.list f ≡ Some (fence_of r)
+  pub fence : slice_get t.fences.list f ≡ Some (fence_state_of r)
 
 -- the fence of a job that is there
-pub fence_there : (t : Table) (f : ℕ) (r : JobRecord) → IsWhole t → slice_get t.journal.items f ≡ Some r → slice_get t.fences.list f ≡ Some (fence_of r)
-fence_there t f r w at = ap (λ fs. slice_get fs f) w.fences ∙ to_map fence_of t.journal.items f r at
+pub fence_there : (t : Table) (f : ℕ) (r : JobRecord) → IsWhole t → slice_get t.journal.items f ≡ Some r → slice_get t.fences.list f ≡ Some (fence_state_of r)
+fence_there t f r w at = ap (λ fs. slice_get fs f) w.fences ∙ to_map fence_state_of t.journal.items f r at
 
 pub running_at : (t : Table) (ring f : ℕ) → IsWhole t → ring < length t.spec.rings → current_of (state_of t) ring ≡ Some f → (r : JobRecord) × IsRunning t ring f r
 running_at t ring f w there is =
@@ -107,19 +107,19 @@ running_found t ring f y w there is y_is =
     subst (IsRunning t ring f) same c.1
 
 -- its next packet finds its ranges in the memory
-pub next_in_range : (t : Table) (ring f : ℕ) (r : JobRecord) (p : Packet) → IsWhole t → IsRunning t ring f r → slice_get r.job.packets r.ran ≡ Some p → IsTrue (is_in_range p t.memory)
+pub next_in_range : (t : Table) (ring f : ℕ) (r : JobRecord) (p : Packet) → IsWhole t → IsRunning t ring f r → slice_get r.job.packets r.ran ≡ Some p → IsTrue (is_in_range p t.memory.bytes)
 next_in_range t ring f r p w run at =
-    All-contains (λ q. IsTrue (is_in_range q t.memory)) r.job.packets p (runs_in t.spec r.job t.memory run.job w.sizes) (contains_at r.job.packets r.ran p at)
+    All-contains (λ q. IsTrue (is_in_range q t.memory.bytes)) r.job.packets p (runs_in t.spec r.job t.memory.bytes run.job w.sizes) (contains_at r.job.packets r.ran p at)
 
 -- the fences stay those of the jobs when a job and its fence change alike
-pub fence_tie : (js : List JobRecord) (fs : List FenceState) (f : ℕ) (r new : JobRecord) (change : FenceState → FenceState) → fs ≡ map fence_of js
-    → slice_get js f ≡ Some r → change (fence_of r) ≡ fence_of new → fence_changed fs f change ≡ map fence_of (set js f new)
+pub fence_tie : (js : List JobRecord) (fs : List FenceState) (f : ℕ) (r new : JobRecord) (change : FenceState → FenceState) → fs ≡ map fence_state_of js
+    → slice_get js f ≡ Some r → change (fence_state_of r) ≡ fence_state_of new → fence_changed fs f change ≡ map fence_state_of (set js f new)
 fence_tie js fs f r new change tie at same =
-    ap (λ o. option_map_or (λ x. set fs f (change x)) o fs) (ap (λ fs. slice_get fs f) tie ∙ to_map fence_of js f r at)
-    ∙ (ap (λ x. set fs f x) same ∙ (ap (λ fs. set fs f (fence_of new)) tie ∙ sym (map-set fence_of js f new)))
+    ap (λ o. option_map_or (λ x. set fs f (change x)) o fs) (ap (λ fs. slice_get fs f) tie ∙ to_map fence_state_of js f r at)
+    ∙ (ap (λ x. set fs f x) same ∙ (ap (λ fs. set fs f (fence_state_of new)) tie ∙ sym (map-set fence_state_of js f new)))
 
 -- what stands in the new journal stood in the old one
-pub grew_from : (old new : List JobRecord) (i : ℕ) (x : JobRecord) → Each RecordGrows old new → length new ≡ length old → slice_get new i ≡ Some x
+pub grew_from : (old new : List JobRecord) (i : ℕ) (x : JobRecord) → EachInPlace RecordGrows old new → length new ≡ length old → slice_get new i ≡ Some x
     → (o : JobRecord) × (slice_get old i ≡ Some o) × RecordGrows o x
 grew_from old new i x grows count at =
     let lt : i < length old = subst (λ n. i < n) count (slice_get_within new i x at) in
@@ -135,7 +135,7 @@ had_not_ended Scheduled new goes is = refl
 had_not_ended (Ended o) new goes is = let never : true ≡ false = sym (ap has_ended goes) ∙ is in absurd (cc (never))
 
 -- dependencies stand while the journal grows
-pub stand_kept : (old new : List JobRecord) (j : ℕ) (job : Draft) (deps : List (ℕ × ℕ)) → DepsStand old j job deps → Each RecordGrows old new
+pub stand_kept : (old new : List JobRecord) (j : ℕ) (job : Draft) (deps : List (ℕ × ℕ)) → DepsStand old j job deps → EachInPlace RecordGrows old new
     → length new ≡ length old → DepsStand new j job deps
 stand_kept old new j job deps stand grows count = record {
   covers = λ i x lt at comes going.
@@ -158,8 +158,8 @@ waits_kept old new waits stand grows count = record {
 }
 
 -- tables stay whole when their device is kept and their parts go on with it
-pub whole_kept : (t u : Table) → IsWhole t → IsKept (state_of t) (state_of u) → u.fences.list ≡ map fence_of u.journal.items → u.waits.items ≡ t.waits.items
-    → QueuesStand u.journal.items u.entities → sizes_of u.memory ≡ sizes_of t.memory → HasRooms u → IsWhole u
+pub whole_kept : (t u : Table) → IsWhole t → IsKept (state_of t) (state_of u) → u.fences.list ≡ map fence_state_of u.journal.items → u.waits.items ≡ t.waits.items
+    → QueuesStand u.journal.items u.entities → sizes_of u.memory.bytes ≡ sizes_of t.memory.bytes → HasRooms u → IsWhole u
 whole_kept t u w kept fences waits queues sizes rooms =
     let spec : u.spec ≡ t.spec = kept.grows.spec in
     record {
@@ -190,22 +190,22 @@ pub found_by_test : (js : List JobRecord) (f : ℕ) (test : JobRecord → Bool) 
 found_by_test js f test x is x_is = let there = passes_at js f test is in at_index js f x x_is (slice_get_within js f there.0 there.1)
 
 -- the ring states after one row changed
-pub rings_tie : (rows : List RingRow) (ring : ℕ) (row new : RingRow) (change : RingState → RingState) → slice_get rows ring ≡ Some row
-    → ring_of_row new ≡ change (ring_of_row row) → map ring_of_row (set rows ring new) ≡ ring_changed (map ring_of_row rows) ring change
+pub rings_tie : (rows : List RingJobs) (ring : ℕ) (row new : RingJobs) (change : RingState → RingState) → slice_get rows ring ≡ Some row
+    → ring_state_of new ≡ change (ring_state_of row) → map ring_state_of (set rows ring new) ≡ ring_changed (map ring_state_of rows) ring change
 rings_tie rows ring row new change at is =
-    map-set ring_of_row rows ring new ∙ (ap (set (map ring_of_row rows) ring) is
-    ∙ sym (ring_changed_is (map ring_of_row rows) ring (ring_of_row row) change (to_map ring_of_row rows ring row at)))
+    map-set ring_state_of rows ring new ∙ (ap (set (map ring_state_of rows) ring) is
+    ∙ sym (ring_changed_is (map ring_state_of rows) ring (ring_state_of row) change (to_map ring_state_of rows ring row at)))
 
 -- the pending jobs of a ring that is there
-pub row_pending : (t : Table) (ring : ℕ) (row : RingRow) → slice_get t.rings.items ring ≡ Some row → pending_of (state_of t) ring ≡ row.pending.items
-row_pending t ring row at = ap (λ o. option_map_or (λ (r : RingState). r.pending) o []) (to_map ring_of_row t.rings.items ring row at)
+pub row_pending : (t : Table) (ring : ℕ) (row : RingJobs) → slice_get t.rings.items ring ≡ Some row → pending_of (state_of t) ring ≡ row.pending.items
+row_pending t ring row at = ap (λ o. option_map_or (λ (r : RingState). r.pending) o []) (to_map ring_state_of t.rings.items ring row at)
 
 -- an index finds the row of a ring
-pub row_found : (t : Table) (ring : ℕ) (row : RingRow) → IsWhole t → ring < length t.spec.rings → row ≡ get_or t.rings.items ring row → slice_get t.rings.items ring ≡ Some row
+pub row_found : (t : Table) (ring : ℕ) (row : RingJobs) → IsWhole t → ring < length t.spec.rings → row ≡ get_or t.rings.items ring row → slice_get t.rings.items ring ≡ Some row
 row_found t ring row w there is = at_index t.rings.items ring row is (row_there t ring w there)
 
 -- room stays where one row changed and kept its own
-pub rooms_kept : (t u : Table) (ring : ℕ) (row new : RingRow) → HasRooms t → u.spec ≡ t.spec → u.rings.items ≡ set t.rings.items ring new → slice_get t.rings.items ring ≡ Some row
+pub rooms_kept : (t u : Table) (ring : ℕ) (row new : RingJobs) → HasRooms t → u.spec ≡ t.spec → u.rings.items ≡ set t.rings.items ring new → slice_get t.rings.items ring ≡ Some row
     → vec_capacity new.pending ≡ vec_capacity row.pending → vec_capacity u.journal ≡ vec_capacity t.journal → vec_capacity u.waits ≡ vec_capacity t.waits
     → u.fences.places ≡ t.fences.places → u.entities.places ≡ t.entities.places → HasRooms u
 rooms_kept t u ring row new rooms spec rings at room jobs waits places queues = record {
@@ -217,7 +217,7 @@ rooms_kept t u ring row new rooms spec rings at room jobs waits places queues = 
       elim (get_set_cases t.rings.items ring k row new r at (ap (λ rs. slice_get rs k) (sym rings) ∙ at_k)) [
         | inl here ↦
             let old : credit_limit_of (state_of t) ring ≤ vec_capacity row.pending = rooms.pending ring row at in
-            let same : vec_capacity r.pending ≡ vec_capacity row.pending = ap (λ (x : RingRow). vec_capacity x.pending) here.1 ∙ room in
+            let same : vec_capacity r.pending ≡ vec_capacity row.pending = ap (λ (x : RingJobs). vec_capacity x.pending) here.1 ∙ room in
             let limit : credit_limit_of (state_of u) k ≡ credit_limit_of (state_of t) ring = limit_kept k ∙ ap (credit_limit_of (state_of t)) here.0 in
             omega (arith, old, same, limit)
         | inr there ↦ let old = rooms.pending k r there.1 in let limit = limit_kept k in omega (arith, old, limit)

@@ -14,7 +14,7 @@ use Rattle.drm_core.specs.State.{DeviceState, Context, CoreState}
 use Rattle.drm_core.specs.Context.{holds_all}
 use Rattle.drm_core.specs.Reservation.{usage_at}
 use Rattle.drm_core.specs.Steady.{IsSteadyCore, PlansHeld, HoldersBegun, JobsHavePlace}
-use Rattle.drm_core.specs.Tables.{state_of, IsWhole}
+use Rattle.drm_core.specs.Tables.{state_of, IsWhole, AllIn}
 
 -- the context of a row: what it has planned is its job
 abbrev pub context_of_row : ContextRow → Context
@@ -41,8 +41,8 @@ pub record DepsCover (device : DeviceState) (job : Draft) (deps : List (ℕ × �
   pub of_jobs : All (MeetsPlan device.journal job) deps
 
 -- the plan of a context
-abbrev pub plan_at : CoreTable → ℕ → Option Plan
-plan_at c ctx = option_map_or (λ o. option_map_or (λ (row : ContextRow). row.plan) o None) (slice_get c.contexts.items ctx) None
+abbrev pub planned_by : CoreTable → ℕ → Option Plan
+planned_by c ctx = option_map_or (λ o. option_map_or (λ (row : ContextRow). row.plan) o None) (slice_get c.contexts.items ctx) None
 
 -- each plan covers, its context holds all that it declares, and these reservations have room
 pub record PlanStands (c : CoreTable) (ctx : ℕ) (plan : Plan) : Type 0 where
@@ -54,7 +54,8 @@ pub record PlanStands (c : CoreTable) (ctx : ℕ) (plan : Plan) : Type 0 where
 pub record IsCore (c : CoreTable) : Type 0 where
   pub steady : IsSteadyCore (core_state c)
   pub whole : IsWhole c.table
-  pub plans : (ctx : ℕ) (plan : Plan) → plan_at c ctx ≡ Some plan → PlanStands c ctx plan
+  pub inside : AllIn c.table
+  pub plans : (ctx : ℕ) (plan : Plan) → planned_by c ctx ≡ Some plan → PlanStands c ctx plan
   pub reservation_count : length c.reservations.items ≡ length c.table.spec.buffers
   pub holder_count : length c.holders.items ≡ length c.table.spec.buffers
   pub context_count : length c.contexts.items ≡ 64

@@ -27,3 +27,7 @@ pub mod Planning
 pub mod Claims
 pub mod Headline
 pub mod Held
+pub mod Marks
+pub mod Watching
+pub mod MarkedTables
+pub mod Begun

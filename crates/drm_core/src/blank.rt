@@ -1,13 +1,13 @@
 ghost use Rattle.std.specs.Prelude.{◌≡◌, [], None, IfOk, map, replicate};
 ghost use Rattle.drm_types.specs.Limits.{spec_fault};
 ghost use Rattle.drm_core.specs.State.{opened_device, opened};
-ghost use Rattle.drm_core.specs.Tables.{ring_of_row, state_of, IsWhole};
+ghost use Rattle.drm_core.specs.Tables.{ring_state_of, state_of, IsWhole, AllIn};
 ghost use Rattle.drm_core.specs.Cores.{core_state, IsCore};
 ghost use Rattle.drm_core.specs.Building.{HaveRoomFor};
 
 use crate::cores::{ContextRow, CoreTable};
-use crate::table::{RingRow, Table};
-use drm_buffer::Memory;
+use crate::table::{RingJobs, Table};
+use drm_buffer::Store;
 use drm_entity::Entities;
 use drm_fence::Timeline;
 use drm_resv::Resv;
@@ -15,14 +15,14 @@ use drm_types::{CtxId, DeviceSpec, RingSpec};
 use std::alloc::{AllocError, Global};
 
 // A row for each ring: nothing is pending, and there is room for as many jobs as its credits allow.
-fn blank_rings(alloc: Global, specs: &[RingSpec]) -> Result<Vec<RingRow>, AllocError>
-    ensures rows { IfOk result (λ rows. map ring_of_row rows.items ≡ map (λ ring. record { pending = []; since = 0 }) specs.now) }
+fn blank_rings(alloc: Global, specs: &[RingSpec]) -> Result<Vec<RingJobs>, AllocError>
+    ensures rows { IfOk result (λ rows. map ring_state_of rows.items ≡ map (λ ring. record { pending = []; since = 0 }) specs.now) }
     ensures room { IfOk result (λ rows. HaveRoomFor specs.now rows.items) }
 {
     let mut rows = Vec::with_capacity(alloc, specs.len())?;
     for ring in specs {
         let pending = Vec::with_capacity(alloc, ring.credit_limit as usize)?;
-        rows.push(RingRow { pending, since: 0 })?;
+        rows.push(RingJobs { pending, since: 0 })?;
     }
     Ok(rows)
 }
@@ -62,8 +62,9 @@ impl Table {
         requires limits { spec_fault spec ≡ None }
         ensures opened { IfOk result (λ t. state_of t ≡ opened_device spec) }
         ensures whole { IfOk result (λ t. IsWhole t) }
+        ensures inside { IfOk result (λ t. AllIn t) }
     {
-        let memory = Memory::copy_of(alloc, &spec.buffers)?;
+        let memory = Store::copy_of(alloc, &spec.buffers)?;
         let max_jobs = spec.max_jobs as usize;
         let journal = Vec::with_capacity(alloc, max_jobs)?;
         let waits = Vec::with_capacity(alloc, max_jobs)?;

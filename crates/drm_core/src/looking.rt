@@ -1,11 +1,11 @@
-ghost use Rattle.std.specs.Prelude.{◌≡◌, ◌⊎◌, ◌<◌, length, map};
+ghost use Rattle.std.specs.Prelude.{◌≡◌, ◌⊎◌, ◌<◌, length, map, slice_get, Some, false};
 ghost use Rattle.drm_buffer.specs.Memory.{bytes_of};
 ghost use Rattle.drm_core.specs.declared.event.Answer.TheVariants as answer;
 ghost use Rattle.drm_core.specs.declared.event.Refusal.TheVariants as refusal;
 ghost use Rattle.drm_core.specs.declared.event.Event.TheVariants as event;
 ghost use Rattle.drm_core.specs.Refusals.{busy_fence};
 ghost use Rattle.drm_core.specs.Step.{reply, Step};
-ghost use Rattle.drm_core.specs.Tables.{fence_of};
+ghost use Rattle.drm_core.specs.Tables.{fence_state_of};
 ghost use Rattle.drm_core.specs.Cores.{core_state, IsCore};
 
 use crate::cores::CoreTable;
@@ -19,7 +19,7 @@ impl Table {
     /// The least fence without an outcome among the reservation's entries of WRITE and stronger: a read of the
     /// buffer has to wait for it.
     pub(crate) fn busy_fence(&self, resv: &Resv) -> Option<FenceId>
-        requires { self.now.fences.list ≡ map fence_of self.now.journal.items }
+        requires { self.now.fences.list ≡ map fence_state_of self.now.journal.items }
         ensures { result ≡ busy_fence self.now.journal.items resv.now.kept }
     {
         resv.least_active(Usage::Write, &self.fences)
@@ -27,8 +27,8 @@ impl Table {
 
     // The bytes of the buffer, copied.
     fn copy_of(&self, alloc: Global, buffer: BufferId) -> Answer
-        requires { buffer < length self.now.memory }
-        ensures { (result ≡ answer.Bytes (bytes_of self.now.memory buffer)) ⊎ (result ≡ answer.Refused refusal.Memory) }
+        requires { slice_get self.now.memory.out buffer ≡ Some false }
+        ensures { (result ≡ answer.Bytes (bytes_of self.now.memory.bytes buffer)) ⊎ (result ≡ answer.Refused refusal.Memory) }
     {
         match Vec::from_slice(alloc, self.memory.bytes(buffer)) {
             Ok(bytes) => Answer::Bytes {

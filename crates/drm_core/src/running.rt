@@ -7,7 +7,7 @@ ghost use Rattle.drm_core.specs.Journal.{is_at, changed_at};
 ghost use Rattle.drm_core.specs.Outcomes.{must_stall as must_stall_at, pick_outcome, step_outcome, finish_outcome, ended_at};
 ghost use Rattle.drm_core.specs.Refusals.{pick_refusal, step_refusal, finish_refusal};
 ghost use Rattle.drm_core.specs.Answers.{picked, stepped, finished};
-ghost use Rattle.drm_core.specs.Tables.{state_of, fence_of, ending, IsWhole};
+ghost use Rattle.drm_core.specs.Tables.{state_of, fence_state_of, ending, IsWhole, NextIsIn};
 
 use crate::answer::{Finished, Picked, Stepped};
 use crate::choice;
@@ -19,7 +19,7 @@ use drm_packet::Packet;
 use drm_types::{FenceId, Moment, Outcome, RingId};
 
 // Whether the packet waits for more resets of its job.
-fn must_stall(packet: Packet, resets: u16) -> bool
+pub(crate) fn must_stall(packet: Packet, resets: u16) -> bool
     ensures { result ≡ must_stall_at packet resets }
 {
     match packet {
@@ -48,9 +48,9 @@ fn final_outcome(journal: &[JobRecord], fence: FenceId) -> Option<Outcome>
 // The job was given to its ring.
 fn schedule_job(journal: &mut Vec<JobRecord>, fences: &mut Timeline, number: FenceId, skipped: bool)
     requires queued { IsTrue (is_at journal.old.items number (λ r. is_queued r.phase)) }
-    requires tied { fences.old.list ≡ map fence_of journal.old.items }
+    requires tied { fences.old.list ≡ map fence_state_of journal.old.items }
     ensures journal { journal.new.items ≡ changed_at journal.old.items number (λ r. record r { phase = Phase.Scheduled; is_skipped = skipped || r.is_skipped }) }
-    ensures tied { fences.new.list ≡ map fence_of journal.new.items }
+    ensures tied { fences.new.list ≡ map fence_state_of journal.new.items }
     ensures room { vec_capacity journal.new ≡ vec_capacity journal.old }
     ensures places { fences.new.places ≡ fences.old.places }
 {
@@ -68,9 +68,9 @@ pub(crate) fn end_job(
     outcome: Outcome,
 )
     requires going { IsTrue (is_at journal.old.items number (λ r. not (has_ended r.phase))) }
-    requires tied { fences.old.list ≡ map fence_of journal.old.items }
+    requires tied { fences.old.list ≡ map fence_state_of journal.old.items }
     ensures journal { journal.new.items ≡ ended_at journal.old.items number outcome }
-    ensures tied { fences.new.list ≡ map fence_of journal.new.items }
+    ensures tied { fences.new.list ≡ map fence_state_of journal.new.items }
     ensures room { vec_capacity journal.new ≡ vec_capacity journal.old }
     ensures places { fences.new.places ≡ fences.old.places }
 {
@@ -103,6 +103,7 @@ impl Table {
         ensures picked { IfOk result (λ p. (pick_refusal (state_of self.old) ring ≡ None) × (pick_outcome (state_of self.old) ring now ≡ (picked p, state_of self.new))) }
         ensures refused { IfErr result (λ r. (pick_refusal (state_of self.old) ring ≡ Some r) × (self.new ≡ self.old)) }
         ensures whole { IsWhole self.new }
+        ensures out { self.new.memory.out ≡ self.old.memory.out }
     {
         let Some(number) = self.choice(ring) else {
             return Err(Refusal::Idle);
@@ -127,9 +128,11 @@ impl Table {
     pub(crate) fn step(&mut self, ring: RingId) -> Result<Stepped, Refusal>
         requires there { ring < length self.old.spec.rings }
         requires whole { IsWhole self.old }
+        requires inside { NextIsIn self.old ring }
         ensures ran { IfOk result (λ s. (step_refusal (state_of self.old) ring ≡ None) × (step_outcome (state_of self.old) ring ≡ (stepped s, state_of self.new))) }
         ensures refused { IfErr result (λ r. (step_refusal (state_of self.old) ring ≡ Some r) × (self.new ≡ self.old)) }
         ensures whole { IsWhole self.new }
+        ensures out { self.new.memory.out ≡ self.old.memory.out }
     {
         let Some(number) = self.current(ring) else {
             return Err(Refusal::Idle);
@@ -140,7 +143,7 @@ impl Table {
         if must_stall(packet, record.karma.resets()) {
             return Ok(Stepped::Stalled { fence: number });
         }
-        packet.run(&mut self.memory);
+        packet.run_in(&mut self.memory);
         self.journal[number as usize].ran = count + 1;
         self.fences.count_packet(number);
         Ok(Stepped::Ran {
@@ -156,6 +159,7 @@ impl Table {
         ensures finished { IfOk result (λ f. (finish_refusal (state_of self.old) ring ≡ None) × (finish_outcome (state_of self.old) ring now ≡ (finished f, state_of self.new))) }
         ensures refused { IfErr result (λ r. (finish_refusal (state_of self.old) ring ≡ Some r) × (self.new ≡ self.old)) }
         ensures whole { IsWhole self.new }
+        ensures out { self.new.memory.out ≡ self.old.memory.out }
     {
         let Some(number) = self.head(ring) else {
             return Err(Refusal::Idle);

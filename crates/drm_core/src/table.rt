@@ -1,21 +1,20 @@
 ghost use Rattle.std.specs.Prelude.{◌≡◌, ℕ, ◌<◌, ◌≤◌, not, length, find, min, sum_by, Some, false, IsTrue, slice_get, vec_len, vec_capacity};
 ghost use Rattle.std.specs.Option.{option_map_or};
 ghost use Rattle.drm_types.specs.Firsts.{first};
-ghost use Rattle.drm_core.specs.Arming.{ring_of};
 ghost use Rattle.drm_core.specs.Journal.{is_at, is_complete as is_complete_record};
 ghost use Rattle.drm_core.specs.Ring.{current_of, head_of, credits_of, used_credits, credit_limit_of};
 ghost use Rattle.drm_core.specs.Tables.{state_of};
 
 use crate::journal::JobRecord;
-use drm_buffer::Memory;
+use drm_buffer::Store;
 use drm_entity::Entities;
 use drm_fence::Timeline;
 use drm_resv::Deps;
-use drm_types::{DeviceSpec, EntityId, FenceId, Moment, RingId, RingSpec};
+use drm_types::{DeviceSpec, FenceId, Moment, RingId, RingSpec};
 
 /// A ring: the numbers of its pending jobs in order, and the moment from which its head's age counts.
 #[derive(Drop)]
-pub struct RingRow {
+pub struct RingJobs {
     pub pending: Vec<FenceId>,
     pub since: Moment,
 }
@@ -24,12 +23,12 @@ pub struct RingRow {
 #[derive(Drop)]
 pub struct Table {
     pub spec: DeviceSpec,
-    pub memory: Memory,
+    pub memory: Store,
     pub journal: Vec<JobRecord>,
     /// The fences that each job waits for, by number.
     pub waits: Vec<Deps>,
     pub fences: Timeline,
-    pub rings: Vec<RingRow>,
+    pub rings: Vec<RingJobs>,
     /// The queued jobs of each entity, and its marks.
     pub entities: Entities,
 }
@@ -82,13 +81,13 @@ fn sum_of_credits(journal: &[JobRecord], pending: &[FenceId], limit: u16) -> u32
         .sum()
 }
 
-impl RingRow {
-    ghost use Rattle.drm_core.specs.Tables.{ring_of_row, put_in, popped_at};
+impl RingJobs {
+    ghost use Rattle.drm_core.specs.Tables.{ring_state_of, put_in, popped_at};
 
     // One more pending job. The age of the first one counts from now.
     pub(crate) fn put(&mut self, number: FenceId, now: Moment)
         requires room { vec_len self.old.pending < vec_capacity self.old.pending }
-        ensures row { ring_of_row self.new ≡ put_in number now (ring_of_row self.old) }
+        ensures row { ring_state_of self.new ≡ put_in number now (ring_state_of self.old) }
         ensures room { vec_capacity self.new.pending ≡ vec_capacity self.old.pending }
     {
         if self.pending.is_empty() {
@@ -100,7 +99,7 @@ impl RingRow {
     // The head leaves. The age of the next one counts from now.
     pub(crate) fn pop(&mut self, now: Moment)
         requires head { 0 < vec_len self.old.pending }
-        ensures row { ring_of_row self.new ≡ popped_at now (ring_of_row self.old) }
+        ensures row { ring_state_of self.new ≡ popped_at now (ring_state_of self.old) }
         ensures room { vec_capacity self.new.pending ≡ vec_capacity self.old.pending }
     {
         if self.pending.len() != 1 {
@@ -111,14 +110,6 @@ impl RingRow {
 }
 
 impl Table {
-    /// The ring that the entity's jobs run on.
-    pub(crate) fn ring_of(&self, entity: EntityId) -> RingId
-        requires { entity < length self.now.spec.entities }
-        ensures { result ≡ ring_of (state_of self.now) entity }
-    {
-        self.spec.entities.as_slice()[entity as usize].ring
-    }
-
     pub(crate) fn ring_spec(&self, ring: RingId) -> RingSpec
         requires { ring < length self.now.spec.rings }
         ensures { slice_get self.now.spec.rings ring ≡ Some result }

@@ -1,6 +1,7 @@
 //! Worked runs of a core, event by event: tables of what is done and what the core has to say.
 mod device_calls;
 mod locking;
+mod outside;
 mod recovery;
 mod running;
 
@@ -260,31 +261,45 @@ pub const RING: RingSpec = RingSpec {
 };
 
 /// An entity of ring 0, and one of ring 1.
-pub const ENTITY: EntitySpec = EntitySpec {
-    ring: 0,
+pub const ENTITY: Entity = Entity {
+    rings: &[0],
     priority: Priority::Normal,
 };
 
-pub const OTHER: EntitySpec = EntitySpec {
-    ring: 1,
+pub const OTHER: Entity = Entity {
+    rings: &[1],
     priority: Priority::Normal,
 };
+
+/// An entity, of plain lists.
+#[derive(Clone, Copy)]
+pub struct Entity {
+    pub rings: &'static [RingId],
+    pub priority: Priority,
+}
 
 pub fn device(
     alloc: Global,
     first_bytes: &[&[u8]],
     rings: &[RingSpec],
-    entities: &[EntitySpec],
+    entities: &[Entity],
     max_jobs: u32,
 ) -> Result<DeviceSpec, AllocError> {
     let mut buffers = Sequence::new(alloc);
     for bytes in first_bytes {
         buffers.push(Sequence::from_vec(Vec::from_slice(alloc, bytes)?))?;
     }
+    let mut rows = Sequence::new(alloc);
+    for entity in entities {
+        rows.push(EntitySpec {
+            rings: Sequence::from_vec(Vec::from_slice(alloc, entity.rings)?),
+            priority: entity.priority,
+        })?;
+    }
     Ok(DeviceSpec {
         buffers,
         rings: Sequence::from_vec(Vec::from_slice(alloc, rings)?),
-        entities: Sequence::from_vec(Vec::from_slice(alloc, entities)?),
+        entities: rows,
         max_jobs,
     })
 }

@@ -1,9 +1,9 @@
 //! Timeouts, guilt, cancelled entities, and what the memory holds after them.
 use super::Work::{Add, Copy, Fill, Stall};
-use super::{Do, ENTITY, Job, OTHER, RING, Say, device, first_wrong};
+use super::{Entity, Do, ENTITY, Job, OTHER, RING, Say, device, first_wrong};
 use crate::Refusal;
 use drm_types::Access::{Read, Write};
-use drm_types::{EntitySpec, Outcome, Priority, RingSpec};
+use drm_types::{Outcome, Priority, RingSpec};
 use std::test::Fail;
 
 #[test]
@@ -149,7 +149,7 @@ fn a_kernel_entity_is_never_guilty(rt: HostRuntime) -> Result<(), Fail> {
         alloc,
         &[&[0; 4]],
         &[RING],
-        &[EntitySpec {
+        &[Entity {
             priority: Priority::Kernel,
             ..ENTITY
         }],

@@ -1,9 +1,9 @@
 //! Jobs from their submission to their end: dependencies, credits and priorities.
 use super::Work::{Add, Copy, Fill};
-use super::{Do, ENTITY, Job, OTHER, RING, Say, device, first_wrong};
+use super::{Entity, Do, ENTITY, Job, OTHER, RING, Say, device, first_wrong};
 use crate::Refusal;
 use drm_types::Access::{Read, Write};
-use drm_types::{EntitySpec, Outcome, Priority};
+use drm_types::{Outcome, Priority};
 use std::test::Fail;
 
 #[test]
@@ -216,7 +216,7 @@ fn higher_priorities_are_picked_first(rt: HostRuntime) -> Result<(), Fail> {
         &[RING, RING],
         &[
             ENTITY,
-            EntitySpec {
+            Entity {
                 priority: Priority::High,
                 ..ENTITY
             },
