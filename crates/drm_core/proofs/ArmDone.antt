@@ -24,7 +24,7 @@ use Rattle.drm_core.specs.declared.journal.JobRecord.{JobRecord}
 use Rattle.drm_core.specs.declared.table.Table.{Table}
 use Rattle.drm_core.specs.declared.event.Refusal.TheVariants.{Stopped, Full, NoFence}
 use Rattle.drm_core.specs.State.{DeviceState}
-use Rattle.drm_core.specs.Arming.{ring_of, new_record, armed_device}
+use Rattle.drm_core.specs.Arming.{arming_ring, new_record, armed_device}
 use Rattle.drm_core.specs.Refusals.{arm_refusal}
 use Rattle.drm_core.specs.Ring.{is_stopped}
 use Rattle.drm_core.specs.Steady.{IsSteady}
@@ -178,7 +178,7 @@ abbrev pub armed_tables : Table → Vec JobRecord Global → Vec (List (ℕ × �
 armed_tables t journal waits fences entities = record t { journal = journal; waits = waits; fences = fences; entities = entities }
 
 pub arm_done : (t : Table) (job : Draft) (deps : List (ℕ × ℕ)) (ring : ℕ) (journal : Vec JobRecord Global) (waits : Vec (List (ℕ × ℕ)) Global) (fences : Fences) (entities : EntityRows) → IsWhole t
-    → IsJob t.spec job → DepsCover (state_of t) job deps → arm_refusal (state_of t) job ≡ None → ring ≡ ring_of (state_of t) job.entity
+    → IsJob t.spec job → DepsCover (state_of t) job deps → arm_refusal (state_of t) job ≡ None → ring ≡ arming_ring (state_of t) job.entity
     → journal.items ≡ t.journal.items ++ record (new_record (state_of t) job) { ring = ring } ∷ []
     → waits.items ≡ t.waits.items ++ all_named t.journal.items deps job.after ∷ []
     → fences.list ≡ t.fences.list ++ record { phase = Queued; ran = 0 } ∷ [] → vec_capacity journal ≡ vec_capacity t.journal → vec_capacity waits ≡ vec_capacity t.waits
@@ -216,11 +216,3 @@ arm_done t job deps ring journal waits fences entities w is_job cover may ring_i
         };
       },
     )
-
--- the ring that the description names for an entity
-pub ring_found : (d : DeviceState) (es : List EntitySpec) (e entity : ℕ) (blank : EntitySpec) → es ≡ d.spec.entities → e ≡ entity → entity < length d.spec.entities
-    → (get_or es e blank).ring ≡ ring_of d entity
-ring_found d es e entity blank es_is e_is lt =
-    ap (λ xs. (get_or xs e blank).ring) es_is
-    ∙ (ap (λ k. (get_or d.spec.entities k blank).ring) e_is
-    ∙ sym (ap (λ o. option_map_or (λ (x : EntitySpec). x.ring) o 0) (slice_get-get_or d.spec.entities entity blank lt)))

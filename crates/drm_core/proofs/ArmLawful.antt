@@ -12,14 +12,15 @@ use Rattle.drm_fence.specs.declared.phase.Phase.TheVariants.{Queued, Scheduled}
 use Rattle.drm_core.specs.declared.journal.JobRecord.{JobRecord}
 use Rattle.drm_core.specs.State.{DeviceState}
 use Rattle.drm_core.specs.Journal.{turns}
-use Rattle.drm_core.specs.Arming.{ring_of, new_record, armed_device}
+use Rattle.drm_core.specs.Arming.{new_record, armed_device}
 use Rattle.drm_core.specs.Ring.{pending_of, credits_of, credit_limit_of}
 use Rattle.drm_core.specs.Lawful.{EachTwo, IsSound, IsPendingList, ComesInOrder, KeepsEntityOrder}
-use Rattle.drm_core.specs.Steady.{BeginsMet, StandsInOrder, IsSteady}
+use Rattle.drm_core.specs.Steady.{BeginsMet, StandsInOrder, IsSteady, StaysHome, IsRingOf}
 use Rattle.drm_core.proofs.Records.{turn_of}
 use Rattle.drm_core.proofs.Pending.{contains_at}
 use Rattle.drm_core.proofs.RingChange.{ring_lawful_by}
 use Rattle.drm_core.proofs.PickLawful.{get_push_cases}
+use Rattle.drm_core.proofs.Homes.{arming_home, arming_listed}
 
 -- what stands in a list stands there with one more at its end
 pub get_before_push : {X : Type 0} (xs : List X) (y : X) (k : ℕ) (x : X) → slice_get xs k ≡ Some x → slice_get (xs ++ y ∷ []) k ≡ Some x
@@ -97,10 +98,11 @@ arm_steady d job steady is_job =
         });
       };
       met = each_two_push d.journal last BeginsMet steady.met (λ i x at_i. λ comes begun. let never : true ≡ false = begun in absurd (cc (never)));
-      home = λ i x at_i.
+      home = each_two_push d.journal last StaysHome steady.home (λ i x at_i same. arming_home d job.entity i x steady at_i same);
+      listed = λ i x at_i.
           elim (get_push_cases d.journal last i x at_i) [
-            | inl was ↦ steady.home i x was
-            | inr it ↦ subst (λ (z : JobRecord). z.ring ≡ ring_of d z.job.entity) (sym it.1) refl
+            | inl was ↦ steady.listed i x was
+            | inr it ↦ subst (λ (z : JobRecord). IsRingOf d.spec z.job.entity z.ring) (sym it.1) (arming_listed d job.entity steady)
           ];
       order = λ k k_here. each_two_push d.journal last (StandsInOrder (pending_of d k)) (steady.order k k_here) (λ i x at_i must a b at_a at_b.
           let y = ((law.rings k k_here).pending (length d.journal)).0 (contains_at (pending_of d k) b (length d.journal) at_b) in

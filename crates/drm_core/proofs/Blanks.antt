@@ -8,6 +8,7 @@ use Rattle.drm_types.specs.declared.spec.RingSpec.{RingSpec}
 use Rattle.drm_types.specs.declared.spec.DeviceSpec.{DeviceSpec}
 use Rattle.drm_entity.specs.Rows.{EntityRow, EntityRows}
 use Rattle.drm_buffer.specs.Memory.{sizes_of}
+use Rattle.drm_buffer.specs.Stored.{Stored, all_in}
 use Rattle.drm_resv.specs.Reservation.{WithRoom}
 use Rattle.drm_core.specs.declared.journal.JobRecord.{JobRecord}
 use Rattle.drm_core.specs.declared.table.RingJobs.{RingJobs}
@@ -17,7 +18,7 @@ use Rattle.drm_core.specs.declared.cores.CoreTable.{CoreTable}
 use Rattle.drm_core.specs.State.{DeviceState, CoreState, opened_device, opened}
 use Rattle.drm_core.specs.Steady.{IsSteady, IsSteadyCore}
 use Rattle.drm_core.specs.Plain.{marks_of, marks, WaitsStand, QueuesStand}
-use Rattle.drm_core.specs.Tables.{state_of, ring_state_of, fence_state_of, HasRooms, IsWhole}
+use Rattle.drm_core.specs.Tables.{state_of, ring_state_of, fence_state_of, HasRooms, IsWhole, AllIn}
 use Rattle.drm_core.specs.Cores.{core_state, context_of_row, planned_by, IsCore}
 use Rattle.drm_core.specs.Building.{HaveRoomFor}
 use Rattle.drm_core.proofs.Opening.{opened_steady, opened_core_steady}
@@ -63,11 +64,11 @@ no_queues spec entity lt = by_row (length spec.entities) entity
     by_row (suc n) (suc entity) = by_row n entity
 
 -- the tables of a device on which no job was armed
-pub blank_device : (t : Table) → t.memory ≡ t.spec.buffers → t.journal.items ≡ []
+pub blank_device : (t : Table) → t.memory ≡ all_in t.spec.buffers → t.journal.items ≡ []
     → map ring_state_of t.rings.items ≡ map (λ (ring : RingSpec). record { pending = []; since = 0 }) t.spec.rings
     → t.entities ≡ blank_entities t.spec → state_of t ≡ opened_device t.spec
 blank_device t memory journal rings entities =
-    ap (λ m. let d : DeviceState = record { spec = t.spec; memory = m; journal = t.journal.items; rings = map ring_state_of t.rings.items; entities = marks t.entities } in d) memory
+    ap (λ m. let d : DeviceState = record { spec = t.spec; memory = m; journal = t.journal.items; rings = map ring_state_of t.rings.items; entities = marks t.entities } in d) (ap (λ (s : Stored). s.bytes) memory)
     ∙ (ap (λ j. let d : DeviceState = record { spec = t.spec; memory = t.spec.buffers; journal = j; rings = map ring_state_of t.rings.items; entities = marks t.entities } in d) journal
     ∙ (ap (λ rs. let d : DeviceState = record { spec = t.spec; memory = t.spec.buffers; journal = []; rings = rs; entities = marks t.entities } in d) rings
     ∙ ap (λ es. record (opened_device t.spec) { entities = es })
@@ -117,10 +118,11 @@ no_plan zero ctx = refl
 no_plan (suc n) zero = refl
 no_plan (suc n) (suc ctx) = no_plan n ctx
 
-pub blank_is_core : (c : CoreTable) → core_state c ≡ opened c.table.spec → IsWhole c.table → c.contexts.items ≡ replicate 64 None → IsCore c
-blank_is_core c is whole contexts = record {
+pub blank_is_core : (c : CoreTable) → core_state c ≡ opened c.table.spec → IsWhole c.table → AllIn c.table → c.contexts.items ≡ replicate 64 None → IsCore c
+blank_is_core c is whole inside contexts = record {
   steady = subst IsSteadyCore (sym is) (opened_core_steady c.table.spec);
   whole = whole;
+  inside = inside;
   plans = λ ctx plan found.
       let none : planned_by c ctx ≡ None = ap (λ rows. option_map_or (λ o. option_map_or (λ (row : ContextRow). row.plan) o None) (slice_get rows ctx) None) contexts ∙ no_plan 64 ctx in
       let clash : None ≡ Some plan = sym none ∙ found in absurd (cc (clash));

@@ -37,6 +37,7 @@ use Rattle.drm_core.proofs.ChoiceIs.{get_numbered}
 use Rattle.drm_core.proofs.PickLawful.{get_push_cases}
 use Rattle.drm_core.proofs.ArmLawful.{get_before_push}
 use Rattle.drm_core.proofs.CoreSteps.{arm_kept}
+use Rattle.drm_core.proofs.Stored.{all_in_kept}
 
 -- two lists that have the same at each place are one
 pub list_ext : {X : Type 0} (xs ys : List X) → length xs ≡ length ys → ((k : ℕ) (x : X) → slice_get xs k ≡ Some x → slice_get ys k ≡ Some x) → xs ≡ ys
@@ -178,10 +179,10 @@ abbrev pub armed_parts : CoreTable → Table → Vec WithRoom Global → CoreTab
 armed_parts c u rs = record c { table = u; reservations = rs }
 
 pub core_armed : (c : CoreTable) (u : Table) (rs : Vec WithRoom Global) (job : Draft) → IsCore c → IsJob c.table.spec job
-    → HaveUses (has_ended_at c.table.fences.list) (length c.table.journal.items) job c.reservations.items rs.items → state_of u ≡ armed_device (state_of c.table) job → IsWhole u
+    → HaveUses (has_ended_at c.table.fences.list) (length c.table.journal.items) job c.reservations.items rs.items → state_of u ≡ armed_device (state_of c.table) job → IsWhole u → u.memory.out ≡ c.table.memory.out
     → ((ctx : ℕ) (other : Plan) → planned_by c ctx ≡ Some other → ShareNoBuffer job other.job)
     → (core_state (armed_parts c u rs) ≡ armed_core (core_state c) job) × IsCore (armed_parts c u rs)
-core_armed c u rs job core is_job uses armed whole apart =
+core_armed c u rs job core is_job uses armed whole out apart =
     let state : core_state (armed_parts c u rs) ≡ armed_core (core_state c) job =
     ap (λ d. let s : CoreState = record (core_state c) { device = d; reservations = map (λ r. r.kept) rs.items } in s) armed
     ∙ ap (λ xs. let s : CoreState = record (core_state c) { device = armed_device (state_of c.table) job; reservations = xs } in s)
@@ -190,6 +191,7 @@ core_armed c u rs job core is_job uses armed whole apart =
       record {
         steady = subst IsSteadyCore (sym state) (arm_kept (core_state c) job core.steady is_job).steady;
         whole = whole;
+        inside = all_in_kept c.table u core.inside (ap (λ (d : DeviceState). d.spec) armed) out;
         plans = λ ctx plan is. plan_stands_on c (armed_parts c u rs) ctx plan job (has_ended_at c.table.fences.list) armed refl uses (apart ctx plan is) (core.plans ctx plan is);
         reservation_count = uses.count ∙ (core.reservation_count ∙ ap (λ (d : DeviceState). length d.spec.buffers) (sym armed));
         holder_count = core.holder_count ∙ ap (λ (d : DeviceState). length d.spec.buffers) (sym armed);

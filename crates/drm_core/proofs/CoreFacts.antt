@@ -13,6 +13,7 @@ use Rattle.drm_core.specs.Tables.{state_of, IsWhole}
 use Rattle.drm_core.specs.Cores.{core_state, MeetsPlan, DepsCover, IsCore}
 use Rattle.drm_core.proofs.CoreSteps.{device_kept}
 use Rattle.drm_core.proofs.DeviceSteps.{IsKept}
+use Rattle.drm_core.proofs.Stored.{all_in_kept}
 use Rattle.drm_core.proofs.TableFacts.{grew_from, had_not_ended}
 
 -- what covers goes on to cover while the journal grows
@@ -29,12 +30,13 @@ cover_kept old new job deps cover grows count = record {
 }
 
 -- the core with another device that the old one grew to
-pub table_changed : (c : CoreTable) (u : Table) → IsCore c → IsWhole u → IsKept (state_of c.table) (state_of u) → IsCore (record c { table = u })
-table_changed c u core whole kept =
+pub table_changed : (c : CoreTable) (u : Table) → IsCore c → IsWhole u → IsKept (state_of c.table) (state_of u) → u.memory.out ≡ c.table.memory.out → IsCore (record c { table = u })
+table_changed c u core whole kept out =
     let spec : u.spec ≡ c.table.spec = kept.grows.spec in
     record {
       steady = (device_kept (core_state c) (state_of u) core.steady kept).steady;
       whole = whole;
+      inside = all_in_kept c.table u core.inside spec out;
       plans = λ ctx plan is.
           let stands = core.plans ctx plan is in
           record {

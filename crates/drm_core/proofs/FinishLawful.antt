@@ -13,11 +13,10 @@ use Rattle.drm_core.specs.State.{RingState, DeviceState}
 use Rattle.drm_core.specs.Journal.{turns, is_complete, changed_at}
 use Rattle.drm_fence.specs.Phases.{is_queued, has_ended}
 use Rattle.drm_core.specs.Order.{comes_after, is_met}
-use Rattle.drm_core.specs.Arming.{ring_of}
 use Rattle.drm_core.specs.Ring.{pending_of, head_of, credits_of, credit_limit_of}
 use Rattle.drm_core.specs.Outcomes.{final_outcome, finished_device}
 use Rattle.drm_core.specs.Lawful.{EachTwo, HasRightOutcome, IsSound, IsPendingList, IsOnce, ComesInOrder, KeepsEntityOrder, IsLawfulRing, IsLawfulDevice}
-use Rattle.drm_core.specs.Steady.{MustFollow, BeginsMet, StandsInOrder, IsSteady}
+use Rattle.drm_core.specs.Steady.{MustFollow, BeginsMet, StandsInOrder, IsSteady, StaysHome, IsRingOf}
 use Rattle.drm_core.proofs.Records.{turn_of, to_map, changed_is, turns_changed}
 use Rattle.drm_core.proofs.Pairs.{get_set_other, get_set_cases, each_two_set, sum_by_agree}
 use Rattle.drm_core.proofs.Pending.{contains_at, place_of, credits_kept}
@@ -92,8 +91,10 @@ pub earlier_of_entity_ended : (d : DeviceState) (ring f i : ℕ) (r x : JobRecor
     → i < f → slice_get d.journal i ≡ Some x → x.job.entity ≡ r.job.entity → has_ended x.phase ≡ true
 earlier_of_entity_ended d ring f i r x steady here head lt at_i entity =
     let order : KeepsEntityOrder i x f r = steady.lawful.entities i f x r lt at_i head.at in
-    let on_ring : x.ring ≡ ring = steady.home i x at_i ∙ (ap (ring_of d) entity ∙ (sym (steady.home f r head.at) ∙ head.on_ring)) in
-    before_head_ended d ring f i r x steady here head lt at_i (inr entity) (order.begun entity (ap is_queued head.phase)) on_ring
+    elim (steady.home i f x r lt at_i head.at entity) [
+      | inl over ↦ over
+      | inr on ↦ before_head_ended d ring f i r x steady here head lt at_i (inr entity) (order.begun entity (ap is_queued head.phase)) (on ∙ head.on_ring)
+    ]
 
 -- what the other rings have pending when a record of this ring ends
 pub others_pending : (journal : List JobRecord) (f : ℕ) (r : JobRecord) (o : Outcome) (k : ℕ) (numbers : List ℕ) → slice_get journal f ≡ Some r
@@ -228,10 +229,12 @@ finish_steady d ring f now r steady in_range head complete =
       met = subst (λ js. EachTwo js BeginsMet) (sym change.journal) (each_two_set d.journal f r (ended o r) BeginsMet head.at steady.met
           (λ j y lt at_j old. λ comes begun. refl)
           (λ i x lt at_i old. λ comes begun. old comes (ap is_queued head.phase)));
-      home = λ i x at_i.
+      home = subst (λ js. EachTwo js StaysHome) (sym change.journal) (each_two_set d.journal f r (ended o r) StaysHome head.at steady.home
+          (λ j y lt at_j old. λ e. inl refl) (λ i x lt at_i old. old));
+      listed = λ i x at_i.
           elim (get_set_cases d.journal f i r (ended o r) x head.at (subst (λ js. slice_get js i ≡ Some x) change.journal at_i)) [
-            | inl it ↦ subst (λ (z : JobRecord). z.ring ≡ ring_of d z.job.entity) (sym it.1) (steady.home f r head.at)
-            | inr other ↦ steady.home i x other.1
+            | inl it ↦ subst (λ (z : JobRecord). IsRingOf d.spec z.job.entity z.ring) (sym it.1) (steady.listed f r head.at)
+            | inr other ↦ steady.listed i x other.1
           ];
       order = λ k k_here.
           let kept : (numbers : List ℕ) → EachTwo d.journal (StandsInOrder numbers) → EachTwo new.journal (StandsInOrder numbers) =

@@ -12,11 +12,10 @@ use Rattle.drm_core.specs.declared.journal.JobRecord.{JobRecord}
 use Rattle.drm_core.specs.State.{EntityState, RingState, DeviceState}
 use Rattle.drm_core.specs.Journal.{turns, is_complete, is_over, changed_at}
 use Rattle.drm_fence.specs.Phases.{is_scheduled, has_ended}
-use Rattle.drm_core.specs.Arming.{ring_of}
 use Rattle.drm_core.specs.Ring.{pending_of, credits_of, credit_limit_of, entity_changed}
 use Rattle.drm_core.specs.Outcomes.{cancelled_device, hung, hung_device, condemned, condemned_device}
 use Rattle.drm_core.specs.Lawful.{EachTwo, HasRightOutcome, IsSound, IsPendingList, ComesInOrder, KeepsEntityOrder, IsLawfulDevice}
-use Rattle.drm_core.specs.Steady.{BeginsMet, StandsInOrder, IsSteady}
+use Rattle.drm_core.specs.Steady.{BeginsMet, StandsInOrder, IsSteady, StaysHome, IsRingOf}
 use Rattle.drm_core.proofs.Records.{turn_of, from_map, to_map, changed_is, turns_changed}
 use Rattle.drm_core.proofs.Pairs.{get_set_cases, each_two_set, sum_by_agree}
 use Rattle.drm_core.proofs.Pending.{pending_kept, credits_kept}
@@ -49,6 +48,7 @@ entities_steady d entities count steady = record {
   lawful = entities_lawful d entities count steady.lawful;
   met = steady.met;
   home = steady.home;
+  listed = steady.listed;
   order = steady.order;
 }
 
@@ -110,10 +110,12 @@ hang_steady d ring now f r steady here at =
             (λ i x lt at_i old. record { begun = old.begun; ended = old.ended }));
       };
       met = subst (λ js. EachTwo js BeginsMet) (sym same) (each_two_set d.journal f r (hung d r) BeginsMet at steady.met (λ j y lt at_j old. old) (λ i x lt at_i old. old));
-      home = λ i x at_i.
+      home = subst (λ js. EachTwo js StaysHome) (sym same) (each_two_set d.journal f r (hung d r) StaysHome at steady.home
+          (λ j y lt at_j old. old) (λ i x lt at_i old. old));
+      listed = λ i x at_i.
           elim (get_set_cases d.journal f i r (hung d r) x at (subst (λ js. slice_get js i ≡ Some x) same at_i)) [
-            | inl it ↦ subst (λ (z : JobRecord). z.ring ≡ ring_of d z.job.entity) (sym it.1) (steady.home f r at)
-            | inr other ↦ steady.home i x other.1
+            | inl it ↦ subst (λ (z : JobRecord). IsRingOf d.spec z.job.entity z.ring) (sym it.1) (steady.listed f r at)
+            | inr other ↦ steady.listed i x other.1
           ];
       order = λ k k_here. subst (λ ns. EachTwo new.journal (StandsInOrder ns)) (sym (pends k))
           (subst (λ js. EachTwo js (StandsInOrder (pending_of d k))) (sym same)
@@ -210,7 +212,8 @@ condemn_steady d ring e steady =
         entities = each_two_map d.journal v KeepsEntityOrder KeepsEntityOrder law.entities (λ i j x y old. record { begun = old.begun; ended = old.ended });
       };
       met = each_two_map d.journal v BeginsMet BeginsMet steady.met (λ i j x y old. old);
-      home = λ i x at_i.
-          let y = from_map v d.journal i x at_i in subst (λ (z : JobRecord). z.ring ≡ ring_of d z.job.entity) (sym y.2) (steady.home i y.0 y.1);
+      home = each_two_map d.journal v StaysHome StaysHome steady.home (λ i j x y old. old);
+      listed = λ i x at_i.
+          let y = from_map v d.journal i x at_i in subst (λ (z : JobRecord). IsRingOf d.spec z.job.entity z.ring) (sym y.2) (steady.listed i y.0 y.1);
       order = λ k k_here. each_two_map d.journal v (StandsInOrder (pending_of d k)) (StandsInOrder (pending_of d k)) (steady.order k k_here) (λ i j x y old. old);
     }

@@ -155,6 +155,8 @@ pub writes_as_declared : (o : Option Access) → option_map_or may_write o false
 writes_as_declared None e = let never : false ≡ true = e in cc (never)
 writes_as_declared (Some access.Read) e = let never : false ≡ true = e in cc (never)
 writes_as_declared (Some access.Write) e = refl
+writes_as_declared (Some access.Hold) e = let never : false ≡ true = e in cc (never)
+writes_as_declared (Some access.Move) e = refl
 
 -- a packet leaves each buffer that its job does not write
 pub packet_leaves : (job : Draft) (p : Packet) (m : List (List ℕ)) (b : ℕ) → IsWithin job p → (is_writer job b ≡ true → ⊥) → bytes_of (effect p m) b ≡ bytes_of m b

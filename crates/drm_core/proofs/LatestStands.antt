@@ -1,5 +1,6 @@
 -- The latest dependency of each entity stands for all its earlier ones.
-use Rattle.std.proofs.Common.{◌≡◌, ℕ, zero, suc, ◌+◌, ◌<◌, ◌≤◌, Bool, true, false, not, ◌&&◌, ◌||◌, ◌==◌, List, [], ◌∷◌, take, Some, refl, sym, ap, subst, ◌∙◌, inl, inr, ◌⊎◌, arith, slice_get}
+use Rattle.std.proofs.Common.{◌≡◌, ℕ, zero, suc, ◌+◌, ◌<◌, ◌≤◌, Bool, true, false, cond, not, ◌&&◌, ◌||◌, ◌==◌, List, [], ◌∷◌, take, length, Some, refl, sym, ap, subst, ◌∙◌, inl, inr, ◌⊎◌, arith, slice_get}
+use Rattle.std.specs.Prelude.{filter, IsTrue}
 use Rattle.std.specs.List.{list_all}
 use Rattle.std.proofs.lemmas.Bool.{and_parts, and_from, or_left, or_right, cases_eq}
 use Rattle.std.proofs.lemmas.List.Elements.{All-contains}
@@ -9,8 +10,7 @@ use Rattle.drm_core.specs.State.{DeviceState}
 use Rattle.drm_core.specs.Journal.{numbered, is_at}
 use Rattle.drm_core.specs.Order.{comes_after, is_met, dependencies}
 use Rattle.drm_core.specs.Steady.{IsSteady}
-use Rattle.drm_core.specs.Arming.{ring_of}
-use Rattle.drm_core.specs.Waits.{IsDependency, DepsStand}
+use Rattle.drm_core.specs.Waits.{IsDependency, DepsStand, unmet_of}
 use Rattle.drm_core.proofs.Records.{at_test}
 use Rattle.drm_core.proofs.Pending.{contains_at, place_of}
 use Rattle.drm_core.proofs.ChoiceIs.{numbered_get, get_numbered, get_take, all_of_filter, in_filter}
@@ -105,16 +105,20 @@ latest_stand journal j r deps test goes stand =
         ] refl
 
 -- a fence is met for a ring: it has ended, or is given to the ring
-met_by : (ring : ℕ) (x y : JobRecord) → x.ring ≡ y.ring → (has_ended y.phase ≡ true → has_ended x.phase ≡ true)
+met_by : (ring : ℕ) (x y : JobRecord) → IsTrue (has_ended x.phase) ⊎ (x.ring ≡ y.ring) → (has_ended y.phase ≡ true → has_ended x.phase ≡ true)
     → (is_queued y.phase ≡ false → is_queued x.phase ≡ false) → is_met ring y ≡ true → is_met ring x ≡ true
 met_by ring x y home ended begun passes =
     elim (has_ended y.phase) as (λ t. has_ended y.phase ≡ t → (t || (not (is_queued y.phase) && (y.ring == ring))) ≡ true → is_met ring x ≡ true) [
       | true ↦ λ is met. or_left (has_ended x.phase) (not (is_queued x.phase) && (x.ring == ring)) (ended is)
       | false ↦ λ is met.
           let parts = and_parts (not (is_queued y.phase)) (y.ring == ring) met in
-          let same : (x.ring == ring) ≡ true = ap (λ n. n == ring) home ∙ parts.1 in
           let begun_x : not (is_queued x.phase) ≡ true = ap not (begun (not_not (is_queued y.phase) parts.0)) in
-          or_right (has_ended x.phase) (not (is_queued x.phase) && (x.ring == ring)) (and_from (not (is_queued x.phase)) (x.ring == ring) begun_x same)
+          elim home [
+            | inl over ↦ or_left (has_ended x.phase) (not (is_queued x.phase) && (x.ring == ring)) over
+            | inr on ↦
+                let same : (x.ring == ring) ≡ true = ap (λ n. n == ring) on ∙ parts.1 in
+                or_right (has_ended x.phase) (not (is_queued x.phase) && (x.ring == ring)) (and_from (not (is_queued x.phase)) (x.ring == ring) begun_x same)
+          ]
     ] refl passes
   where
     not_not : (b : Bool) → not b ≡ true → b ≡ false
@@ -126,8 +130,7 @@ pub met_goes_down : (d : DeviceState) (ring : ℕ) → IsSteady d → GoesDown d
 met_goes_down d ring steady = record {
   down = λ i f x y lt at_x at_y same passes.
       let order = steady.lawful.entities i f x y lt at_x at_y in
-      let home : x.ring ≡ y.ring = steady.home i x at_x ∙ (ap (ring_of d) same ∙ sym (steady.home f y at_y)) in
-      met_by ring x y home (order.ended same) (order.begun same) passes;
+      met_by ring x y (steady.home i f x y lt at_x at_y same) (order.ended same) (order.begun same) passes;
   ended = λ x is. or_left (has_ended x.phase) (not (is_queued x.phase) && (x.ring == ring)) is;
 }
 

@@ -13,7 +13,6 @@ use Rattle.drm_fence.specs.Phases.{is_queued}
 use Rattle.drm_core.specs.declared.journal.JobRecord.{JobRecord}
 use Rattle.drm_core.specs.State.{EntityState, DeviceState}
 use Rattle.drm_core.specs.Journal.{numbered}
-use Rattle.drm_core.specs.Arming.{ring_of}
 use Rattle.drm_core.specs.Order.{is_ready}
 use Rattle.drm_core.specs.Choice.{is_head_of, may_begin, ready_heads, choice}
 use Rattle.drm_core.specs.Chosen.{IsFirstQueued, MayBegin, rank_at, GoesBefore, IsLeast, NoneMayBegin, ChoiceIsLeast}
@@ -208,7 +207,6 @@ to_head d ring entity f steady m =
     (option_map_or (λ (e : EntityState). not e.is_stopped) (slice_get d.entities entity) false)
     (ap (λ o. option_map_or (λ (e : EntitySpec). rank_of e.priority == rank_of row.0.priority) o false) row.1 ∙ eq-eqb (rank_of row.0.priority) (rank_of row.0.priority) refl)
     (ap (λ o. option_map_or (λ (e : EntityState). not e.is_stopped) o false) mark.1 ∙ ap not going) in
-    let home : m.head.ring ≡ ring = steady.home f m.head m.first.at ∙ (ap (ring_of d) m.first.of_entity ∙ m.on_ring) in
     let head : is_head_of entity d.journal f ≡ true = head_is_first d.journal entity f m.head m.first in
     record {
       priority = row.0.priority;
@@ -219,7 +217,7 @@ to_head d ring entity f steady m =
             ((m.head.ring == ring) && may_begin d row.0.priority m.head.job.entity && is_head_of m.head.job.entity d.journal f)
             (is_ready d.journal f m.head)
             (and_from ((m.head.ring == ring) && may_begin d row.0.priority m.head.job.entity) (is_head_of m.head.job.entity d.journal f)
-            (and_from (m.head.ring == ring) (may_begin d row.0.priority m.head.job.entity) (eq-eqb m.head.ring ring home)
+            (and_from (m.head.ring == ring) (may_begin d row.0.priority m.head.job.entity) (eq-eqb m.head.ring ring m.on_ring)
             (subst (λ e. may_begin d row.0.priority e ≡ true) (sym m.first.of_entity) may))
             (subst (λ e. is_head_of e d.journal f ≡ true) (sym m.first.of_entity) head))
             m.ready,
@@ -267,10 +265,10 @@ from_head d ring f p head steady h = by_spec (slice_get d.spec.entities entity) 
         record {
           may = record {
             there = slice_get_within d.spec.entities entity e at;
-            on_ring = sym (steady.home f head h.0) ∙ eqb-true head.ring ring one.0;
             active = going (slice_get d.entities entity) both.1;
             head = head;
             first = record { at = h.0; of_entity = refl; queued = queue.0; first = queue.1 };
+            on_ring = eqb-true head.ring ring one.0;
             ready = three.1;
           };
           rank = ap (λ o. option_map_or (λ (e : EntitySpec). rank_of e.priority) o 0) at ∙ eqb-true (rank_of e.priority) (rank_of p) some;

@@ -55,3 +55,17 @@ pub mod HeadlinePicks
 pub mod HeadlineKept
 pub mod HeldFacts
 pub mod CoreStands
+pub mod Homes
+pub mod Marks
+pub mod Watching
+pub mod MarksKept
+pub mod Stored
+pub mod MarksOther
+pub mod MarkedDone
+pub mod MarkedOut
+pub mod MarkedBack
+pub mod MarkedArm
+pub mod MarkedReport
+pub mod MarkedSteps
+pub mod MarkedBuffers
+pub mod MarkedReported

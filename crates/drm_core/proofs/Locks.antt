@@ -22,7 +22,7 @@ use Rattle.drm_core.specs.Outcomes.{outcome_of_event}
 use Rattle.drm_core.specs.Names.{names_exist}
 use Rattle.drm_core.specs.Step.{unless_refused, reply}
 use Rattle.drm_core.specs.Steady.{IsSteadyCore}
-use Rattle.drm_core.specs.Tables.{state_of, IsWhole}
+use Rattle.drm_core.specs.Tables.{state_of, IsWhole, AllIn}
 use Rattle.drm_core.specs.Cores.{core_state, DepsCover, planned_by, IsCore}
 use Rattle.drm_core.proofs.CoreSteps.{reply_kept}
 use Rattle.drm_core.proofs.Pairs.{get_set_other}
@@ -98,6 +98,7 @@ pub core_kept : (c n : CoreTable) (e : Event) (a : Answer) → IsCore c → n.ta
 core_kept c n e a core table resvs names is plans holders contexts tickets = record {
   steady = subst IsSteadyCore (ap (λ (p : Answer × CoreState). p.1) is) (reply_kept (core_state c) e core.steady names).steady;
   whole = subst IsWhole (sym table) core.whole;
+  inside = subst AllIn (sym table) core.inside;
   plans = λ k plan at.
       let kept = plans k plan at in
       let old = core.plans k plan kept.0 in

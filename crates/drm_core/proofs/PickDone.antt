@@ -14,7 +14,7 @@ use Rattle.drm_types.specs.declared.spec.RingSpec.{RingSpec}
 use Rattle.drm_types.specs.declared.spec.EntitySpec.{EntitySpec}
 use Rattle.drm_types.specs.declared.spec.BadSpec.{BadSpec}
 use Rattle.drm_types.specs.Firsts.{when}
-use Rattle.drm_types.specs.Limits.{spec_fault, whole, each, is_between}
+use Rattle.drm_types.specs.Limits.{spec_fault, whole, each, is_between, are_rings}
 use Rattle.drm_job.specs.declared.Draft.{Draft}
 use Rattle.drm_job.specs.declared.JobFault.TheVariants.{NoCredits}
 use Rattle.drm_job.specs.Fault.{job_tests, IsJob}
@@ -64,7 +64,7 @@ spec_tests spec =
     ∷ each 4 (λ ring. is_between 1 4294967295 ring.timeout) spec.rings
     ∷ each 5 (λ ring. is_between 0 1000 ring.hang_limit) spec.rings
     ∷ whole 6 (is_between 1 64 (length spec.entities))
-    ∷ each 7 (λ entity. nat_lt entity.ring (length spec.rings)) spec.entities
+    ∷ each 7 (λ entity. are_rings (length spec.rings) entity.rings) spec.entities
     ∷ whole 8 (is_between 1 65535 spec.max_jobs)
     ∷ []
 
@@ -89,11 +89,11 @@ some_limit spec ring none there =
     let least = leb-true 1 r.credit_limit (and_parts (nat_le 1 r.credit_limit) (nat_le r.credit_limit 65535) passes).0 in
     subst (λ o. 0 < option_map_or (λ (x : RingSpec). x.credit_limit) o 0) (sym at) least
 
--- the ring of an entity is there
-pub ring_there : (spec : DeviceSpec) (entity : ℕ) (e : EntitySpec) → spec_fault spec ≡ None → slice_get spec.entities entity ≡ Some e → e.ring < length spec.rings
-ring_there spec entity e none at =
-    let is_there : EntitySpec → Bool = λ x. nat_lt x.ring (length spec.rings) in
-    ltb-true e.ring (length spec.rings)
+-- the rings of an entity are there
+pub rings_there : (spec : DeviceSpec) (entity : ℕ) (e : EntitySpec) → spec_fault spec ≡ None → slice_get spec.entities entity ≡ Some e
+    → are_rings (length spec.rings) e.rings ≡ true
+rings_there spec entity e none at =
+    let is_there : EntitySpec → Bool = λ x. are_rings (length spec.rings) x.rings in
     (none_bad is_there 0 spec.entities entity e
     (position_from-zero-none (λ x. not (is_there x)) spec.entities
     (no_place (λ i. record { part = 7; index = i }) (position (λ x. not (is_there x)) spec.entities)

@@ -14,11 +14,10 @@ use Rattle.drm_core.specs.State.{RingState, DeviceState}
 use Rattle.drm_core.specs.Journal.{turns, changed_at}
 use Rattle.drm_fence.specs.Phases.{is_queued, has_ended}
 use Rattle.drm_core.specs.Order.{is_met}
-use Rattle.drm_core.specs.Arming.{ring_of}
 use Rattle.drm_core.specs.Ring.{pending_of, credits_of, credit_limit_of, used_credits, free_credits, is_guilty}
 use Rattle.drm_core.specs.Outcomes.{picked_device}
 use Rattle.drm_core.specs.Lawful.{EachTwo, IsSound, IsPendingList, IsOnce, ComesInOrder, KeepsEntityOrder, IsLawfulRing, IsLawfulDevice}
-use Rattle.drm_core.specs.Steady.{MustFollow, BeginsMet, StandsInOrder, IsSteady}
+use Rattle.drm_core.specs.Steady.{MustFollow, BeginsMet, StandsInOrder, IsSteady, StaysHome, IsRingOf}
 use Rattle.drm_core.proofs.Records.{turn_of, to_map, changed_is, turns_changed}
 use Rattle.drm_core.proofs.Pairs.{get_set_same, get_set_other, get_set_cases, each_two_set, sum_by_agree}
 use Rattle.drm_core.proofs.Pending.{contains_at, credits_kept}
@@ -236,10 +235,12 @@ pick_steady d ring f now r steady in_range chosen fits =
       met = subst (λ js. EachTwo js BeginsMet) (sym change.journal) (each_two_set d.journal f r (given d r) BeginsMet chosen.at steady.met
           (λ j y lt at_j old. λ comes begun. absurd (none_follows d f j r y steady chosen.at chosen.queued lt at_j begun (inl comes)))
           (λ i x lt at_i old. λ comes begun. chosen.met i x lt at_i comes));
-      home = λ i x at_i.
+      home = subst (λ js. EachTwo js StaysHome) (sym change.journal) (each_two_set d.journal f r (given d r) StaysHome chosen.at steady.home
+          (λ j y lt at_j old. λ e. elim (old e) [ inl ended ↦ absurd (both_ways (has_ended r.phase) (not_ended r.phase chosen.queued) ended) | inr on ↦ inr on ]) (λ i x lt at_i old. old));
+      listed = λ i x at_i.
           elim (get_set_cases d.journal f i r (given d r) x chosen.at (subst (λ js. slice_get js i ≡ Some x) change.journal at_i)) [
-            | inl it ↦ subst (λ (z : JobRecord). z.ring ≡ ring_of d z.job.entity) (sym it.1) (steady.home f r chosen.at)
-            | inr other ↦ steady.home i x other.1
+            | inl it ↦ subst (λ (z : JobRecord). IsRingOf d.spec z.job.entity z.ring) (sym it.1) (steady.listed f r chosen.at)
+            | inr other ↦ steady.listed i x other.1
           ];
       order = λ k k_here.
           let kept : (numbers : List ℕ) → EachTwo d.journal (StandsInOrder numbers) → EachTwo new.journal (StandsInOrder numbers) =

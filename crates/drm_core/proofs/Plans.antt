@@ -81,6 +81,7 @@ plan_done s c ctx draft plan row new core same there job begun none held covers 
       record {
         steady = subst IsSteadyCore (ap (λ (p : Answer × CoreState). p.1) replies) (reply_kept (core_state c) (event.Plan ctx draft) core.steady (lt-ltb ctx 64 there)).steady;
         whole = core.whole;
+        inside = core.inside;
         plans = λ k other at.
             elim (plan_cases c.contexts.items ctx k (option_map (with_plan plan) row) other at) [
               | inl here ↦ subst (λ n. PlanStands planned n other) (sym here.0) (subst (PlanStands planned ctx) (the_plan row other here.1) stands)
@@ -203,6 +204,7 @@ plan_taken c ctx plan row new core there early row_is is new_is =
           reservations = core.steady.reservations;
         };
         whole = core.whole;
+        inside = core.inside;
         plans = λ k other at.
             let old = core.plans k other (still k other at).1 in
             record { covers = old.covers; holds = old.holds; room = old.room };

@@ -12,11 +12,10 @@ use Rattle.drm_core.specs.State.{DeviceState}
 use Rattle.drm_core.specs.Journal.{is_at, is_complete, is_over, changed_at}
 use Rattle.drm_fence.specs.Phases.{is_queued, has_ended}
 use Rattle.drm_core.specs.Order.{comes_after, is_met}
-use Rattle.drm_core.specs.Arming.{ring_of}
 use Rattle.drm_core.specs.Ring.{pending_of, current_of, credits_of, credit_limit_of}
 use Rattle.drm_core.specs.Outcomes.{ran_device}
 use Rattle.drm_core.specs.Lawful.{EachTwo, HasRightOutcome, IsSound, IsPendingList, ComesInOrder, KeepsEntityOrder, IsLawfulDevice}
-use Rattle.drm_core.specs.Steady.{BeginsMet, StandsInOrder, IsSteady}
+use Rattle.drm_core.specs.Steady.{BeginsMet, StandsInOrder, IsSteady, StaysHome, IsRingOf}
 use Rattle.drm_core.proofs.Records.{at_test, changed_is}
 use Rattle.drm_core.proofs.Pairs.{get_set_cases, each_two_set, find_first, sum_by_agree}
 use Rattle.drm_core.proofs.Pending.{contains_at, place_of, pending_kept, credits_kept}
@@ -139,10 +138,12 @@ ran_steady d ring f r p steady here now next =
       met = subst (λ js. EachTwo js BeginsMet) (sym same) (each_two_set d.journal f r (one_more_ran r) BeginsMet now.at steady.met
           (λ j y lt at_j old. old)
           (λ i x lt at_i old. old));
-      home = λ i x at_i.
+      home = subst (λ js. EachTwo js StaysHome) (sym same) (each_two_set d.journal f r (one_more_ran r) StaysHome now.at steady.home
+          (λ j y lt at_j old. old) (λ i x lt at_i old. old));
+      listed = λ i x at_i.
           elim (get_set_cases d.journal f i r (one_more_ran r) x now.at (subst (λ js. slice_get js i ≡ Some x) same at_i)) [
-            | inl it ↦ subst (λ (z : JobRecord). z.ring ≡ ring_of d z.job.entity) (sym it.1) (steady.home f r now.at)
-            | inr other ↦ steady.home i x other.1
+            | inl it ↦ subst (λ (z : JobRecord). IsRingOf d.spec z.job.entity z.ring) (sym it.1) (steady.listed f r now.at)
+            | inr other ↦ steady.listed i x other.1
           ];
       order = λ k k_here. subst (λ js. EachTwo js (StandsInOrder (pending_of d k))) (sym same)
           (each_two_set d.journal f r (one_more_ran r) (StandsInOrder (pending_of d k)) now.at (steady.order k k_here)

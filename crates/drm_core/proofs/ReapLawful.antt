@@ -14,13 +14,12 @@ use Rattle.drm_core.specs.State.{DeviceState}
 use Rattle.drm_core.specs.Journal.{numbered, turns, is_complete, changed_at}
 use Rattle.drm_fence.specs.Phases.{is_queued, has_ended}
 use Rattle.drm_core.specs.Order.{comes_after, dependencies, have_ended}
-use Rattle.drm_core.specs.Arming.{ring_of}
 use Rattle.drm_core.specs.Choice.{queue_of}
 use Rattle.drm_types.specs.Firsts.{first}
 use Rattle.drm_core.specs.Ring.{pending_of, credits_of, credit_limit_of}
 use Rattle.drm_core.specs.Outcomes.{ended_at}
 use Rattle.drm_core.specs.Lawful.{EachTwo, IsSound, IsPendingList, ComesInOrder, KeepsEntityOrder}
-use Rattle.drm_core.specs.Steady.{BeginsMet, StandsInOrder, IsSteady}
+use Rattle.drm_core.specs.Steady.{BeginsMet, StandsInOrder, IsSteady, StaysHome, IsRingOf}
 use Rattle.drm_core.proofs.Records.{turn_of, to_map, changed_is, turns_changed}
 use Rattle.drm_core.proofs.Pairs.{get_set_other, get_set_cases, each_two_set, find_first, sum_by_agree}
 use Rattle.drm_core.proofs.Pending.{credits_kept}
@@ -134,10 +133,12 @@ reap_steady d f r steady reap =
       met = subst (λ js. EachTwo js BeginsMet) (sym same) (each_two_set d.journal f r last BeginsMet reap.at steady.met
           (λ j y lt at_j old. λ comes begun. refl)
           (λ i x lt at_i old. λ comes begun. or_left (has_ended x.phase) (not (is_queued x.phase) && (x.ring == r.ring)) (reap.after i x lt at_i comes)));
-      home = λ i x at_i.
+      home = subst (λ js. EachTwo js StaysHome) (sym same) (each_two_set d.journal f r last StaysHome reap.at steady.home
+          (λ j y lt at_j old. λ e. inl refl) (λ i x lt at_i old. old));
+      listed = λ i x at_i.
           elim (get_set_cases d.journal f i r last x reap.at (subst (λ js. slice_get js i ≡ Some x) same at_i)) [
-            | inl it ↦ subst (λ (z : JobRecord). z.ring ≡ ring_of d z.job.entity) (sym it.1) (steady.home f r reap.at)
-            | inr other ↦ steady.home i x other.1
+            | inl it ↦ subst (λ (z : JobRecord). IsRingOf d.spec z.job.entity z.ring) (sym it.1) (steady.listed f r reap.at)
+            | inr other ↦ steady.listed i x other.1
           ];
       order = λ k k_here. subst (λ js. EachTwo js (StandsInOrder (pending_of d k))) (sym same)
           (each_two_set d.journal f r last (StandsInOrder (pending_of d k)) reap.at (steady.order k k_here) (λ j y lt at_j old. old) (λ i x lt at_i old. old));

@@ -1,7 +1,7 @@
 -- A cancellation and a reap of the tables are those of their definitions, and keep the tables whole.
-use Rattle.std.proofs.Common.{◌≡◌, ℕ, ◌+◌, ◌<◌, ◌≤◌, Bool, true, false, not, ◌&&◌, ◌||◌, ◌==◌, List, [], ◌∷◌, take, length, map, get_or, Some, None, Option, refl, sym, ap, subst, ◌∙◌, inl, inr, arith, slice_get}
+use Rattle.std.proofs.Common.{◌≡◌, ℕ, ◌+◌, ◌<◌, ◌≤◌, Bool, true, false, not, ◌&&◌, ◌||◌, ◌==◌, List, [], ◌∷◌, take, length, map, get_or, Some, None, Option, refl, sym, ap, subst, ◌∙◌, inl, inr, ◌⊎◌, arith, slice_get}
 use Rattle.std.specs.declared.alloc.Global.{Global}
-use Rattle.std.specs.Prelude.{filter, is_none, nat_lt, vec_capacity, Vec, IfSome, IfNone}
+use Rattle.std.specs.Prelude.{filter, is_none, nat_lt, vec_capacity, Vec, IfSome, IfNone, Contains}
 use Rattle.std.specs.Option.{option_map_or}
 use Rattle.std.specs.List.{list_all}
 use Rattle.std.proofs.lemmas.Bool.{cases_Bool, cases_eq, both_ways, eqb-true, eq-eqb, ltb-true, ltb-false}
@@ -21,7 +21,7 @@ use Rattle.drm_core.specs.declared.journal.JobRecord.{JobRecord}
 use Rattle.drm_core.specs.declared.table.RingJobs.{RingJobs}
 use Rattle.drm_core.specs.declared.table.Table.{Table}
 use Rattle.drm_core.specs.State.{EntityState}
-use Rattle.drm_core.specs.Arming.{ring_of}
+use Rattle.drm_core.specs.Arming.{rings_of}
 use Rattle.drm_core.specs.Choice.{queue_of}
 use Rattle.drm_core.specs.Journal.{numbered, is_at}
 use Rattle.drm_core.specs.Order.{dependencies}
@@ -39,7 +39,9 @@ use Rattle.drm_core.proofs.DeviceSteps.{IsKept, cancel_kept, reap_kept}
 use Rattle.drm_core.proofs.LatestStands.{all_at, all_from, same_test, in_front, latest_stand, ended_goes_down}
 use Rattle.drm_core.proofs.Pending.{contains_at, place_of}
 use Rattle.drm_core.proofs.Records.{stands_within, at_test, changed_is, at_index}
-use Rattle.drm_core.proofs.PickDone.{ring_there}
+use Rattle.drm_core.proofs.PickDone.{rings_there}
+use Rattle.drm_core.proofs.ArmDone.{few_entities}
+use Rattle.drm_core.proofs.Homes.{one_ring, listed_there}
 use Rattle.drm_core.proofs.TableFacts.{entity_row_there, row_found, row_pending, whole_kept}
 use Rattle.drm_core.proofs.Queues.{IsFront, front_is, marks_changed, stands_marked, stands_popped, IsPopped}
 
@@ -65,11 +67,20 @@ stopped_done t entity entities w there is =
           }),
     )
 
--- the ring of an entity is there
-pub entity_ring_there : (t : Table) (entity ring : ℕ) → IsWhole t → entity < length t.spec.entities → ring ≡ ring_of (state_of t) entity → ring < length t.spec.rings
-entity_ring_there t entity ring w there is =
-    let e = stands_within t.spec.entities entity there in
-    subst (λ n. n < length t.spec.rings) (sym (is ∙ ap (λ o. option_map_or (λ (x : EntitySpec). x.ring) o 0) e.1)) (ring_there t.spec entity e.0 w.limits e.1)
+-- the ring of a job is there
+pub job_ring_there : (t : Table) (number : ℕ) (r : JobRecord) → IsWhole t → slice_get t.journal.items number ≡ Some r → r.ring < length t.spec.rings
+job_ring_there t number r w at =
+    let e = stands_within t.spec.entities r.job.entity (few_entities t.spec r.job w.limits (w.steady.lawful.records number r at).job).0 in
+    let rings_is : rings_of t.spec r.job.entity ≡ e.0.rings = ap (λ o. option_map_or (λ (x : EntitySpec). x.rings) o []) e.1 in
+    listed_there e.0.rings (length t.spec.rings) r.ring (rings_there t.spec r.job.entity e.0 w.limits e.1)
+    (subst (λ rings. (r.ring ≡ option_map_or (λ x. x) (first rings) 0) ⊎ Contains rings r.ring) rings_is (w.steady.listed number r at))
+
+-- a job at its place
+pub job_at : (t : Table) (number : ℕ) (entity : ℕ) (r : JobRecord) → head_number t.journal.items entity ≡ Some number → r ≡ get_or t.journal.items number r
+    → slice_get t.journal.items number ≡ Some r
+job_at t number entity r is r_is =
+    let front = front_is t.journal.items entity number is in
+    at_index t.journal.items number r r_is (slice_get_within t.journal.items number front.0 front.1.at)
 
 -- a job of the entity that was scheduled came before the front of its queue
 came_before : (t : Table) (entity number f : ℕ) (r x : JobRecord) → IsWhole t → IsFront t.journal.items entity number r → slice_get t.journal.items f ≡ Some x
@@ -94,7 +105,7 @@ came_before t entity number f r x w front at phase of_entity =
 
 -- all earlier jobs of the front's entity have ended exactly where none of its jobs is pending
 earlier_ended : (t : Table) (entity number ring : ℕ) (r : JobRecord) → IsWhole t → IsFront t.journal.items entity number r → head_number t.journal.items entity ≡ Some number
-    → ring < length t.spec.rings → ring ≡ ring_of (state_of t) entity
+    → ring < length t.spec.rings → ring ≡ r.ring
     → list_all (λ (n : ℕ × JobRecord). has_ended n.1.phase) (filter (λ (n : ℕ × JobRecord). n.1.job.entity == entity) (take number (numbered t.journal.items)))
     ≡ list_all (λ f. not (is_at t.journal.items f (λ r. r.job.entity == entity))) (pending_of (state_of t) ring)
 earlier_ended t entity number ring r w front is there ring_is =
@@ -137,7 +148,8 @@ earlier_ended t entity number ring r w front is there ring_is =
         let begun = (head_of_queue js entity number r front.at front.of_entity (head_found js entity number is)).1 i x lt at (of_entity ∙ sym front.of_entity) in
         absurd (both_ways (is_queued x.phase) begun (ap is_queued phase))
     has_ended_so i x Scheduled all lt at of_entity phase =
-        let home : x.ring ≡ ring = w.steady.home i x at ∙ (ap (ring_of (state_of t)) of_entity ∙ sym ring_is) in
+        let home : x.ring ≡ ring = one_ring (state_of t) i number x r w.steady at front.at (of_entity ∙ sym front.of_entity)
+        (ap has_ended phase) (queued_goes_on r.phase front.queued) ∙ sym ring_is in
         let place = place_of pending i ((lists i).1 (x, at, phase, home)) in
         let holds : other i ≡ true = all_at other pending place.0 i all place.1 in
         let fails : other i ≡ false = ap not (at_test js i x (λ r. r.job.entity == entity) at ∙ eq-eqb x.job.entity entity of_entity) in
@@ -154,7 +166,7 @@ earlier_ended t entity number ring r w front is there ring_is =
 
 -- whether the front of a queue has to wait, by the dependencies that are kept for it
 pub must_wait_is : (t : Table) (entity number ring : ℕ) (r : JobRecord) (deps : List (ℕ × ℕ)) → IsWhole t → IsFront t.journal.items entity number r
-    → head_number t.journal.items entity ≡ Some number → ring < length t.spec.rings → ring ≡ ring_of (state_of t) entity → slice_get t.waits.items number ≡ Some deps
+    → head_number t.journal.items entity ≡ Some number → ring < length t.spec.rings → ring ≡ r.ring → slice_get t.waits.items number ≡ Some deps
     → must_still_wait t.journal.items number r ≡ not (may_end_after t.journal.items deps (pending_of (state_of t) ring) entity)
 must_wait_is t entity number ring r deps w front is there ring_is at_deps =
     let js = t.journal.items in
@@ -170,13 +182,16 @@ must_wait_is t entity number ring r deps w front is there ring_is at_deps =
     ∙ ap (λ b. list_all (λ (d : ℕ × ℕ). is_at js d.1 (λ r. has_ended r.phase)) deps && b) others))
 
 -- whether a reap is refused, by the dependencies that are kept for the front of the queue
-pub reap_refused : (t : Table) (entity number ring : ℕ) (row : RingJobs) (deps : List (ℕ × ℕ)) (may : Bool) → IsWhole t → is_stopped (state_of t) entity ≡ true
-    → head_number t.journal.items entity ≡ Some number → ring < length t.spec.rings → ring ≡ ring_of (state_of t) entity → row ≡ get_or t.rings.items ring row
+pub reap_refused : (t : Table) (entity number ring : ℕ) (r : JobRecord) (row : RingJobs) (deps : List (ℕ × ℕ)) (may : Bool) → IsWhole t → is_stopped (state_of t) entity ≡ true
+    → head_number t.journal.items entity ≡ Some number → slice_get t.journal.items number ≡ Some r → ring ≡ r.ring → row ≡ get_or t.rings.items ring row
     → deps ≡ get_or t.waits.items number deps → may_end_after t.journal.items deps row.pending.items entity ≡ may
     → reap_refusal (state_of t) entity ≡ first_of (when (not may) Waits ∷ [])
-reap_refused t entity number ring row deps may w stopped is there ring_is row_is deps_is may_is =
+reap_refused t entity number ring r row deps may w stopped is r_at ring_of_r row_is deps_is may_is =
     let js = t.journal.items in
     let front = front_is js entity number is in
+    let same : r ≡ front.0 = cc (r_at, front.1.at) in
+    let ring_is : ring ≡ front.0.ring = ring_of_r ∙ ap (λ (z : JobRecord). z.ring) same in
+    let there : ring < length t.spec.rings = subst (λ n. n < length t.spec.rings) (sym ring_of_r) (job_ring_there t number r w r_at) in
     let within : number < length t.waits.items = subst (λ n. number < n) (sym w.waits.count) (slice_get_within js number front.0 front.1.at) in
     let waits = must_wait_is t entity number ring front.0 deps w front.1 is there ring_is (at_index t.waits.items number deps deps_is within) in
     let pending = row_pending t ring row (row_found t ring row w there row_is) in

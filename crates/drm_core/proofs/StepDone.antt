@@ -2,6 +2,7 @@
 use Rattle.std.proofs.Common.{◌≡◌, ℕ, ◌+◌, ◌<◌, false, List, length, map, get_or, set, Some, refl, ap, subst, ◌∙◌, slice_get}
 use Rattle.std.specs.Vec.{with_item}
 use Rattle.drm_buffer.specs.Memory.{sizes_of}
+use Rattle.drm_buffer.specs.Stored.{Stored}
 use Rattle.drm_packet.specs.declared.Packet.{Packet}
 use Rattle.drm_packet.specs.Effect.{effect}
 use Rattle.drm_fence.specs.Fences.{Fences, with_one_packet_more}
@@ -19,19 +20,19 @@ use Rattle.drm_core.proofs.Queues.{stands_set}
 use Rattle.std.proofs.lemmas.Option.{slice_get_within}
 
 -- the tables after the step
-abbrev pub ran_tables : Table → ℕ → JobRecord → ℕ → List (List ℕ) → Fences → Table
+abbrev pub ran_tables : Table → ℕ → JobRecord → ℕ → Stored → Fences → Table
 ran_tables t f x ran memory fences = record t { memory = memory; journal = with_item t.journal f (record x { ran = ran + 1 }); fences = fences }
 
-pub step_done : (t : Table) (ring f : ℕ) (x y : JobRecord) (p : Packet) (memory : List (List ℕ)) (fences : Fences) → IsWhole t → ring < length t.spec.rings
+pub step_done : (t : Table) (ring f : ℕ) (x y : JobRecord) (p : Packet) (memory : Stored) (fences : Fences) → IsWhole t → ring < length t.spec.rings
     → current_of (state_of t) ring ≡ Some f → IsRunning t ring f y → x ≡ get_or t.journal.items f x → slice_get y.job.packets y.ran ≡ Some p → must_stall p y.karma.resets ≡ false
-    → memory ≡ effect p t.memory → sizes_of memory ≡ sizes_of t.memory → fences.list ≡ with_one_packet_more t.fences.list f → fences.places ≡ t.fences.places
+    → memory.bytes ≡ effect p t.memory.bytes → sizes_of memory.bytes ≡ sizes_of t.memory.bytes → fences.list ≡ with_one_packet_more t.fences.list f → fences.places ≡ t.fences.places
     → (step_outcome (state_of t) ring ≡ (answer.Ran f y.ran, state_of (ran_tables t f x y.ran memory fences))) × IsWhole (ran_tables t f x y.ran memory fences)
 step_done t ring f x y p memory fences w there is run x_is next going ran sizes list places =
     let at_x = at_index t.journal.items f x x_is (slice_get_within t.journal.items f y run.current.at) in
     let same : y ≡ x = cc (at_x, run.current.at) in
-    let left_by : JobRecord → Left = λ z. (answer.Ran f y.ran, record (state_of t) { memory = memory; journal = set t.journal.items f (record z { ran = y.ran + 1 }) }) in
+    let left_by : JobRecord → Left = λ z. (answer.Ran f y.ran, record (state_of t) { memory = memory.bytes; journal = set t.journal.items f (record z { ran = y.ran + 1 }) }) in
     let outcome : step_outcome (state_of t) ring ≡ left_by x =
-    subst (λ z. step_outcome (state_of t) ring ≡ left_by z) same (step_runs (state_of t) ring f y p memory is run.current.at next going ran) in
+    subst (λ z. step_outcome (state_of t) ring ≡ left_by z) same (step_runs (state_of t) ring f y p memory.bytes is run.current.at next going ran) in
     let tie : fences.list ≡ map fence_state_of (set t.journal.items f (record x { ran = y.ran + 1 })) =
     list ∙ fence_tie t.journal.items t.fences.list f y (record x { ran = y.ran + 1 }) (λ s. record s { ran = s.ran + 1 }) w.fences run.current.at
     (ap (λ (z : JobRecord). fence_state_of (record z { ran = y.ran + 1 })) same) in (

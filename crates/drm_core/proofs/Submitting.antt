@@ -90,6 +90,7 @@ roomier c rs core more =
       record {
         steady = subst IsSteadyCore (sym state) core.steady;
         whole = core.whole;
+        inside = core.inside;
         plans = λ ctx plan is.
             let stands = core.plans ctx plan is in
             record { covers = stands.covers; holds = stands.holds; room = λ b r at used. room_of plan stands b r at used };

@@ -106,9 +106,9 @@ running_found t ring f y w there is y_is =
     subst (IsRunning t ring f) same c.1
 
 -- its next packet finds its ranges in the memory
-pub next_in_range : (t : Table) (ring f : ℕ) (r : JobRecord) (p : Packet) → IsWhole t → IsRunning t ring f r → slice_get r.job.packets r.ran ≡ Some p → IsTrue (is_in_range p t.memory)
+pub next_in_range : (t : Table) (ring f : ℕ) (r : JobRecord) (p : Packet) → IsWhole t → IsRunning t ring f r → slice_get r.job.packets r.ran ≡ Some p → IsTrue (is_in_range p t.memory.bytes)
 next_in_range t ring f r p w run at =
-    All-contains (λ q. IsTrue (is_in_range q t.memory)) r.job.packets p (runs_in t.spec r.job t.memory run.job w.sizes) (contains_at r.job.packets r.ran p at)
+    All-contains (λ q. IsTrue (is_in_range q t.memory.bytes)) r.job.packets p (runs_in t.spec r.job t.memory.bytes run.job w.sizes) (contains_at r.job.packets r.ran p at)
 
 -- the fences stay those of the jobs when a job and its fence change alike
 pub fence_tie : (js : List JobRecord) (fs : List FenceState) (f : ℕ) (r new : JobRecord) (change : FenceState → FenceState) → fs ≡ map fence_state_of js
@@ -158,7 +158,7 @@ waits_kept old new waits stand grows count = record {
 
 -- tables stay whole when their device is kept and their parts go on with it
 pub whole_kept : (t u : Table) → IsWhole t → IsKept (state_of t) (state_of u) → u.fences.list ≡ map fence_state_of u.journal.items → u.waits.items ≡ t.waits.items
-    → QueuesStand u.journal.items u.entities → sizes_of u.memory ≡ sizes_of t.memory → HasRooms u → IsWhole u
+    → QueuesStand u.journal.items u.entities → sizes_of u.memory.bytes ≡ sizes_of t.memory.bytes → HasRooms u → IsWhole u
 whole_kept t u w kept fences waits queues sizes rooms =
     let spec : u.spec ≡ t.spec = kept.grows.spec in
     record {

@@ -7,7 +7,6 @@ use Rattle.drm_core.specs.State.{DeviceState}
 use Rattle.drm_fence.specs.Phases.{is_queued}
 use Rattle.drm_core.specs.Order.{is_ready}
 use Rattle.drm_core.specs.Choice.{choice}
-use Rattle.drm_core.specs.Arming.{ring_of}
 use Rattle.drm_core.specs.Ring.{is_stopped}
 use Rattle.drm_core.specs.Steady.{IsSteady}
 
@@ -19,13 +18,13 @@ pub record IsFirstQueued (journal : List JobRecord) (entity number : ℕ) (head 
   pub first : (i : ℕ) (earlier : JobRecord) → i < number → slice_get journal i ≡ Some earlier → earlier.job.entity ≡ entity
       → IsFalse (is_queued earlier.phase)
 
--- the job may begin on the ring: it is the first queued one of an entity of the ring, which is not stopped, and it is ready
+-- the job may begin on the ring: it is the first queued one of an entity that is not stopped, armed for this ring, and it is ready
 pub record MayBegin (device : DeviceState) (ring entity number : ℕ) : Type 0 where
   pub there : entity < length device.spec.entities
-  pub on_ring : ring_of device entity ≡ ring
   pub active : IsFalse (is_stopped device entity)
   pub head : JobRecord
   pub first : IsFirstQueued device.journal entity number head
+  pub on_ring : head.ring ≡ ring
   pub ready : IsTrue (is_ready device.journal number head)
 
 -- the place of the entity's priority among all priorities, highest first

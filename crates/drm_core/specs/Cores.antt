@@ -14,7 +14,7 @@ use Rattle.drm_core.specs.State.{DeviceState, Context, CoreState}
 use Rattle.drm_core.specs.Context.{holds_all}
 use Rattle.drm_core.specs.Reservation.{usage_at}
 use Rattle.drm_core.specs.Steady.{IsSteadyCore, PlansHeld, HoldersBegun, JobsHavePlace}
-use Rattle.drm_core.specs.Tables.{state_of, IsWhole}
+use Rattle.drm_core.specs.Tables.{state_of, IsWhole, AllIn}
 
 -- the context of a row: what it has planned is its job
 abbrev pub context_of_row : ContextRow → Context
@@ -54,6 +54,7 @@ pub record PlanStands (c : CoreTable) (ctx : ℕ) (plan : Plan) : Type 0 where
 pub record IsCore (c : CoreTable) : Type 0 where
   pub steady : IsSteadyCore (core_state c)
   pub whole : IsWhole c.table
+  pub inside : AllIn c.table
   pub plans : (ctx : ℕ) (plan : Plan) → planned_by c ctx ≡ Some plan → PlanStands c ctx plan
   pub reservation_count : length c.reservations.items ≡ length c.table.spec.buffers
   pub holder_count : length c.holders.items ≡ length c.table.spec.buffers

@@ -30,3 +30,7 @@ pub mod Building
 pub mod Planning
 pub mod Claims
 pub mod Held
+pub mod Marks
+pub mod Watching
+pub mod MarkedTables
+pub mod Begun

@@ -3,10 +3,11 @@ use Rattle.std.specs.Prelude.{◌≡◌, ℕ, ◌<◌, ◌⊎◌, IsTrue, IsFals
 use Rattle.drm_core.specs.declared.journal.JobRecord.{JobRecord}
 use Rattle.drm_core.specs.State.{DeviceState, Context, CoreState}
 use Rattle.drm_resv.specs.Reservation.{Reservation}
-use Rattle.drm_fence.specs.Phases.{is_queued}
+use Rattle.drm_fence.specs.Phases.{is_queued, has_ended}
+use Rattle.drm_types.specs.declared.spec.DeviceSpec.{DeviceSpec}
 use Rattle.drm_core.specs.Order.{comes_after, is_met, HasPlace}
 use Rattle.drm_core.specs.Ring.{pending_of}
-use Rattle.drm_core.specs.Arming.{ring_of}
+use Rattle.drm_core.specs.Arming.{rings_of, first_ring}
 use Rattle.drm_job.specs.declared.Draft.{Draft}
 use Rattle.drm_job.specs.Fault.{IsJob, buffers_of}
 use Rattle.drm_core.specs.Context.{holds}
@@ -28,11 +29,21 @@ abbrev pub StandsInOrder : List ℕ → ℕ → JobRecord → ℕ → JobRecord 
 StandsInOrder pending i earlier j later =
     MustFollow i earlier later → (a b : ℕ) → slice_get pending a ≡ Some i → slice_get pending b ≡ Some j → a < b
 
--- a lawful device whose jobs began in order, each on its entity's ring
+-- an entity changes its ring only where all its jobs have outcomes
+abbrev pub StaysHome : ℕ → JobRecord → ℕ → JobRecord → Type 0
+StaysHome number earlier place later =
+    earlier.job.entity ≡ later.job.entity → IsTrue (has_ended earlier.phase) ⊎ (earlier.ring ≡ later.ring)
+
+-- a ring is listed for the entity (one with no list has its first ring, 0)
+abbrev pub IsRingOf : DeviceSpec → ℕ → ℕ → Type 0
+IsRingOf spec entity ring = (ring ≡ first_ring spec entity) ⊎ Contains (rings_of spec entity) ring
+
+-- a lawful device whose jobs began in order, each on a ring of its entity
 pub record IsSteady (device : DeviceState) : Type 0 where
   pub lawful : IsLawfulDevice device
   pub met : EachTwo device.journal BeginsMet
-  pub home : (i : ℕ) (r : JobRecord) → slice_get device.journal i ≡ Some r → r.ring ≡ ring_of device r.job.entity
+  pub home : EachTwo device.journal StaysHome
+  pub listed : (i : ℕ) (r : JobRecord) → slice_get device.journal i ≡ Some r → IsRingOf device.spec r.job.entity r.ring
   pub order : (ring : ℕ) → ring < length device.spec.rings → EachTwo device.journal (StandsInOrder (pending_of device ring))
 
 -- a core over a steady device: each reservation fits it, and each plan is a job

@@ -1,16 +1,19 @@
 -- The state that a device's tables stand for, and what they keep.
-use Rattle.std.specs.Prelude.{◌≡◌, ℕ, ◌≤◌, ◌==◌, if◌then◌else◌, [], ◌∷◌, ◌++◌, drop, length, map, Option, Some, None, slice_get, vec_capacity}
+use Rattle.std.specs.Prelude.{◌≡◌, ℕ, ◌≤◌, false, Contains, ◌==◌, if◌then◌else◌, [], ◌∷◌, ◌++◌, drop, length, map, Option, Some, None, slice_get, vec_capacity}
 use Rattle.drm_types.specs.Limits.{spec_fault}
 use Rattle.drm_buffer.specs.Memory.{sizes_of}
+use Rattle.drm_buffer.specs.Stored.{AreIn}
+use Rattle.drm_packet.specs.declared.Packet.{Packet}
+use Rattle.drm_packet.specs.Touches.{touches}
 use Rattle.drm_fence.specs.declared.timeline.FenceState.{FenceState}
 use Rattle.drm_core.specs.declared.journal.JobRecord.{JobRecord}
 use Rattle.drm_core.specs.declared.table.RingJobs.{RingJobs}
 use Rattle.drm_core.specs.declared.table.Table.{Table}
 use Rattle.drm_core.specs.State.{RingState, DeviceState}
 use Rattle.drm_core.specs.Journal.{is_complete}
-use Rattle.drm_core.specs.Outcomes.{final_outcome}
+use Rattle.drm_core.specs.Outcomes.{final_outcome, next_packet}
 use Rattle.drm_types.specs.declared.outcome.Outcome.{Outcome}
-use Rattle.drm_core.specs.Ring.{credit_limit_of}
+use Rattle.drm_core.specs.Ring.{credit_limit_of, current_of}
 use Rattle.drm_core.specs.Steady.{IsSteady}
 use Rattle.drm_core.specs.Plain.{marks, WaitsStand, QueuesStand}
 
@@ -24,7 +27,7 @@ fence_state_of r = record { phase = r.phase; ran = r.ran }
 abbrev pub state_of : Table → DeviceState
 state_of t = record {
   spec = t.spec;
-  memory = t.memory;
+  memory = t.memory.bytes;
   journal = t.journal.items;
   rings = map ring_state_of t.rings.items;
   entities = marks t.entities;
@@ -63,5 +66,15 @@ pub record IsWhole (t : Table) : Type 0 where
   pub fences : t.fences.list ≡ map fence_state_of t.journal.items
   pub waits : WaitsStand t.journal.items t.waits.items
   pub queues : QueuesStand t.journal.items t.entities
-  pub sizes : sizes_of t.memory ≡ sizes_of t.spec.buffers
+  pub sizes : sizes_of t.memory.bytes ≡ sizes_of t.spec.buffers
   pub rooms : HasRooms t
+
+-- nothing is out
+abbrev pub AllIn : Table → Type 0
+AllIn t = AreIn (length t.spec.buffers) t.memory.out
+
+-- no buffer of the ring's next packet is out
+abbrev pub NextIsIn : Table → ℕ → Type 0
+NextIsIn t ring =
+    (f : ℕ) (p : Packet) → current_of (state_of t) ring ≡ Some f → next_packet t.journal.items f ≡ Some p
+    → (b : ℕ) → Contains (touches p) b → slice_get t.memory.out b ≡ Some false

@@ -1,13 +1,13 @@
 ghost use Rattle.std.specs.Prelude.{◌≡◌, [], None, IfOk, map, replicate};
 ghost use Rattle.drm_types.specs.Limits.{spec_fault};
 ghost use Rattle.drm_core.specs.State.{opened_device, opened};
-ghost use Rattle.drm_core.specs.Tables.{ring_state_of, state_of, IsWhole};
+ghost use Rattle.drm_core.specs.Tables.{ring_state_of, state_of, IsWhole, AllIn};
 ghost use Rattle.drm_core.specs.Cores.{core_state, IsCore};
 ghost use Rattle.drm_core.specs.Building.{HaveRoomFor};
 
 use crate::cores::{ContextRow, CoreTable};
 use crate::table::{RingJobs, Table};
-use drm_buffer::Memory;
+use drm_buffer::Store;
 use drm_entity::Entities;
 use drm_fence::Timeline;
 use drm_resv::Resv;
@@ -62,8 +62,9 @@ impl Table {
         requires limits { spec_fault spec ≡ None }
         ensures opened { IfOk result (λ t. state_of t ≡ opened_device spec) }
         ensures whole { IfOk result (λ t. IsWhole t) }
+        ensures inside { IfOk result (λ t. AllIn t) }
     {
-        let memory = Memory::copy_of(alloc, &spec.buffers)?;
+        let memory = Store::copy_of(alloc, &spec.buffers)?;
         let max_jobs = spec.max_jobs as usize;
         let journal = Vec::with_capacity(alloc, max_jobs)?;
         let waits = Vec::with_capacity(alloc, max_jobs)?;

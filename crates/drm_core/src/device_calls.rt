@@ -1,11 +1,11 @@
-ghost use Rattle.std.specs.Prelude.{◌≡◌, ◌<◌, length, Some, None, IfOk, IfErr, OnOk, MatchOption, option_map, slice_get};
+ghost use Rattle.std.specs.Prelude.{◌≡◌, ◌<◌, length, Some, None, IfOk, IfErr, OnOk, MatchOption, option_map, slice_get, false};
 ghost use Rattle.std.specs.List.{filter};
 ghost use Rattle.drm_types.specs.Limits.{spec_fault};
-ghost use Rattle.drm_buffer.specs.Memory.{bytes_of};
+ghost use Rattle.drm_buffer.specs.Memory.{bytes_of, sizes_of};
 ghost use Rattle.drm_fence.specs.Phases.{has_ended, status_of};
 ghost use Rattle.drm_core.specs.declared.event.Answer.TheVariants as answer;
 ghost use Rattle.drm_core.specs.Answers.{picked, stepped, finished, timed_out};
-ghost use Rattle.drm_core.specs.Arming.{armed_device};
+ghost use Rattle.drm_core.specs.Arming.{armed_device, load as load_of};
 ghost use Rattle.drm_core.specs.Building.{RefusesToBuild};
 ghost use Rattle.drm_core.specs.Cores.{DepsCover};
 ghost use Rattle.drm_core.specs.Grows.{Grows};
@@ -18,6 +18,9 @@ ghost use Rattle.drm_job.specs.Fault.{IsJob};
 ghost use Rattle.drm_core.specs.Outcomes.{pick_outcome, step_outcome, finish_outcome, timeout_outcome, cancelled_device, reap_outcome};
 ghost use Rattle.drm_core.specs.Refusals.{arm_refusal, busy_fence, pick_refusal, step_refusal, finish_refusal, cancel_refusal, reap_refusal};
 ghost use Rattle.drm_core.specs.State.{opened_device};
+ghost use Rattle.drm_core.specs.Begun.{HasBegun, IsReport, HasReported, out_or};
+ghost use Rattle.drm_core.specs.Marks.{is_in_way, is_out, ring_out, unmarked};
+ghost use Rattle.drm_core.specs.Steady.{IsSteady};
 
 use crate::answer::{Expired, Finished, Picked, Stepped};
 use crate::cores::{Held, Plan};
@@ -25,7 +28,8 @@ use crate::event::Refusal;
 use crate::journal::JobRecord;
 use crate::machine::BuildError;
 use crate::planning;
-use crate::table::Table;
+use crate::marked::{Begun, MarkedTable};
+use drm_buffer::Buffer;
 use drm_resv::Resv;
 use drm_types::{BufferId, DeviceSpec, EntityId, FenceId, Moment, RingId};
 use std::alloc::{AllocError, Global};
@@ -37,18 +41,18 @@ use std::marker::Model;
 /// Contracts see it as its state. A call that is refused changes nothing, and none but `build` takes memory.
 #[derive(Drop)]
 pub struct Device {
-    table: Table,
+    parts: MarkedTable,
 }
 
 impl Model for Device {
-    ghost use Rattle.drm_core.specs.State.{DeviceState};
-    ghost use Rattle.drm_core.specs.Tables.{state_of, IsWhole};
+    ghost use Rattle.drm_core.specs.Marks.{MarkedDevice};
+    ghost use Rattle.drm_core.specs.MarkedTables.{marked_of, IsWholeMarked};
 
-    ghost Value = { DeviceState };
+    ghost Value = { MarkedDevice };
 
-    ghost view = { λ d. state_of d.table };
+    ghost view = { λ d. marked_of d.parts };
 
-    ghost invariant = { λ d. IsWhole d.table };
+    ghost invariant = { λ d. IsWholeMarked d.parts };
 }
 
 impl Device {
@@ -58,83 +62,109 @@ impl Device {
     ///
     /// Where the description is out of its limits, or memory is refused.
     pub fn build(alloc: Global, spec: DeviceSpec) -> Result<Device, BuildError>
-        ensures ok { IfOk result (λ device. (device ≡ opened_device spec) × (spec_fault spec ≡ None)) }
+        ensures ok { IfOk result (λ device. (device ≡ unmarked (opened_device spec)) × (spec_fault spec ≡ None)) }
         ensures err { IfErr result (RefusesToBuild spec) }
     {
         if let Err(bad) = spec.check() {
             return Err(BuildError::Spec(bad));
         }
-        match Table::open(alloc, spec) {
-            Ok(table) => Ok(Device { table }),
+        match MarkedTable::open(alloc, spec) {
+            Ok(parts) => Ok(Device { parts }),
             Err(AllocError) => Err(BuildError::Memory),
         }
     }
 
     /// Gives the ring the job that it takes next, if it fits (`drm_sched_run_job_work`).
     pub fn pick(&mut self, ring: RingId, now: Moment) -> Result<Picked, Refusal>
-        requires there { ring < length self.old.spec.rings }
-        ensures picked { IfOk result (λ p. (pick_refusal self.old ring ≡ None) × (pick_outcome self.old ring now ≡ (picked p, self.new))) }
-        ensures refused { IfErr result (λ r. (pick_refusal self.old ring ≡ Some r) × (self.new ≡ self.old)) }
-        ensures lawful { IsLawfulDevice self.new }
-        ensures grows { Grows self.old self.new }
+        requires there { ring < length self.old.state.spec.rings }
+        ensures picked { IfOk result (λ p. (pick_refusal self.old.state ring ≡ None) × (pick_outcome self.old.state ring now ≡ (picked p, self.new.state))) }
+        ensures refused { IfErr result (λ r. (pick_refusal self.old.state ring ≡ Some r) × (self.new ≡ self.old)) }
+        ensures marks { self.new.marks ≡ self.old.marks }
+        ensures lawful { IsLawfulDevice self.new.state }
+        ensures grows { Grows self.old.state self.new.state }
     {
-        self.table.pick(ring, now)
+        self.parts.pick(ring, now)
     }
 
     /// Runs one packet of the first pending job of the ring that has some left.
     pub fn step(&mut self, ring: RingId) -> Result<Stepped, Refusal>
-        requires there { ring < length self.old.spec.rings }
-        ensures ran { IfOk result (λ s. (step_refusal self.old ring ≡ None) × (step_outcome self.old ring ≡ (stepped s, self.new))) }
-        ensures refused { IfErr result (λ r. (step_refusal self.old ring ≡ Some r) × (self.new ≡ self.old)) }
-        ensures lawful { IsLawfulDevice self.new }
-        ensures grows { Grows self.old self.new }
+        requires there { ring < length self.old.state.spec.rings }
+        ensures ran { IfOk result (λ s. (out_or (is_in_way self.old ring) (step_refusal self.old.state ring) ≡ None) × (step_outcome self.old.state ring ≡ (stepped s, self.new.state))) }
+        ensures refused { IfErr result (λ r. (out_or (is_in_way self.old ring) (step_refusal self.old.state ring) ≡ Some r) × (self.new ≡ self.old)) }
+        ensures marks { self.new.marks ≡ self.old.marks }
+        ensures lawful { IsLawfulDevice self.new.state }
+        ensures grows { Grows self.old.state self.new.state }
     {
-        self.table.step(ring)
+        self.parts.step(ring)
+    }
+
+    /// Sends the ring's next packet out with its buffers, to be run beside the device.
+    pub fn begin_step(&mut self, ring: RingId) -> Result<Begun, Refusal>
+        requires there { ring < length self.old.state.spec.rings }
+        ensures begun { IfOk result (λ b. (out_or (is_in_way self.old ring) (step_refusal self.old.state ring) ≡ None) × HasBegun self.old ring b self.new) }
+        ensures refused { IfErr result (λ r. (out_or (is_in_way self.old ring) (step_refusal self.old.state ring) ≡ Some r) × (self.new ≡ self.old)) }
+    {
+        self.parts.begin_step(ring)
+    }
+
+    /// Takes the ring's packet back, which ran on its buffers: the event is that of a step.
+    pub fn report(&mut self, ring: RingId, write: Option<Buffer>, read: Option<Buffer>) -> (FenceId, u32)
+        requires busy { IsReport self.old ring write read }
+        ensures reported { HasReported self.old ring result self.new }
+        ensures lawful { IsLawfulDevice self.new.state }
+        ensures grows { Grows self.old.state self.new.state }
+    {
+        self.parts.report(ring, write, read)
     }
 
     /// Ends the head of the ring, which is complete (`drm_sched_job_done`).
     pub fn finish(&mut self, ring: RingId, now: Moment) -> Result<Finished, Refusal>
-        requires there { ring < length self.old.spec.rings }
-        ensures finished { IfOk result (λ f. (finish_refusal self.old ring ≡ None) × (finish_outcome self.old ring now ≡ (finished f, self.new))) }
-        ensures refused { IfErr result (λ r. (finish_refusal self.old ring ≡ Some r) × (self.new ≡ self.old)) }
-        ensures lawful { IsLawfulDevice self.new }
-        ensures grows { Grows self.old self.new }
+        requires there { ring < length self.old.state.spec.rings }
+        ensures finished { IfOk result (λ f. (out_or (ring_out self.old ring) (finish_refusal self.old.state ring) ≡ None) × (finish_outcome self.old.state ring now ≡ (finished f, self.new.state))) }
+        ensures refused { IfErr result (λ r. (out_or (ring_out self.old ring) (finish_refusal self.old.state ring) ≡ Some r) × (self.new ≡ self.old)) }
+        ensures marks { self.new.marks ≡ self.old.marks }
+        ensures lawful { IsLawfulDevice self.new.state }
+        ensures grows { Grows self.old.state self.new.state }
     {
-        self.table.finish(ring, now)
+        self.parts.finish(ring, now)
     }
 
     /// Looks at the head of the ring after a time (`drm_sched_job_timedout`). A head that hangs goes on at its next
     /// packet.
-    pub fn timeout(&mut self, ring: RingId, now: Moment) -> Expired
-        requires there { ring < length self.old.spec.rings }
-        ensures expired { timeout_outcome self.old ring now ≡ (timed_out result, self.new) }
-        ensures lawful { IsLawfulDevice self.new }
-        ensures grows { Grows self.old self.new }
+    pub fn timeout(&mut self, ring: RingId, now: Moment) -> Result<Expired, Refusal>
+        requires there { ring < length self.old.state.spec.rings }
+        ensures expired { IfOk result (λ e. (out_or (ring_out self.old ring) None ≡ None) × (timeout_outcome self.old.state ring now ≡ (timed_out e, self.new.state))) }
+        ensures refused { IfErr result (λ r. (out_or (ring_out self.old ring) None ≡ Some r) × (self.new ≡ self.old)) }
+        ensures marks { self.new.marks ≡ self.old.marks }
+        ensures lawful { IsLawfulDevice self.new.state }
+        ensures grows { Grows self.old.state self.new.state }
     {
-        self.table.timeout(ring, now)
+        self.parts.timeout(ring, now)
     }
 
     /// Stops the entity (`drm_sched_entity_kill`). Its queued jobs stay, and end one after another as they are reaped.
     pub fn cancel(&mut self, entity: EntityId) -> Result<(), Refusal>
-        requires there { entity < length self.old.spec.entities }
-        ensures stopped { OnOk result ((cancel_refusal self.old entity ≡ None) × (self.new ≡ cancelled_device self.old entity)) }
-        ensures refused { IfErr result (λ r. (cancel_refusal self.old entity ≡ Some r) × (self.new ≡ self.old)) }
-        ensures lawful { IsLawfulDevice self.new }
-        ensures grows { Grows self.old self.new }
+        requires there { entity < length self.old.state.spec.entities }
+        ensures stopped { OnOk result ((cancel_refusal self.old.state entity ≡ None) × (self.new.state ≡ cancelled_device self.old.state entity)) }
+        ensures refused { IfErr result (λ r. (cancel_refusal self.old.state entity ≡ Some r) × (self.new ≡ self.old)) }
+        ensures marks { self.new.marks ≡ self.old.marks }
+        ensures lawful { IsLawfulDevice self.new.state }
+        ensures grows { Grows self.old.state self.new.state }
     {
-        self.table.cancel(entity)
+        self.parts.cancel(entity)
     }
 
     /// Ends the first queued job of a stopped entity, once all that it waits for has ended
     /// (`drm_sched_entity_kill_jobs_cb`).
     pub fn reap(&mut self, entity: EntityId) -> Result<FenceId, Refusal>
-        requires there { entity < length self.old.spec.entities }
-        ensures reaped { IfOk result (λ f. (reap_refusal self.old entity ≡ None) × (reap_outcome self.old entity ≡ (answer.Reaped f, self.new))) }
-        ensures refused { IfErr result (λ r. (reap_refusal self.old entity ≡ Some r) × (self.new ≡ self.old)) }
-        ensures lawful { IsLawfulDevice self.new }
-        ensures grows { Grows self.old self.new }
+        requires there { entity < length self.old.state.spec.entities }
+        ensures reaped { IfOk result (λ f. (reap_refusal self.old.state entity ≡ None) × (reap_outcome self.old.state entity ≡ (answer.Reaped f, self.new.state))) }
+        ensures refused { IfErr result (λ r. (reap_refusal self.old.state entity ≡ Some r) × (self.new ≡ self.old)) }
+        ensures marks { self.new.marks ≡ self.old.marks }
+        ensures lawful { IsLawfulDevice self.new.state }
+        ensures grows { Grows self.old.state self.new.state }
     {
-        self.table.reap(entity)
+        self.parts.reap(entity)
     }
 
     /// Arms the job, and adds its uses to the reservations that its context holds: they have those of all buffers that
@@ -146,22 +176,23 @@ impl Device {
     /// The plan, given back, and why the device does not take the job: its entity is stopped, the device is full, or
     /// the job names a fence that is not armed yet.
     pub fn arm(&mut self, plan: Plan, held: &mut Held) -> Result<FenceId, (Plan, Refusal)>
-        requires job { IsJob self.old.spec plan.job }
-        requires covers { DepsCover self.old plan.job plan.deps }
+        requires job { IsJob self.old.state.spec plan.job }
+        requires covers { DepsCover self.old.state plan.job plan.deps }
         requires room { HaveRoom plan.job held.old.items }
-        ensures armed { IfOk result (λ fence. (arm_refusal self.old plan.job ≡ None) × (fence ≡ length self.old.journal) × (self.new ≡ armed_device self.old plan.job)) }
-        ensures held { OnOk result (kept_of held.new.items ≡ armed_held self.old.journal plan.job (kept_of held.old.items)) }
-        ensures fit { OnOk result (AllFit self.old.journal (kept_of held.old.items) → AllFit self.new.journal (kept_of held.new.items)) }
-        ensures refused { IfErr result (λ back. (arm_refusal self.old plan.job ≡ Some back.1) × (back.0 ≡ plan) × (self.new ≡ self.old) × (held.new ≡ held.old)) }
-        ensures lawful { IsLawfulDevice self.new }
-        ensures grows { Grows self.old self.new }
+        ensures armed { IfOk result (λ fence. (arm_refusal self.old.state plan.job ≡ None) × (fence ≡ length self.old.state.journal) × (self.new.state ≡ armed_device self.old.state plan.job)) }
+        ensures held { OnOk result (kept_of held.new.items ≡ armed_held self.old.state.journal plan.job (kept_of held.old.items)) }
+        ensures fit { OnOk result (AllFit self.old.state.journal (kept_of held.old.items) → AllFit self.new.state.journal (kept_of held.new.items)) }
+        ensures refused { IfErr result (λ back. (arm_refusal self.old.state plan.job ≡ Some back.1) × (back.0 ≡ plan) × (self.new ≡ self.old) × (held.new ≡ held.old)) }
+        ensures marks { self.new.marks ≡ self.old.marks }
+        ensures lawful { IsLawfulDevice self.new.state }
+        ensures grows { Grows self.old.state self.new.state }
     {
-        if let Some(refusal) = self.table.arm_refusal(&plan.job) {
+        if let Some(refusal) = self.parts.table.arm_refusal(&plan.job) {
             return Err((plan, refusal));
         }
         let fence = self.armed();
-        planning::add_held_uses(held, &plan.job, fence, &self.table.fences);
-        Ok(self.table.arm(plan))
+        planning::add_held_uses(held, &plan.job, fence, &self.parts.table.fences);
+        Ok(self.parts.arm(plan))
     }
 
     /// Copies the buffer's bytes, for one who holds its reservation, once every armed job that writes it has ended
@@ -169,17 +200,19 @@ impl Device {
     ///
     /// # Errors
     ///
-    /// `Busy`, with the least fence of the reservation's writers that has no outcome. Then nothing is copied.
+    /// `PacketOut` where the buffer is out, else `Busy`, with the least fence of the reservation's writers that has no outcome. Then nothing is copied.
     pub fn read_into(&self, buffer: BufferId, resv: &Resv, out: &mut [u8]) -> Result<(), Refusal>
-        requires buffer { buffer < length self.now.memory }
-        requires fits { Fits buffer self.now.journal resv.now.kept }
-        requires size { length out.old ≡ length (bytes_of self.now.memory buffer) }
-        ensures read { OnOk result ((busy_fence self.now.journal resv.now.kept ≡ None) × (out.new ≡ bytes_of self.now.memory buffer)) }
-        ensures writers { OnOk result (HaveEnded buffer self.now.journal) }
-        ensures busy { IfErr result (λ r. (option_map refusal.Busy (busy_fence self.now.journal resv.now.kept) ≡ Some r) × (out.new ≡ out.old)) }
-        ensures writing { IfErr result (λ r. HaveEnded buffer self.now.journal → ⊥) }
+        requires buffer { buffer < length self.now.state.memory }
+        requires fits { Fits buffer self.now.state.journal resv.now.kept }
+        requires size { length out.old ≡ length (bytes_of self.now.state.memory buffer) }
+        ensures read { OnOk result ((is_out self.now buffer ≡ false) × (busy_fence self.now.state.journal resv.now.kept ≡ None) × (out.new ≡ bytes_of self.now.state.memory buffer)) }
+        ensures writers { OnOk result (HaveEnded buffer self.now.state.journal) }
+        ensures busy { IfErr result (λ r. (out_or (is_out self.now buffer) (option_map refusal.Busy (busy_fence self.now.state.journal resv.now.kept)) ≡ Some r) × (out.new ≡ out.old)) }
     {
-        match self.table.busy_fence(resv) {
+        if self.parts.table.memory.is_out(buffer) {
+            return Err(Refusal::PacketOut);
+        }
+        match self.parts.table.busy_fence(resv) {
             Some(fence) => Err(Refusal::Busy { fence }),
             None => {
                 out.copy_from_slice(self.bytes(buffer));
@@ -190,26 +223,27 @@ impl Device {
 
     /// The description that the device was built from, whose buffers it has. No event changes it.
     pub fn spec(&self) -> &DeviceSpec
-        ensures value { result.now ≡ self.now.spec }
-        ensures buffers { length self.now.memory ≡ length self.now.spec.buffers }
+        ensures value { result.now ≡ self.now.state.spec }
+        ensures buffers { length self.now.state.memory ≡ length self.now.state.spec.buffers }
     {
-        &self.table.spec
+        &self.parts.table.spec
     }
 
     /// The bytes of the buffer, at this moment.
     pub fn bytes(&self, buffer: BufferId) -> &[u8]
-        requires { buffer < length self.now.memory }
-        ensures { result.now ≡ bytes_of self.now.memory buffer }
+        requires there { buffer < length self.now.state.memory }
+        requires inside { is_out self.now buffer ≡ false }
+        ensures { result.now ≡ bytes_of self.now.state.memory buffer }
     {
-        self.table.memory.bytes(buffer)
+        self.parts.table.memory.bytes(buffer)
     }
 
     /// The status of the job's finished fence (`dma_fence_get_status`), as `Phase::status` tells it. `None` where no
     /// job of this number is armed.
     pub fn status(&self, fence: FenceId) -> Option<i32>
-        ensures { MatchOption result (slice_get self.now.journal fence ≡ None) (λ s. option_map (λ r. status_of r.phase) (slice_get self.now.journal fence) ≡ Some s) }
+        ensures { MatchOption result (slice_get self.now.state.journal fence ≡ None) (λ s. option_map (λ r. status_of r.phase) (slice_get self.now.state.journal fence) ≡ Some s) }
     {
-        match self.table.journal.get(fence as usize) {
+        match self.parts.table.journal.get(fence as usize) {
             Some(record) => Some(record.phase.status()),
             None => None,
         }
@@ -217,26 +251,46 @@ impl Device {
 
     /// How many jobs were armed: the number that the next one gets.
     pub fn armed(&self) -> u32
-        ensures { result ≡ length self.now.journal }
+        ensures { result ≡ length self.now.state.journal }
     {
-        self.table.journal.len() as u32
+        self.parts.table.journal.len() as u32
     }
 
     /// How many jobs have an outcome.
     pub fn ended(&self) -> u32
-        ensures { result ≡ length (filter (λ r. has_ended r.phase) self.now.journal) }
+        ensures { result ≡ length (filter (λ r. has_ended r.phase) self.now.state.journal) }
     {
-        self.table
+        self.parts.table
             .journal
             .iter()
             .filter(|record| record.phase.is_ended())
             .count() as u32
     }
 
+    /// What holds of every device, for who keeps more over it. It does nothing.
+    pub fn facts(&self)
+        ensures steady { IsSteady self.now.state }
+        ensures limits { spec_fault self.now.state.spec ≡ None }
+        ensures sizes { sizes_of self.now.state.memory ≡ sizes_of self.now.state.spec.buffers }
+    {
+        let _spec = &self.parts.table.spec;
+    }
+
+    /// How many jobs are queued for the ring or pending on it.
+    pub fn load(&self, ring: RingId) -> u32
+        ensures { result ≡ load_of self.now.state.journal ring }
+    {
+        self.parts.table
+            .journal
+            .iter()
+            .filter(|record| record.ring == ring && !record.phase.is_ended())
+            .count() as u32
+    }
+
     /// What is known of the job of this number, where it is armed.
     pub fn record(&self, fence: FenceId) -> Option<&JobRecord>
-        ensures { MatchOption result (slice_get self.now.journal fence ≡ None) (λ r. slice_get self.now.journal fence ≡ Some r.now) }
+        ensures { MatchOption result (slice_get self.now.state.journal fence ≡ None) (λ r. slice_get self.now.state.journal fence ≡ Some r.now) }
     {
-        self.table.journal.as_slice().get(fence as usize)
+        self.parts.table.journal.as_slice().get(fence as usize)
     }
 }

@@ -9,7 +9,7 @@ use crate::cores::CoreTable;
 use crate::event::{Answer, Refusal};
 use drm_types::{EntityId, Moment, RingId};
 
-fn picked(picked: Picked) -> Answer
+pub(crate) fn picked(picked: Picked) -> Answer
     ensures { result ≡ picked_answer picked }
 {
     Answer::Picked {

@@ -89,6 +89,8 @@ pub enum Refusal {
     TicketsOut,
     /// The context holds the buffer already (`-EALREADY`).
     Already,
+    /// A packet of the ring is out, or a buffer that the packet asks for. No event answers it.
+    PacketOut,
 }
 
 /// What the core answers to an event.

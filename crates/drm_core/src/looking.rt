@@ -1,4 +1,4 @@
-ghost use Rattle.std.specs.Prelude.{◌≡◌, ◌⊎◌, ◌<◌, length, map};
+ghost use Rattle.std.specs.Prelude.{◌≡◌, ◌⊎◌, ◌<◌, length, map, slice_get, Some, false};
 ghost use Rattle.drm_buffer.specs.Memory.{bytes_of};
 ghost use Rattle.drm_core.specs.declared.event.Answer.TheVariants as answer;
 ghost use Rattle.drm_core.specs.declared.event.Refusal.TheVariants as refusal;
@@ -27,8 +27,8 @@ impl Table {
 
     // The bytes of the buffer, copied.
     fn copy_of(&self, alloc: Global, buffer: BufferId) -> Answer
-        requires { buffer < length self.now.memory }
-        ensures { (result ≡ answer.Bytes (bytes_of self.now.memory buffer)) ⊎ (result ≡ answer.Refused refusal.Memory) }
+        requires { slice_get self.now.memory.out buffer ≡ Some false }
+        ensures { (result ≡ answer.Bytes (bytes_of self.now.memory.bytes buffer)) ⊎ (result ≡ answer.Refused refusal.Memory) }
     {
         match Vec::from_slice(alloc, self.memory.bytes(buffer)) {
             Ok(bytes) => Answer::Bytes {

@@ -76,6 +76,7 @@ impl Table {
         requires hangs { verdict_at (state_of self.old) ring number now ≡ Hang }
         ensures expired { timeout_outcome (state_of self.old) ring now ≡ (timed_out result, state_of self.new) }
         ensures whole { IsWhole self.new }
+        ensures out { self.new.memory.out ≡ self.old.memory.out }
     {
         let entity = self.journal[number as usize].job.entity();
         let priority = self.priority_of(entity);
@@ -101,6 +102,7 @@ impl Table {
         requires whole { IsWhole self.old }
         ensures expired { timeout_outcome (state_of self.old) ring now ≡ (timed_out result, state_of self.new) }
         ensures whole { IsWhole self.new }
+        ensures out { self.new.memory.out ≡ self.old.memory.out }
     {
         let Some(number) = self.head(ring) else {
             return Expired::Empty;

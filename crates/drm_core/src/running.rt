@@ -7,7 +7,7 @@ ghost use Rattle.drm_core.specs.Journal.{is_at, changed_at};
 ghost use Rattle.drm_core.specs.Outcomes.{must_stall as must_stall_at, pick_outcome, step_outcome, finish_outcome, ended_at};
 ghost use Rattle.drm_core.specs.Refusals.{pick_refusal, step_refusal, finish_refusal};
 ghost use Rattle.drm_core.specs.Answers.{picked, stepped, finished};
-ghost use Rattle.drm_core.specs.Tables.{state_of, fence_state_of, ending, IsWhole};
+ghost use Rattle.drm_core.specs.Tables.{state_of, fence_state_of, ending, IsWhole, NextIsIn};
 
 use crate::answer::{Finished, Picked, Stepped};
 use crate::choice;
@@ -19,7 +19,7 @@ use drm_packet::Packet;
 use drm_types::{FenceId, Moment, Outcome, RingId};
 
 // Whether the packet waits for more resets of its job.
-fn must_stall(packet: Packet, resets: u16) -> bool
+pub(crate) fn must_stall(packet: Packet, resets: u16) -> bool
     ensures { result ≡ must_stall_at packet resets }
 {
     match packet {
@@ -104,6 +104,7 @@ impl Table {
         ensures picked { IfOk result (λ p. (pick_refusal (state_of self.old) ring ≡ None) × (pick_outcome (state_of self.old) ring now ≡ (picked p, state_of self.new))) }
         ensures refused { IfErr result (λ r. (pick_refusal (state_of self.old) ring ≡ Some r) × (self.new ≡ self.old)) }
         ensures whole { IsWhole self.new }
+        ensures out { self.new.memory.out ≡ self.old.memory.out }
     {
         let Some(number) = self.choice(ring) else {
             return Err(Refusal::Idle);
@@ -128,9 +129,11 @@ impl Table {
     pub(crate) fn step(&mut self, ring: RingId) -> Result<Stepped, Refusal>
         requires there { ring < length self.old.spec.rings }
         requires whole { IsWhole self.old }
+        requires inside { NextIsIn self.old ring }
         ensures ran { IfOk result (λ s. (step_refusal (state_of self.old) ring ≡ None) × (step_outcome (state_of self.old) ring ≡ (stepped s, state_of self.new))) }
         ensures refused { IfErr result (λ r. (step_refusal (state_of self.old) ring ≡ Some r) × (self.new ≡ self.old)) }
         ensures whole { IsWhole self.new }
+        ensures out { self.new.memory.out ≡ self.old.memory.out }
     {
         let Some(number) = self.current(ring) else {
             return Err(Refusal::Idle);
@@ -141,7 +144,7 @@ impl Table {
         if must_stall(packet, record.karma.resets()) {
             return Ok(Stepped::Stalled { fence: number });
         }
-        packet.run(&mut self.memory);
+        packet.run_in(&mut self.memory);
         self.journal[number as usize].ran = count + 1;
         self.fences.count_packet(number);
         Ok(Stepped::Ran {
@@ -157,6 +160,7 @@ impl Table {
         ensures finished { IfOk result (λ f. (finish_refusal (state_of self.old) ring ≡ None) × (finish_outcome (state_of self.old) ring now ≡ (finished f, state_of self.new))) }
         ensures refused { IfErr result (λ r. (finish_refusal (state_of self.old) ring ≡ Some r) × (self.new ≡ self.old)) }
         ensures whole { IsWhole self.new }
+        ensures out { self.new.memory.out ≡ self.old.memory.out }
     {
         let Some(number) = self.head(ring) else {
             return Err(Refusal::Idle);

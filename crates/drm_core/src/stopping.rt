@@ -74,6 +74,7 @@ impl Table {
         ensures stopped { OnOk result ((cancel_refusal (state_of self.old) entity ≡ None) × (state_of self.new ≡ cancelled_device (state_of self.old) entity)) }
         ensures refused { IfErr result (λ r. (cancel_refusal (state_of self.old) entity ≡ Some r) × (self.new ≡ self.old)) }
         ensures whole { IsWhole self.new }
+        ensures out { self.new.memory.out ≡ self.old.memory.out }
     {
         if self.is_stopped(entity) {
             return Err(Refusal::AlreadyStopped);
@@ -90,6 +91,7 @@ impl Table {
         ensures reaped { IfOk result (λ f. (reap_refusal (state_of self.old) entity ≡ None) × (reap_outcome (state_of self.old) entity ≡ (answer.Reaped f, state_of self.new))) }
         ensures refused { IfErr result (λ r. (reap_refusal (state_of self.old) entity ≡ Some r) × (self.new ≡ self.old)) }
         ensures whole { IsWhole self.new }
+        ensures out { self.new.memory.out ≡ self.old.memory.out }
     {
         if !self.is_stopped(entity) {
             return Err(Refusal::Nothing);
@@ -97,7 +99,7 @@ impl Table {
         let Some(number) = self.entities.head(entity) else {
             return Err(Refusal::Nothing);
         };
-        let ring = self.ring_of(entity);
+        let ring = self.journal[number as usize].ring;
         let deps = &self.waits[number as usize];
         if !may_end(
             &self.journal,

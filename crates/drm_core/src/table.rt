@@ -1,17 +1,16 @@
 ghost use Rattle.std.specs.Prelude.{◌≡◌, ℕ, ◌<◌, ◌≤◌, not, length, find, min, sum_by, Some, false, IsTrue, slice_get, vec_len, vec_capacity};
 ghost use Rattle.std.specs.Option.{option_map_or};
 ghost use Rattle.drm_types.specs.Firsts.{first};
-ghost use Rattle.drm_core.specs.Arming.{ring_of};
 ghost use Rattle.drm_core.specs.Journal.{is_at, is_complete as is_complete_record};
 ghost use Rattle.drm_core.specs.Ring.{current_of, head_of, credits_of, used_credits, credit_limit_of};
 ghost use Rattle.drm_core.specs.Tables.{state_of};
 
 use crate::journal::JobRecord;
-use drm_buffer::Memory;
+use drm_buffer::Store;
 use drm_entity::Entities;
 use drm_fence::Timeline;
 use drm_resv::Deps;
-use drm_types::{DeviceSpec, EntityId, FenceId, Moment, RingId, RingSpec};
+use drm_types::{DeviceSpec, FenceId, Moment, RingId, RingSpec};
 
 /// A ring: the numbers of its pending jobs in order, and the moment from which its head's age counts.
 #[derive(Drop)]
@@ -24,7 +23,7 @@ pub struct RingJobs {
 #[derive(Drop)]
 pub struct Table {
     pub spec: DeviceSpec,
-    pub memory: Memory,
+    pub memory: Store,
     pub journal: Vec<JobRecord>,
     /// The fences that each job waits for, by number.
     pub waits: Vec<Deps>,
@@ -111,14 +110,6 @@ impl RingJobs {
 }
 
 impl Table {
-    /// The ring that the entity's jobs run on.
-    pub(crate) fn ring_of(&self, entity: EntityId) -> RingId
-        requires { entity < length self.now.spec.entities }
-        ensures { result ≡ ring_of (state_of self.now) entity }
-    {
-        self.spec.entities.as_slice()[entity as usize].ring
-    }
-
     pub(crate) fn ring_spec(&self, ring: RingId) -> RingSpec
         requires { ring < length self.now.spec.rings }
         ensures { slice_get self.now.spec.rings ring ≡ Some result }

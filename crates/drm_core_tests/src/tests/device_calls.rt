@@ -22,7 +22,7 @@ const FILL: Job = Job(
 
 /// The plan of the job, which waits for nothing.
 fn plan(alloc: Global, device: &Device) -> Option<Plan>
-    ensures { IfSome result (λ plan. IsJob device.now.spec plan.job × (plan.deps ≡ [])) }
+    ensures { IfSome result (λ plan. IsJob device.now.state.spec plan.job × (plan.deps ≡ [])) }
 {
     let draft = draft_of(alloc, FILL).ok()?;
     let job = check(draft, device.spec()).ok()?;
@@ -43,7 +43,7 @@ fn hold(alloc: Global) -> Option<Held>
 
 /// Whether the device arms the job as its first, and the reservation has its use then.
 fn arms(alloc: Global, device: &mut Device) -> bool
-    requires { device.old.journal ≡ [] }
+    requires { device.old.state.journal ≡ [] }
 {
     let Some(plan) = plan(alloc, device) else {
         return false;
@@ -72,7 +72,7 @@ fn runs(device: &mut Device) -> bool {
                 packet: 0
             })
         )
-        && device.timeout(0, 10) == Expired::Complete
+        && device.timeout(0, 10) == Ok(Expired::Complete)
         && matches!(
             device.finish(0, 10),
             Ok(Finished {
@@ -97,7 +97,7 @@ fn shows(device: &Device, byte: u8) -> bool {
 
 /// Whether the bytes of buffer 0 can be read under an empty reservation.
 fn reads(alloc: Global, device: &Device) -> bool
-    requires { device.now.journal ≡ [] }
+    requires { device.now.state.journal ≡ [] }
 {
     let buffer = BufferId::new(0);
     if device.spec().buffers.is_empty() {

@@ -4,7 +4,7 @@ use crate::Work::{Add, Copy, Fill, Stall};
 use crate::{ENTITY, Job, OTHER, RING, device};
 use drm_core::Refusal;
 use drm_types::Access::{Read, Write};
-use drm_types::{EntitySpec, Outcome, Priority, RingSpec};
+use drm_types::{Outcome, Priority, RingSpec};
 use std::test::Fail;
 
 #[test]
@@ -150,7 +150,7 @@ fn a_kernel_entity_is_never_guilty(rt: HostRuntime) -> Result<(), Fail> {
         alloc,
         &[&[0; 4]],
         &[RING],
-        &[EntitySpec {
+        &[Entity {
             priority: Priority::Kernel,
             ..ENTITY
         }],

@@ -4,7 +4,7 @@ use crate::Work::{Add, Copy, Fill};
 use crate::{ENTITY, Job, OTHER, RING, device};
 use drm_core::Refusal;
 use drm_types::Access::{Read, Write};
-use drm_types::{EntitySpec, Outcome, Priority};
+use drm_types::{Outcome, Priority};
 use std::test::Fail;
 
 #[test]
@@ -217,7 +217,7 @@ fn higher_priorities_are_picked_first(rt: HostRuntime) -> Result<(), Fail> {
         &[RING, RING],
         &[
             ENTITY,
-            EntitySpec {
+            Entity {
                 priority: Priority::High,
                 ..ENTITY
             },

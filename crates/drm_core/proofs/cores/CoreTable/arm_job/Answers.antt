@@ -12,11 +12,11 @@ returns-clause-armed c =
     let t = c.args.self.now in
     (core_armed t c.arm.new.self (with_items t.reservations c.add_uses.new.reservations) c.args.plan.job c.requires.core c.requires.job
     (uses_in_vector t (has_ended_at t.table.fences.list) c.len-fence.result c.args.plan.job c.deref_mut.result.now c.add_uses.new.reservations c.len-fence.ensures c.deref_mut.ensures.value c.add_uses.ensures)
-    c.arm.ensures.armed c.arm.ensures.whole c.requires.apart).0
+    c.arm.ensures.armed c.arm.ensures.whole c.arm.ensures.out c.requires.apart).0
 
 pub returns-clause-core : goal.returns-clause-core
 returns-clause-core c =
     let t = c.args.self.now in
     (core_armed t c.arm.new.self (with_items t.reservations c.add_uses.new.reservations) c.args.plan.job c.requires.core c.requires.job
     (uses_in_vector t (has_ended_at t.table.fences.list) c.len-fence.result c.args.plan.job c.deref_mut.result.now c.add_uses.new.reservations c.len-fence.ensures c.deref_mut.ensures.value c.add_uses.ensures)
-    c.arm.ensures.armed c.arm.ensures.whole c.requires.apart).1
+    c.arm.ensures.armed c.arm.ensures.whole c.arm.ensures.out c.requires.apart).1

@@ -10,7 +10,7 @@ pub returns-in-Ok-clause-core : goal.returns-in-Ok-clause-core
 returns-in-Ok-clause-core c =
     let d = state_of c.args.self.now.table in
     table_changed c.args.self.now c.finish.new.self c.requires.core c.finish.ensures.whole
-    (subst (λ (q : Left). IsKept d q.1) c.in-Ok.ensures.finished.1 (finish_kept d c.args.ring c.args.now c.requires.core.whole.steady c.requires.there c.in-Ok.ensures.finished.0))
+    (subst (λ (q : Left). IsKept d q.1) c.in-Ok.ensures.finished.1 (finish_kept d c.args.ring c.args.now c.requires.core.whole.steady c.requires.there c.in-Ok.ensures.finished.0)) c.finish.ensures.out
 
 pub returns-in-Err-clause-core : goal.returns-in-Err-clause-core
 returns-in-Err-clause-core c = subst (λ t. IsCore (record c.args.self.now { table = t })) (sym c.in-Err.ensures.refused.1) c.requires.core

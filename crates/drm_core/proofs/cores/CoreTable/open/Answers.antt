@@ -37,4 +37,4 @@ pub returns-clause-opened : goal.returns-clause-opened
 returns-clause-opened c = state_is c ∙ ap opened (same_spec c)
 
 pub returns-clause-core : goal.returns-clause-core
-returns-clause-core c = blank_is_core (made c) (state_is c) c.in_ok-table.ensures.whole c.in_ok-contexts.ensures
+returns-clause-core c = blank_is_core (made c) (state_is c) c.in_ok-table.ensures.whole c.in_ok-table.ensures.inside c.in_ok-contexts.ensures

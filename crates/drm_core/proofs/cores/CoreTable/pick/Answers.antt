@@ -10,7 +10,7 @@ pub returns-in-Ok-clause-core : goal.returns-in-Ok-clause-core
 returns-in-Ok-clause-core c =
     let d = state_of c.args.self.now.table in
     table_changed c.args.self.now c.pick.new.self c.requires.core c.pick.ensures.whole
-    (subst (λ (q : Left). IsKept d q.1) c.in-Ok.ensures.picked.1 (pick_kept d c.args.ring c.args.now c.requires.core.whole.steady c.requires.there c.in-Ok.ensures.picked.0))
+    (subst (λ (q : Left). IsKept d q.1) c.in-Ok.ensures.picked.1 (pick_kept d c.args.ring c.args.now c.requires.core.whole.steady c.requires.there c.in-Ok.ensures.picked.0)) c.pick.ensures.out
 
 pub returns-in-Err-clause-core : goal.returns-in-Err-clause-core
 returns-in-Err-clause-core c = subst (λ t. IsCore (record c.args.self.now { table = t })) (sym c.in-Err.ensures.refused.1) c.requires.core

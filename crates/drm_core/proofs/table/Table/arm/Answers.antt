@@ -2,7 +2,7 @@ use Rattle.std.proofs.Common.{◌≡◌, ◌∙◌, sym, ap, subst, length, slic
 use Rattle.std.proofs.lemmas.List.{length-map}
 use Rattle.drm_reset.specs.Blame.{Counts}
 use Rattle.drm_entity.specs.Rows.{IsFresh, pushed}
-use Rattle.drm_core.specs.Arming.{ring_of, new_record}
+use Rattle.drm_core.specs.Arming.{arming_ring, new_record}
 use Rattle.drm_core.specs.Tables.{state_of, fence_state_of}
 use Rattle.drm_core.specs.Cores.{all_named}
 use Rattle.drm_core.proofs.ArmDone.{few_entities, arm_done}
@@ -28,13 +28,13 @@ returns-clause-armed c =
     let job = c.args.plan.job in
     let w = c.requires.whole in
     let may = c.requires.may in
-    let ring = c.ring_of-ring.ensures ∙ ap (ring_of d) c.entity-entity.ensures in
+    let ring = c.arming_ring-ring.ensures ∙ ap (arming_ring d) c.entity-entity.ensures in
     let deps : c.note_named.new.deps ≡ all_named t.journal.items c.args.plan.deps job.after =
     c.note_named.ensures ∙ (ap (λ js. all_named js c.args.plan.deps c.after.result.now) c.deref.ensures.value ∙ ap (all_named t.journal.items c.args.plan.deps) c.after.ensures) in
     let queued : c.push.new.self ≡ pushed t.entities job.entity (length t.journal.items) =
     c.push.ensures ∙ (ap (λ e. pushed t.entities e c.len.result) c.entity-entity.ensures ∙ ap (pushed t.entities job.entity) (c.len.ensures ∙ t.journal.ok.0)) in
     let done = arm_done t job c.args.plan.deps _ c.push_reserved-2.new.self c.push_reserved.new.self c.arm.new.self c.push.new.self w c.requires.job c.requires.covers may ring
-    (c.push_reserved-2.ensures.items ∙ ap (λ (k : Counts). t.journal.items ++ record (new_record d job) { ring = c.ring_of-ring.result; karma = k } ∷ []) c.zero.ensures) (c.push_reserved.ensures.items ∙ ap (λ ds. t.waits.items ++ ds ∷ []) deps) c.arm.ensures.armed c.push_reserved-2.ensures.capacity c.push_reserved.ensures.capacity c.arm.ensures.places queued in
+    (c.push_reserved-2.ensures.items ∙ ap (λ (k : Counts). t.journal.items ++ record (new_record d job) { ring = c.arming_ring-ring.result; karma = k } ∷ []) c.zero.ensures) (c.push_reserved.ensures.items ∙ ap (λ ds. t.waits.items ++ ds ∷ []) deps) c.arm.ensures.armed c.push_reserved-2.ensures.capacity c.push_reserved.ensures.capacity c.arm.ensures.places queued in
     done.0
 
 pub returns-clause-number : goal.returns-clause-number
@@ -49,11 +49,11 @@ returns-clause-whole c =
     let job = c.args.plan.job in
     let w = c.requires.whole in
     let may = c.requires.may in
-    let ring = c.ring_of-ring.ensures ∙ ap (ring_of d) c.entity-entity.ensures in
+    let ring = c.arming_ring-ring.ensures ∙ ap (arming_ring d) c.entity-entity.ensures in
     let deps : c.note_named.new.deps ≡ all_named t.journal.items c.args.plan.deps job.after =
     c.note_named.ensures ∙ (ap (λ js. all_named js c.args.plan.deps c.after.result.now) c.deref.ensures.value ∙ ap (all_named t.journal.items c.args.plan.deps) c.after.ensures) in
     let queued : c.push.new.self ≡ pushed t.entities job.entity (length t.journal.items) =
     c.push.ensures ∙ (ap (λ e. pushed t.entities e c.len.result) c.entity-entity.ensures ∙ ap (pushed t.entities job.entity) (c.len.ensures ∙ t.journal.ok.0)) in
     let done = arm_done t job c.args.plan.deps _ c.push_reserved-2.new.self c.push_reserved.new.self c.arm.new.self c.push.new.self w c.requires.job c.requires.covers may ring
-    (c.push_reserved-2.ensures.items ∙ ap (λ (k : Counts). t.journal.items ++ record (new_record d job) { ring = c.ring_of-ring.result; karma = k } ∷ []) c.zero.ensures) (c.push_reserved.ensures.items ∙ ap (λ ds. t.waits.items ++ ds ∷ []) deps) c.arm.ensures.armed c.push_reserved-2.ensures.capacity c.push_reserved.ensures.capacity c.arm.ensures.places queued in
+    (c.push_reserved-2.ensures.items ∙ ap (λ (k : Counts). t.journal.items ++ record (new_record d job) { ring = c.arming_ring-ring.result; karma = k } ∷ []) c.zero.ensures) (c.push_reserved.ensures.items ∙ ap (λ ds. t.waits.items ++ ds ∷ []) deps) c.arm.ensures.armed c.push_reserved-2.ensures.capacity c.push_reserved.ensures.capacity c.arm.ensures.places queued in
     done.1

@@ -4,6 +4,7 @@ use Rattle.drm_entity.specs.Rows.{EntityRows}
 use Rattle.drm_core.specs.declared.table.Table.{Table}
 use Rattle.drm_core.specs.Building.{HaveRoomFor}
 use Rattle.drm_core.proofs.Blanks.{blank_device, blank_whole}
+use Rattle.drm_core.proofs.Stored.{opened_in}
 use Rattle.drm_core.proofs.table.Table.open.Goals as goal
 
 pub returns-clause-opened : goal.returns-clause-opened
@@ -26,3 +27,6 @@ returns-clause-whole c =
       queues = ap (λ (e : EntityRows). e.places) c.in_ok-entities.ensures;
       pending = subst (λ specs. HaveRoomFor specs c.in_ok-rings.rings.items) c.as_slice.ensures c.in_ok-rings.ensures.room;
     })
+
+pub returns-clause-inside : goal.returns-clause-inside
+returns-clause-inside c = opened_in c.in_ok-memory.memory c.args.spec.buffers c.in_ok-memory.ensures

@@ -1,15 +1,24 @@
 use Rattle.std.proofs.Common.{◌<◌, ◌∙◌, refl, sym, ap, subst}
 use Rattle.drm_core.specs.Stopping.{may_end_after}
-use Rattle.drm_core.proofs.Reaping.{entity_ring_there, reap_refused, front_goes_on, front_popped, reap_done}
+use Rattle.drm_core.proofs.Reaping.{job_ring_there, job_at, reap_refused, front_goes_on, front_popped, reap_done}
 use Rattle.drm_core.proofs.Queues.{head_there}
 use Rattle.drm_core.proofs.TableFacts.{row_there, entity_row_there}
 use Rattle.drm_core.proofs.table.Table.reap.Goals as goal
+
+pub index-requires-2 : goal.index-requires-2
+index-requires-2 c =
+    let t = c.args.self.now in
+    let w = c.requires.whole in
+    let head = head_there t.journal.items t.entities c.args.entity c.in-Some.number w.queues (entity_row_there t c.args.entity w c.requires.there) c.in-Some.ensures in
+    let at = job_at t c.in-Some.number c.args.entity c.index.result.now head.0 c.index.ensures in
+    subst (λ n. c.index.result.now.ring < n) (sym t.rings.ok.0) (row_there t c.index.result.now.ring w (job_ring_there t c.in-Some.number c.index.result.now w at))
 
 pub index-requires : goal.index-requires
 index-requires c =
     let t = c.args.self.now in
     let w = c.requires.whole in
-    subst (λ n. c.ring_of-ring.result < n) (sym t.rings.ok.0) (row_there t c.ring_of-ring.result w (entity_ring_there t c.args.entity c.ring_of-ring.result w c.requires.there c.ring_of-ring.ensures))
+    let head = head_there t.journal.items t.entities c.args.entity c.in-Some.number w.queues (entity_row_there t c.args.entity w c.requires.there) c.in-Some.ensures in
+    subst (λ n. c.in-Some.number < n) (sym t.journal.ok.0) head.1
 
 pub index-deps-requires : goal.index-deps-requires
 index-deps-requires c =
@@ -23,9 +32,9 @@ returns-then-not-may_end-clause-refused c =
     let t = c.args.self.now in
     let w = c.requires.whole in
     let head = head_there t.journal.items t.entities c.args.entity c.in-Some.number w.queues (entity_row_there t c.args.entity w c.requires.there) c.in-Some.ensures in
-    let there = entity_ring_there t c.args.entity c.ring_of-ring.result w c.requires.there c.ring_of-ring.ensures in
-    let may = reap_refused t c.args.entity c.in-Some.number c.ring_of-ring.result c.index.result.now c.index-deps.result.now _ w (sym c.is_stopped.ensures ∙ c.if-not-is_stopped.false) head.0 there c.ring_of-ring.ensures c.index.ensures c.index-deps.ensures
-    (ap (λ js. may_end_after js c.index-deps.result.now c.index.result.now.pending.items c.args.entity) (sym c.deref.ensures.value)
+    let at = job_at t c.in-Some.number c.args.entity c.index.result.now head.0 c.index.ensures in
+    let may = reap_refused t c.args.entity c.in-Some.number c.index.result.now.ring c.index.result.now c.index-2.result.now c.index-deps.result.now _ w (sym c.is_stopped.ensures ∙ c.if-not-is_stopped.false) head.0 at refl c.index-2.ensures c.index-deps.ensures
+    (ap (λ js. may_end_after js c.index-deps.result.now c.index-2.result.now.pending.items c.args.entity) (sym c.deref.ensures.value)
     ∙ (ap (λ ns. may_end_after c.deref.result.now c.index-deps.result.now ns c.args.entity) (sym c.deref-2.ensures.value) ∙ (sym c.may_end.ensures ∙ c.if-not-may_end.true))) in
     (may, refl)
 
@@ -41,9 +50,9 @@ returns-clause-reaped c =
     let t = c.args.self.now in
     let w = c.requires.whole in
     let head = head_there t.journal.items t.entities c.args.entity c.in-Some.number w.queues (entity_row_there t c.args.entity w c.requires.there) c.in-Some.ensures in
-    let there = entity_ring_there t c.args.entity c.ring_of-ring.result w c.requires.there c.ring_of-ring.ensures in
-    let may = reap_refused t c.args.entity c.in-Some.number c.ring_of-ring.result c.index.result.now c.index-deps.result.now _ w (sym c.is_stopped.ensures ∙ c.if-not-is_stopped.false) head.0 there c.ring_of-ring.ensures c.index.ensures c.index-deps.ensures
-    (ap (λ js. may_end_after js c.index-deps.result.now c.index.result.now.pending.items c.args.entity) (sym c.deref.ensures.value)
+    let at = job_at t c.in-Some.number c.args.entity c.index.result.now head.0 c.index.ensures in
+    let may = reap_refused t c.args.entity c.in-Some.number c.index.result.now.ring c.index.result.now c.index-2.result.now c.index-deps.result.now _ w (sym c.is_stopped.ensures ∙ c.if-not-is_stopped.false) head.0 at refl c.index-2.ensures c.index-deps.ensures
+    (ap (λ js. may_end_after js c.index-deps.result.now c.index-2.result.now.pending.items c.args.entity) (sym c.deref.ensures.value)
     ∙ (ap (λ ns. may_end_after c.deref.result.now c.index-deps.result.now ns c.args.entity) (sym c.deref-2.ensures.value) ∙ (sym c.may_end.ensures ∙ c.if-not-may_end.false))) in
     let left = front_popped t c.args.entity c.in-Some.number c.end_job.new.journal.items c.pop.new.self c.pop.result w c.requires.there head.0 c.end_job.ensures.journal c.pop.ensures.some c.pop.ensures.none in
     let done = reap_done t c.args.entity c.in-Some.number c.end_job.new.journal c.end_job.new.fences c.pop.new.self w head.0 may
@@ -55,9 +64,9 @@ returns-clause-whole c =
     let t = c.args.self.now in
     let w = c.requires.whole in
     let head = head_there t.journal.items t.entities c.args.entity c.in-Some.number w.queues (entity_row_there t c.args.entity w c.requires.there) c.in-Some.ensures in
-    let there = entity_ring_there t c.args.entity c.ring_of-ring.result w c.requires.there c.ring_of-ring.ensures in
-    let may = reap_refused t c.args.entity c.in-Some.number c.ring_of-ring.result c.index.result.now c.index-deps.result.now _ w (sym c.is_stopped.ensures ∙ c.if-not-is_stopped.false) head.0 there c.ring_of-ring.ensures c.index.ensures c.index-deps.ensures
-    (ap (λ js. may_end_after js c.index-deps.result.now c.index.result.now.pending.items c.args.entity) (sym c.deref.ensures.value)
+    let at = job_at t c.in-Some.number c.args.entity c.index.result.now head.0 c.index.ensures in
+    let may = reap_refused t c.args.entity c.in-Some.number c.index.result.now.ring c.index.result.now c.index-2.result.now c.index-deps.result.now _ w (sym c.is_stopped.ensures ∙ c.if-not-is_stopped.false) head.0 at refl c.index-2.ensures c.index-deps.ensures
+    (ap (λ js. may_end_after js c.index-deps.result.now c.index-2.result.now.pending.items c.args.entity) (sym c.deref.ensures.value)
     ∙ (ap (λ ns. may_end_after c.deref.result.now c.index-deps.result.now ns c.args.entity) (sym c.deref-2.ensures.value) ∙ (sym c.may_end.ensures ∙ c.if-not-may_end.false))) in
     let left = front_popped t c.args.entity c.in-Some.number c.end_job.new.journal.items c.pop.new.self c.pop.result w c.requires.there head.0 c.end_job.ensures.journal c.pop.ensures.some c.pop.ensures.none in
     let done = reap_done t c.args.entity c.in-Some.number c.end_job.new.journal c.end_job.new.fences c.pop.new.self w head.0 may

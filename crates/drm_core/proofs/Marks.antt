@@ -1,0 +1,195 @@
+-- A packet that is reported is a step of the device, and what other rings do leaves it out.
+use Rattle.std.proofs.Common.{◌≡◌, ◌≢◌, ℕ, zero, suc, ◌+◌, ◌<◌, Bool, true, false, cond, not, ◌==◌, List, [], ◌∷◌, ◌++◌, set, length, Some, None, Option, refl, sym, ap, subst, ◌∙◌, inl, inr, ◌⊎◌, arith, slice_get, get_or}
+use Rattle.std.specs.Prelude.{Contains, find, is_none, option_map}
+use Rattle.std.specs.Option.{option_map_or}
+use Rattle.std.proofs.lemmas.List.{get_or-set_other}
+use Rattle.std.proofs.lemmas.Bool.{both_ways}
+use Rattle.drm_types.specs.Firsts.{when}
+use Rattle.drm_buffer.specs.Memory.{bytes_of}
+use Rattle.drm_job.specs.declared.Draft.{Draft}
+use Rattle.drm_packet.specs.declared.Packet.{Packet}
+use Rattle.drm_packet.specs.declared.Packet.TheVariants.{Fill, Copy, Add, Stall}
+use Rattle.drm_packet.specs.Effect.{effect}
+use Rattle.drm_packet.specs.Touches.{writes, touches}
+use Rattle.drm_packet.specs.Parts.{target_of, source_of, part_effect, other_bytes}
+use Rattle.drm_packet.proofs.PartEffects.{parts_make_the_effect}
+use Rattle.drm_packet.proofs.Commute.{IsWrite, cases_packet}
+use Rattle.drm_core.specs.declared.event.Answer.{Answer}
+use Rattle.drm_core.specs.declared.event.Answer.TheVariants as answer
+use Rattle.drm_core.specs.declared.event.Refusal.TheVariants.{Idle}
+use Rattle.drm_core.specs.declared.journal.JobRecord.{JobRecord}
+use Rattle.drm_core.specs.State.{DeviceState}
+use Rattle.drm_core.specs.Journal.{is_at, is_complete}
+use Rattle.drm_core.specs.Ring.{pending_of, current_of}
+use Rattle.drm_core.specs.Refusals.{step_refusal}
+use Rattle.drm_core.specs.Outcomes.{must_stall, ran_device, stepped_by, step_outcome, at_record}
+use Rattle.drm_core.specs.Steady.{IsSteady}
+use Rattle.drm_core.specs.Arming.{new_record, armed_device}
+use Rattle.drm_core.specs.Marks.{Mark, MarkedDevice, mark_of, mark_for, IsOut, Task, IsBusy}
+use Rattle.drm_core.proofs.Records.{at_test, changed_is}
+use Rattle.drm_core.proofs.Pairs.{get_set_other, get_set_same}
+use Rattle.drm_core.proofs.Pending.{contains_at}
+use Rattle.drm_core.proofs.ArmLawful.{get_before_push}
+use Rattle.drm_core.proofs.RanLawful.{IsCurrent, current_is, ran_steady, one_more_ran, is_going}
+
+-- the device's answer and the state that it leaves
+abbrev pub Left : Type 0
+Left = Answer × DeviceState
+
+-- a report is the step of the ring, as the definition has it
+pub report_is_step : (d : DeviceState) (ring : ℕ) (m : Mark) (out : IsOut d ring m)
+    → (step_refusal d ring ≡ None) × (step_outcome d ring ≡ (answer.Ran m.fence m.packet, ran_device d m.fence out.packet))
+report_is_step d ring m out = (
+  ap (λ (o : Option ℕ). when (is_none o) Idle) out.current,
+  ap (at_record {A = Left} d steps nothing) out.current
+      ∙ (ap (λ o. option_map_or (steps m.fence) o nothing) out.at
+      ∙ (ap (λ k. option_map_or (stepped_by d m.fence) (slice_get out.job.job.packets k) nothing) out.count
+      ∙ (ap (λ o. option_map_or (stepped_by d m.fence) o nothing) out.next
+      ∙ (ap (λ b. cond {A = Left} b (answer.Stalled m.fence, d) (ran (option_map_or (λ (r : JobRecord). r.ran) (slice_get d.journal m.fence) 0)))
+      (at_test d.journal m.fence out.job (λ r. must_stall out.packet r.karma.resets) out.at ∙ out.runs)
+      ∙ ap ran (ap (λ o. option_map_or (λ (r : JobRecord). r.ran) o 0) out.at ∙ out.count))))),
+) where
+  nothing : Left
+  nothing = (answer.Ok, d)
+
+  steps : ℕ → JobRecord → Left
+  steps number r = option_map_or (stepped_by d number) (slice_get r.job.packets r.ran) (answer.Ok, d)
+
+  ran : ℕ → Left
+  ran k = (answer.Ran m.fence k, ran_device d m.fence out.packet)
+
+-- the memory after a report has the bytes that were brought back, and else what it showed
+pub report_puts : (d : DeviceState) (ring : ℕ) (m : Mark) (out : IsOut d ring m) (target : ℕ) (write : List ℕ) → target_of out.packet ≡ Some target
+    → m.write ≡ Some write → effect out.packet d.memory ≡ set d.memory target (part_effect out.packet write m.read)
+report_puts d ring m out target write target_is write_is =
+    let own : Some write ≡ Some (bytes_of d.memory target) = sym write_is ∙ (out.write ∙ ap (option_map (bytes_of d.memory)) target_is) in
+    let same : write ≡ bytes_of d.memory target = cc (own) in
+    parts_make_the_effect out.packet target d.memory target_is
+    ∙ (ap (λ w. set d.memory target (part_effect out.packet w (other_bytes out.packet d.memory))) (sym same)
+    ∙ ap (λ o. set d.memory target (part_effect out.packet write o)) (sym out.read))
+
+-- a report keeps the device steady
+pub report_steady : (d : DeviceState) (ring : ℕ) (m : Mark) (out : IsOut d ring m) → IsSteady d → ring < length d.spec.rings
+    → IsSteady (ran_device d m.fence out.packet)
+report_steady d ring m out steady here =
+    let c = current_is d ring m.fence steady.lawful here out.current in
+    let same : c.0 ≡ out.job = cc (c.1.at, out.at) in
+    let now = subst (IsCurrent d ring m.fence) same c.1 in
+    ran_steady d ring m.fence out.job out.packet steady here now (ap (λ k. slice_get out.job.job.packets k) out.count ∙ out.next)
+
+-- ---- what other rings do
+
+-- a search by tests that agree on the list
+pub find_agree : {X : Type 0} (p q : X → Bool) (xs : List X) → ((k : ℕ) (x : X) → slice_get xs k ≡ Some x → p x ≡ q x) → find p xs ≡ find q xs
+find_agree p q [] same = refl
+find_agree p q (x ∷ xs) same =
+    ap (λ t. cond t (Some x) (find p xs)) (same 0 x refl) ∙ ap (λ o. cond (q x) (Some x) o) (find_agree p q xs (λ k y at. same (suc k) y at))
+
+-- a packet leaves the bytes of each buffer that it does not touch
+pub leaves_bytes : (p : Packet) (memory : List (List ℕ)) (b : ℕ) → (Contains (touches p) b → ⊥) → bytes_of (effect p memory) b ≡ bytes_of memory b
+leaves_bytes p memory b apart =
+    elim (cases_packet p) [
+      | inl nothing ↦ ap (λ (n : List (List ℕ)). bytes_of n b) (nothing memory)
+      | inr w ↦
+          let other : b ≢ w.target = λ e. apart (subst (Contains (touches p)) (sym e) w.touches_target) in
+          ap (λ (n : List (List ℕ)). bytes_of n b) (w.is memory) ∙ get_or-set_other memory w.target b _ [] other
+    ]
+
+-- a packet touches its target and its source
+pub target_touched : (p : Packet) (t : ℕ) → target_of p ≡ Some t → Contains (touches p) t
+target_touched (Fill buffer offset len byte) t is = (0, omega arith, let same : buffer ≡ t = cc (is) in same)
+target_touched (Copy source from target to len) t is = (1, omega arith, let same : target ≡ t = cc (is) in same)
+target_touched (Add source from target to len) t is = (1, omega arith, let same : target ≡ t = cc (is) in same)
+target_touched (Stall resets) t is = absurd (cc (is))
+
+-- the bytes of a buffer that may not be named
+pub same_bytes : (p : Packet) (old new : List (List ℕ)) → ((b : ℕ) → Contains (touches p) b → bytes_of new b ≡ bytes_of old b)
+    → (option_map (bytes_of new) (target_of p) ≡ option_map (bytes_of old) (target_of p)) × (other_bytes p new ≡ other_bytes p old)
+same_bytes (Fill buffer offset len byte) old new same = (ap (λ x. Some x) (same buffer (0, omega arith, refl)), refl)
+same_bytes (Copy source from target to len) old new same = (
+  ap (λ x. Some x) (same target (1, omega arith, refl)),
+  by_source (source == target) source (same source (0, omega arith, refl)),
+) where
+  by_source : (b : Bool) (s : ℕ) → bytes_of new s ≡ bytes_of old s
+      → option_map (bytes_of new) (cond b None (Some s)) ≡ option_map (bytes_of old) (cond b None (Some s))
+  by_source true s is = refl
+  by_source false s is = ap (λ x. Some x) is
+same_bytes (Add source from target to len) old new same = (
+  ap (λ x. Some x) (same target (1, omega arith, refl)),
+  by_source (source == target) source (same source (0, omega arith, refl)),
+) where
+  by_source : (b : Bool) (s : ℕ) → bytes_of new s ≡ bytes_of old s
+      → option_map (bytes_of new) (cond b None (Some s)) ≡ option_map (bytes_of old) (cond b None (Some s))
+  by_source true s is = refl
+  by_source false s is = ap (λ x. Some x) is
+same_bytes (Stall resets) old new same = (refl, refl)
+
+-- a packet that another ring runs, of other buffers, leaves what is out
+pub ran_leaves_out : (d : DeviceState) (ring other f : ℕ) (r : JobRecord) (q : Packet) (m : Mark) (out : IsOut d ring m) → IsSteady d
+    → ring < length d.spec.rings → IsCurrent d other f r → ring ≢ other
+    → ((b : ℕ) → Contains (touches out.packet) b → Contains (touches q) b → ⊥) → IsOut (ran_device d f q) ring m
+ran_leaves_out d ring other f r q m out steady here now apart_rings apart =
+    let journal = changed_is d.journal f r one_more_ran now.at in
+    let not_here : (k g : ℕ) → slice_get (pending_of d ring) k ≡ Some g → g ≢ f =
+    λ k g at_k same.
+    let x = ((steady.lawful.rings ring here).pending g).0 (contains_at (pending_of d ring) k g at_k) in
+    let is : x.0 ≡ r = cc (x.1, now.at, same) in
+    apart_rings (sym x.3 ∙ (ap (λ (z : JobRecord). z.ring) is ∙ now.on_ring)) in
+    let going : (k g : ℕ) → slice_get (pending_of d ring) k ≡ Some g → is_going (ran_device d f q).journal g ≡ is_going d.journal g =
+    λ k g at_k.
+    ap (λ (o : Option JobRecord). option_map_or (λ r. not (is_complete r)) o false)
+    (ap (λ (js : List JobRecord). slice_get js g) journal ∙ get_set_other d.journal f g (one_more_ran r) (not_here k g at_k)) in
+    let c = current_is d ring m.fence steady.lawful here out.current in
+    let fence_other : m.fence ≢ f = not_here c.1.place m.fence c.1.stands in
+    let bytes = same_bytes out.packet d.memory (effect q d.memory) (λ b touched. leaves_bytes q d.memory b (apart b touched)) in
+    record {
+      current = find_agree (is_going (ran_device d f q).journal) (is_going d.journal) (pending_of d ring) going ∙ out.current;
+      job = out.job;
+      at = ap (λ (js : List JobRecord). slice_get js m.fence) journal ∙ (get_set_other d.journal f m.fence (one_more_ran r) fence_other ∙ out.at);
+      count = out.count;
+      packet = out.packet;
+      next = out.next;
+      runs = out.runs;
+      write = out.write ∙ sym bytes.0;
+      read = out.read ∙ sym bytes.1;
+    }
+
+-- the device stays busy with each other task, whatever ring begins or reports
+pub still_busy : (d : MarkedDevice) (ring : ℕ) (change : Option Mark) (task : Task) → task.ring ≢ ring → IsBusy d task
+    → IsBusy (record d { marks = set d.marks ring change }) task
+still_busy d ring change task other busy =
+    ap (λ (o : Option (Option Mark)). option_map_or (λ m. m) o None) (get_set_other d.marks ring task.ring change other) ∙ busy
+
+-- a packet that goes out is one
+pub begun_is_out : (d : DeviceState) (ring f : ℕ) (r : JobRecord) (p : Packet) → current_of d ring ≡ Some f → slice_get d.journal f ≡ Some r
+    → slice_get r.job.packets r.ran ≡ Some p → must_stall p r.karma.resets ≡ false → IsOut d ring (mark_for d f r p)
+begun_is_out d ring f r p current at next runs = record {
+  current = current;
+  job = r;
+  at = at;
+  count = refl;
+  packet = p;
+  next = next;
+  runs = runs;
+  write = refl;
+  read = refl;
+}
+
+-- an arming leaves what is out
+pub armed_leaves_out : (d : DeviceState) (ring : ℕ) (job : Draft) (m : Mark) → IsOut d ring m → IsSteady d → ring < length d.spec.rings
+    → IsOut (armed_device d job) ring m
+armed_leaves_out d ring job m out steady here = record {
+  current = find_agree (is_going (armed_device d job).journal) (is_going d.journal) (pending_of d ring)
+      (λ k g at_k.
+      let x = ((steady.lawful.rings ring here).pending g).0 (contains_at (pending_of d ring) k g at_k) in
+      ap (λ (o : Option JobRecord). option_map_or (λ r. not (is_complete r)) o false)
+      (get_before_push d.journal (new_record d job) g x.0 x.1 ∙ sym x.1)) ∙ out.current;
+  job = out.job;
+  at = get_before_push d.journal (new_record d job) m.fence out.job out.at;
+  count = out.count;
+  packet = out.packet;
+  next = out.next;
+  runs = out.runs;
+  write = out.write;
+  read = out.read;
+}

@@ -1,0 +1,46 @@
+use Rattle.std.proofs.Common.{◌≡◌, ◌∙◌, false, refl, sym, ap, None, Some, slice_get}
+use Rattle.std.specs.Option.{option_map_or}
+use Rattle.drm_core.specs.declared.journal.JobRecord.{JobRecord}
+use Rattle.drm_core.specs.Begun.{out_or}
+use Rattle.drm_core.specs.Marks.{ring_out, buffer_out}
+use Rattle.drm_core.specs.MarkedTables.{marked_of}
+use Rattle.drm_core.specs.Outcomes.{must_stall}
+use Rattle.drm_core.specs.Refusals.{step_refusal}
+use Rattle.drm_core.specs.Tables.{state_of}
+use Rattle.drm_core.proofs.CallsAre.{step_may, step_stalls}
+use Rattle.drm_core.proofs.TableFacts.{neither, running_at, running_found, vec_holds}
+use Rattle.drm_core.proofs.MarkedOut.{asks_is, next_is_in}
+use Rattle.drm_core.proofs.marked.MarkedTable.begin_step.Goals as goal
+
+pub index-record-requires : goal.index-record-requires
+index-record-requires c =
+    let t = c.args.self.now.table in
+    let run = running_at t c.args.ring c.in-Some.number c.requires.whole.table c.requires.there (sym c.current.ensures ∙ c.in-Some.is) in
+    vec_holds t.journal c.in-Some.number run.0 run.1.current.at
+
+pub packet-packet-requires : goal.packet-packet-requires
+packet-packet-requires c =
+    (running_found c.args.self.now.table c.args.ring c.in-Some.number c.index-record.result.now c.requires.whole.table c.requires.there (sym c.current.ensures ∙ c.in-Some.is) c.index-record.ensures).left
+
+pub returns-then-must_stall-clause-begun : goal.returns-then-must_stall-clause-begun
+returns-then-must_stall-clause-begun c =
+    let t = c.args.self.now.table in
+    let is = sym c.current.ensures ∙ c.in-Some.is in
+    let run = running_found t c.args.ring c.in-Some.number c.index-record.result.now c.requires.whole.table c.requires.there is c.index-record.ensures in (
+      ap (λ b. out_or b (step_refusal (state_of t) c.args.ring)) (sym c.is_in_way.ensures ∙ c.if-is_in_way.false) ∙ step_may (state_of t) c.args.ring c.in-Some.number is,
+      (
+        step_stalls (state_of t) c.args.ring c.in-Some.number c.index-record.result.now c.packet-packet.result is run.current.at c.packet-packet.ensures
+            (ap (must_stall c.packet-packet.result) (sym c.resets.ensures) ∙ sym c.if-must_stall.ensures),
+        refl,
+      ),
+    )
+
+pub take-write-requires : goal.take-write-requires
+take-write-requires c b touched =
+    let d = c.args.self.now in
+    let t = d.table in
+    let is = sym c.current.ensures ∙ c.in-Some.is in
+    let run = running_found t c.args.ring c.in-Some.number c.index-record.result.now c.requires.whole.table c.requires.there is c.index-record.ensures in
+    let free = neither (ring_out (marked_of d) c.args.ring) (buffer_out (marked_of d) c.args.ring) (sym c.is_in_way.ensures ∙ c.if-is_in_way.false) in
+    next_is_in d c.args.ring c.requires.whole c.requires.there (asks_is d c.args.ring c.requires.whole c.requires.there ∙ free.1) c.in-Some.number c.packet-packet.result is
+    (ap (λ o. option_map_or (λ (z : JobRecord). slice_get z.job.packets z.ran) o None) run.current.at ∙ c.packet-packet.ensures) b touched
