@@ -10,7 +10,7 @@ use Rattle.drm_core.specs.State.{DeviceState}
 use Rattle.drm_core.specs.Journal.{numbered, is_at}
 use Rattle.drm_core.specs.Order.{comes_after, is_met, dependencies}
 use Rattle.drm_core.specs.Steady.{IsSteady}
-use Rattle.drm_core.specs.Waits.{IsDependency, DepsStand, unmet_of}
+use Rattle.drm_core.specs.Waits.{IsDependency, DepsStand}
 use Rattle.drm_core.proofs.Records.{at_test}
 use Rattle.drm_core.proofs.Pending.{contains_at, place_of}
 use Rattle.drm_core.proofs.ChoiceIs.{numbered_get, get_numbered, get_take, all_of_filter, in_filter}

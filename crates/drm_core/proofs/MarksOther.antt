@@ -14,7 +14,7 @@ use Rattle.drm_fence.specs.declared.phase.Phase.{Phase}
 use Rattle.drm_fence.specs.declared.phase.Phase.TheVariants.{Scheduled}
 use Rattle.drm_fence.specs.Phases.{is_queued, is_scheduled}
 use Rattle.drm_job.specs.declared.Draft.{Draft}
-use Rattle.drm_job.proofs.Within.{none_first}
+use Rattle.drm_types.proofs.Firsts.{none_first}
 use Rattle.drm_packet.specs.Touches.{touches}
 use Rattle.drm_packet.specs.Parts.{target_of, other_bytes}
 use Rattle.drm_core.specs.declared.event.Answer.{Answer}
