@@ -1,7 +1,7 @@
 -- An arming that is not refused is the arming of its definition, and keeps the tables whole.
-use Rattle.std.proofs.Common.{◌≡◌, ℕ, zero, suc, ◌+◌, ◌<◌, ◌≤◌, Bool, true, false, not, ◌||◌, ◌==◌, List, [], ◌∷◌, ◌++◌, cond, get_or, length, map, Some, None, Option, refl, sym, ap, subst, ◌∙◌, inl, inr, arith, slice_get}
+use Rattle.std.proofs.Common.{◌≡◌, ℕ, zero, suc, ◌+◌, ◌<◌, ◌≤◌, Bool, true, false, not, ◌||◌, ◌==◌, List, [], ◌∷◌, ◌++◌, cond, get_or, length, map, set, ◌⊎◌, Some, None, Option, refl, sym, ap, subst, ◌∙◌, inl, inr, arith, slice_get}
 use Rattle.std.specs.declared.alloc.Global.{Global}
-use Rattle.std.specs.Prelude.{vec_capacity, Vec, find, option_map, nat_le, nat_lt}
+use Rattle.std.specs.Prelude.{vec_capacity, Vec, find, option_map, nat_le, nat_lt, Contains}
 use Rattle.std.specs.Option.{option_map_or}
 use Rattle.std.specs.List.{list_any}
 use Rattle.std.proofs.lemmas.Bool.{cases_Bool, or_left, or_right, eqb-true, eq-eqb, leb-false, leb-true, ltb-true, and_parts}
@@ -10,7 +10,7 @@ use Rattle.std.proofs.lemmas.List.{map-append, length-append}
 use Rattle.std.proofs.lemmas.List.Elements.{All-weaker}
 use Rattle.drm_types.specs.declared.spec.DeviceSpec.{DeviceSpec}
 use Rattle.drm_types.specs.declared.spec.EntitySpec.{EntitySpec}
-use Rattle.drm_types.specs.Firsts.{when}
+use Rattle.drm_types.specs.Firsts.{when, first}
 use Rattle.drm_types.specs.Limits.{spec_fault, whole, is_between}
 use Rattle.drm_job.specs.declared.Draft.{Draft}
 use Rattle.drm_job.specs.declared.JobFault.TheVariants.{NoEntity}
@@ -21,19 +21,23 @@ use Rattle.drm_fence.specs.declared.phase.Phase.TheVariants.{Queued}
 use Rattle.drm_fence.specs.Fences.{Fences}
 use Rattle.drm_entity.specs.Rows.{EntityRows, pushed}
 use Rattle.drm_core.specs.declared.journal.JobRecord.{JobRecord}
+use Rattle.drm_core.specs.declared.loads.Loads.{Loads}
 use Rattle.drm_core.specs.declared.table.Table.{Table}
 use Rattle.drm_core.specs.declared.event.Refusal.TheVariants.{Stopped, Full, NoFence}
 use Rattle.drm_core.specs.State.{DeviceState}
-use Rattle.drm_core.specs.Arming.{arming_ring, new_record, armed_device}
+use Rattle.drm_core.specs.Arming.{arming_ring, new_record, armed_device, rings_of}
 use Rattle.drm_core.specs.Refusals.{arm_refusal}
 use Rattle.drm_core.specs.Ring.{is_stopped}
-use Rattle.drm_core.specs.Steady.{IsSteady}
+use Rattle.drm_core.specs.Steady.{IsSteady, IsRingOf}
 use Rattle.drm_core.specs.Waits.{IsDependency, DepsStand}
 use Rattle.drm_core.specs.Plain.{marks, WaitsStand, QueuesStand}
+use Rattle.drm_core.specs.Loads.{LoadsOf}
 use Rattle.drm_core.specs.Tables.{state_of, fence_state_of, IsWhole}
 use Rattle.drm_core.specs.Cores.{MeetsPlan, DepsCover, all_named, entity_at}
 use Rattle.drm_core.proofs.PickLawful.{get_push_cases}
-use Rattle.drm_core.proofs.PickDone.{spec_tests}
+use Rattle.drm_core.proofs.PickDone.{spec_tests, rings_there}
+use Rattle.drm_core.proofs.Homes.{arming_listed, listed_there}
+use Rattle.drm_core.proofs.LoadsKept.{loads_armed}
 use Rattle.drm_core.proofs.ArmLawful.{arm_steady, get_before_push}
 use Rattle.drm_core.proofs.DeviceSteps.{not_when}
 use Rattle.drm_core.proofs.TableFacts.{entity_row_there}
@@ -173,25 +177,40 @@ waits_armed d job deps waits new stand of_job cover may = record {
       ];
 }
 
--- the tables after the arming
-abbrev pub armed_tables : Table → Vec JobRecord Global → Vec (List (ℕ × ℕ)) Global → Fences → EntityRows → Table
-armed_tables t journal waits fences entities = record t { journal = journal; waits = waits; fences = fences; entities = entities }
+-- a ring of an entity is there
+pub ring_of_entity_there : (t : Table) (entity ring : ℕ) → IsWhole t → entity < length t.spec.entities → IsRingOf t.spec entity ring → ring < length t.spec.rings
+ring_of_entity_there t entity ring w there listed =
+    let e = stands_within t.spec.entities entity there in
+    let rings_is : rings_of t.spec entity ≡ e.0.rings = ap (λ o. option_map_or (λ (x : EntitySpec). x.rings) o []) e.1 in
+    listed_there e.0.rings (length t.spec.rings) ring (rings_there t.spec entity e.0 w.limits e.1)
+    (subst (λ rings. (ring ≡ option_map_or (λ x. x) (first rings) 0) ⊎ Contains rings ring) rings_is listed)
 
-pub arm_done : (t : Table) (job : Draft) (deps : List (ℕ × ℕ)) (ring : ℕ) (journal : Vec JobRecord Global) (waits : Vec (List (ℕ × ℕ)) Global) (fences : Fences) (entities : EntityRows) → IsWhole t
+-- so is that of its next job
+pub arming_ring_there : (t : Table) (entity : ℕ) → IsWhole t → entity < length t.spec.entities → arming_ring (state_of t) entity < length t.spec.rings
+arming_ring_there t entity w there =
+    ring_of_entity_there t entity (arming_ring (state_of t) entity) w there (arming_listed (state_of t) entity w.steady)
+
+-- the tables after the arming
+abbrev pub armed_tables : Table → Vec JobRecord Global → Vec (List (ℕ × ℕ)) Global → Fences → EntityRows → Loads → Table
+armed_tables t journal waits fences entities loads = record t { journal = journal; waits = waits; fences = fences; entities = entities; loads = loads }
+
+pub arm_done : (t : Table) (job : Draft) (deps : List (ℕ × ℕ)) (ring : ℕ) (journal : Vec JobRecord Global) (waits : Vec (List (ℕ × ℕ)) Global) (fences : Fences) (entities : EntityRows) (loads : Loads) → IsWhole t
     → IsJob t.spec job → DepsCover (state_of t) job deps → arm_refusal (state_of t) job ≡ None → ring ≡ arming_ring (state_of t) job.entity
     → journal.items ≡ t.journal.items ++ record (new_record (state_of t) job) { ring = ring } ∷ []
     → waits.items ≡ t.waits.items ++ all_named t.journal.items deps job.after ∷ []
     → fences.list ≡ t.fences.list ++ record { phase = Queued; ran = 0 } ∷ [] → vec_capacity journal ≡ vec_capacity t.journal → vec_capacity waits ≡ vec_capacity t.waits
     → fences.places ≡ t.fences.places → entities ≡ pushed t.entities job.entity (length t.journal.items)
-    → (state_of (armed_tables t journal waits fences entities) ≡ armed_device (state_of t) job) × IsWhole (armed_tables t journal waits fences entities)
-arm_done t job deps ring journal waits fences entities w is_job cover may ring_is items waits_are list room waits_room places queued =
+    → ((n : ℕ) → slice_get t.loads.live.items ring ≡ Some n → loads.live.items ≡ set t.loads.live.items ring (n + 1))
+    → loads.last.items ≡ set t.loads.last.items job.entity (Some (length t.journal.items))
+    → (state_of (armed_tables t journal waits fences entities loads) ≡ armed_device (state_of t) job) × IsWhole (armed_tables t journal waits fences entities loads)
+arm_done t job deps ring journal waits fences entities loads w is_job cover may ring_is items waits_are list room waits_room places queued live last =
     let d = state_of t in
     let new = new_record d job in
     let arms = may_arm d job may in
     let items_are : journal.items ≡ t.journal.items ++ new ∷ [] = items ∙ ap (λ n. t.journal.items ++ record new { ring = n } ∷ []) ring_is in
     let row = stands_within t.entities.rows job.entity (entity_row_there t job.entity w (few_entities t.spec job w.limits is_job).0) in
     let marks_same : marks entities ≡ marks t.entities = ap marks queued ∙ marks_pushed t.entities job.entity (length t.journal.items) row.0 row.1 in
-    let state : state_of (armed_tables t journal waits fences entities) ≡ armed_device d job =
+    let state : state_of (armed_tables t journal waits fences entities loads) ≡ armed_device d job =
     ap (λ es. let s : DeviceState = record d { journal = journal.items; entities = es } in s) marks_same
     ∙ ap (λ js. let s : DeviceState = record d { journal = js } in s) items_are in (
       state,
@@ -206,6 +225,10 @@ arm_done t job deps ring journal waits fences entities w is_job cover may ring_i
         queues = subst (QueuesStand journal.items) (sym queued)
             (subst (λ js. QueuesStand js (pushed t.entities job.entity (length t.journal.items))) (sym items_are)
             (stands_pushed t.journal.items new t.entities job.entity row.0 row.1 refl refl w.queues));
+        loads = subst (λ js. LoadsOf t.spec js loads) (sym items_are)
+            (loads_armed t.spec t.journal.items new t.loads loads w.loads refl (arming_ring_there t job.entity w (few_entities t.spec job w.limits is_job).0)
+            (subst (λ k. (n : ℕ) → slice_get t.loads.live.items k ≡ Some n → loads.live.items ≡ set t.loads.live.items k (n + 1)) ring_is live) last
+            (few_entities t.spec job w.limits is_job).0);
         sizes = w.sizes;
         rooms = record {
           jobs = subst (λ n. t.spec.max_jobs ≤ n) (sym room) w.rooms.jobs;

@@ -18,9 +18,11 @@ use Rattle.drm_core.specs.declared.cores.CoreTable.{CoreTable}
 use Rattle.drm_core.specs.State.{DeviceState, CoreState, opened_device, opened}
 use Rattle.drm_core.specs.Steady.{IsSteady, IsSteadyCore}
 use Rattle.drm_core.specs.Plain.{marks_of, marks, WaitsStand, QueuesStand}
+use Rattle.drm_core.specs.Loads.{LoadsOf}
 use Rattle.drm_core.specs.Tables.{state_of, ring_state_of, fence_state_of, HasRooms, IsWhole, AllIn}
 use Rattle.drm_core.specs.Cores.{core_state, context_of_row, planned_by, IsCore}
 use Rattle.drm_core.specs.Building.{HaveRoomFor}
+use Rattle.drm_core.proofs.LoadsKept.{loads_blank}
 use Rattle.drm_core.proofs.Opening.{opened_steady, opened_core_steady}
 use Rattle.drm_core.proofs.PickLawful.{get_push_cases}
 
@@ -82,8 +84,9 @@ no_waits journal waits no_jobs none = subst (λ ws. WaitsStand journal ws) (sym 
   stand = λ j r deps at going found. absurd (cc (at));
 }))
 
-pub blank_whole : (t : Table) → state_of t ≡ opened_device t.spec → spec_fault t.spec ≡ None → t.fences.list ≡ [] → t.waits.items ≡ [] → t.entities ≡ blank_entities t.spec → HasRooms t → IsWhole t
-blank_whole t opened limits fences waits entities rooms =
+pub blank_whole : (t : Table) → state_of t ≡ opened_device t.spec → spec_fault t.spec ≡ None → t.fences.list ≡ [] → t.waits.items ≡ [] → t.entities ≡ blank_entities t.spec
+    → t.loads.live.items ≡ replicate (length t.spec.rings) 0 → t.loads.last.items ≡ replicate (length t.spec.entities) None → HasRooms t → IsWhole t
+blank_whole t opened limits fences waits entities live last rooms =
     let no_jobs : t.journal.items ≡ [] = ap (λ (d : DeviceState). d.journal) opened in
     record {
       steady = subst IsSteady (sym opened) (opened_steady t.spec);
@@ -92,6 +95,7 @@ blank_whole t opened limits fences waits entities rooms =
       fences = fences ∙ ap (map fence_state_of) (sym no_jobs);
       waits = no_waits t.journal.items t.waits.items no_jobs waits;
       queues = subst (QueuesStand t.journal.items) (sym entities) (subst (λ js. QueuesStand js (blank_entities t.spec)) (sym no_jobs) (no_queues t.spec));
+      loads = subst (λ js. LoadsOf t.spec js t.loads) (sym no_jobs) (loads_blank t.spec t.loads live last);
       sizes = ap (λ (d : DeviceState). sizes_of d.memory) opened;
       rooms = rooms;
     }

@@ -1,5 +1,5 @@
 -- A finish of a complete head is the finish of its definition, and keeps the tables whole.
-use Rattle.std.proofs.Common.{◌≡◌, ℕ, ◌<◌, true, false, not, cond, List, [], ◌∷◌, length, map, Some, None, refl, sym, ap, subst, ◌∙◌, inl, inr, arith, slice_get}
+use Rattle.std.proofs.Common.{◌≡◌, ℕ, ◌+◌, set, ◌<◌, true, false, not, cond, List, [], ◌∷◌, length, map, Some, None, refl, sym, ap, subst, ◌∙◌, inl, inr, arith, slice_get}
 use Rattle.std.specs.declared.alloc.Global.{Global}
 use Rattle.std.specs.Prelude.{vec_capacity, vec_len, Vec}
 use Rattle.std.specs.Option.{option_map_or}
@@ -11,6 +11,7 @@ use Rattle.drm_fence.specs.Fences.{Fences}
 use Rattle.drm_fence.specs.declared.phase.Phase.TheVariants.{Ended}
 use Rattle.drm_fence.specs.Phases.{is_queued, has_ended}
 use Rattle.drm_core.specs.declared.journal.JobRecord.{JobRecord}
+use Rattle.drm_core.specs.declared.loads.Loads.{Loads}
 use Rattle.drm_core.specs.declared.table.RingJobs.{RingJobs}
 use Rattle.drm_core.specs.declared.table.Table.{Table}
 use Rattle.drm_core.specs.declared.event.Answer.TheVariants as answer
@@ -19,11 +20,13 @@ use Rattle.drm_core.specs.Ring.{head_of, ring_changed}
 use Rattle.drm_core.specs.Refusals.{finish_refusal}
 use Rattle.drm_core.specs.Outcomes.{final_outcome, ended_at, finish_outcome, finished_device}
 use Rattle.drm_core.specs.Plain.{QueuesStand}
+use Rattle.drm_core.specs.Loads.{LoadsOf}
 use Rattle.drm_core.specs.Tables.{state_of, fence_state_of, ring_state_of, popped_at, ending, IsWhole}
 use Rattle.drm_core.proofs.Records.{at_test, changed_is}
 use Rattle.drm_core.proofs.Queues.{stands_set}
 use Rattle.drm_core.proofs.FinishLawful.{IsHead, head_is}
 use Rattle.drm_core.proofs.DeviceSteps.{IsKept, finish_kept}
+use Rattle.drm_core.proofs.LoadsKept.{loads_ended}
 use Rattle.drm_core.proofs.TableFacts.{rings_tie, rooms_kept, row_pending, whole_kept}
 use Rattle.drm_core.proofs.CallsAre.{Left, finish_may, finish_ends}
 
@@ -73,24 +76,30 @@ row_has_head t ring f row at is =
     some_first (x ∷ xs) some = omega arith
 
 -- the tables after the finish
-abbrev pub finished_tables : Table → ℕ → Vec JobRecord Global → Fences → RingJobs → Table
-finished_tables t ring journal fences row = record t { journal = journal; fences = fences; rings = with_item t.rings ring row }
+abbrev pub finished_tables : Table → ℕ → Vec JobRecord Global → Fences → RingJobs → Loads → Table
+finished_tables t ring journal fences row loads = record t { journal = journal; fences = fences; rings = with_item t.rings ring row; loads = loads }
 
-pub finish_done : (t : Table) (ring now f : ℕ) (outcome : Outcome) (r : JobRecord) (journal : Vec JobRecord Global) (fences : Fences) (row new : RingJobs) → IsWhole t
+pub finish_done : (t : Table) (ring now f : ℕ) (outcome : Outcome) (r : JobRecord) (journal : Vec JobRecord Global) (fences : Fences) (row new : RingJobs) (loads : Loads) → IsWhole t
     → ring < length t.spec.rings → head_of (state_of t) ring ≡ Some f → MayEnd t ring f outcome r → journal.items ≡ ended_at t.journal.items f outcome
     → fences.list ≡ map fence_state_of journal.items → vec_capacity journal ≡ vec_capacity t.journal → fences.places ≡ t.fences.places
     → slice_get t.rings.items ring ≡ Some row → ring_state_of new ≡ popped_at now (ring_state_of row) → vec_capacity new.pending ≡ vec_capacity row.pending
+    → ((n : ℕ) → slice_get t.loads.live.items ring ≡ Some (n + 1) → loads.live.items ≡ set t.loads.live.items ring n) → loads.last ≡ t.loads.last
     → (finish_refusal (state_of t) ring ≡ None)
-    × (finish_outcome (state_of t) ring now ≡ (answer.Finished f outcome, state_of (finished_tables t ring journal fences new)))
-    × IsWhole (finished_tables t ring journal fences new)
-finish_done t ring now f outcome r journal fences row new w there is may items tied room places at row_is row_room =
+    × (finish_outcome (state_of t) ring now ≡ (answer.Finished f outcome, state_of (finished_tables t ring journal fences new loads)))
+    × IsWhole (finished_tables t ring journal fences new loads)
+finish_done t ring now f outcome r journal fences row new loads w there is may items tied room places at row_is row_room live last =
     let d = state_of t in
     let rings = rings_tie t.rings.items ring row new (popped_at now) at row_is in
-    let left : Left = (answer.Finished f outcome, state_of (finished_tables t ring journal fences new)) in
+    let left : Left = (answer.Finished f outcome, state_of (finished_tables t ring journal fences new loads)) in
     let ended : JobRecord = record r { phase = Ended outcome } in
     let queues : QueuesStand journal.items t.entities =
     subst (λ js. QueuesStand js t.entities) (sym (items ∙ changed_is t.journal.items f r (λ r. record r { phase = Ended outcome }) may.head.at))
     (stands_set t.journal.items f r ended t.entities may.head.at refl (sym (ap is_queued may.head.phase)) w.queues) in
+    let loaded : LoadsOf t.spec journal.items loads =
+    subst (λ js. LoadsOf t.spec js loads) (sym (items ∙ changed_is t.journal.items f r (λ r. record r { phase = Ended outcome }) may.head.at))
+    (loads_ended t.spec t.journal.items f r ended t.loads loads w.loads may.head.at (ap has_ended may.head.phase) refl refl refl
+    (subst (λ k. k < length t.spec.rings) (sym may.head.on_ring) there)
+    (subst (λ k. (n : ℕ) → slice_get t.loads.live.items k ≡ Some (n + 1) → loads.live.items ≡ set t.loads.live.items k n) (sym may.head.on_ring) live) last) in
     let ends : finish_outcome d ring now ≡ left =
     finish_ends d ring now f r is may.head.at
     ∙ (ap (λ o. let q : Left = (answer.Finished f o, finished_device d ring now f o) in q) (sym may.ends)
@@ -98,8 +107,8 @@ finish_done t ring now f outcome r journal fences row new w there is may items t
     ∙ ap (λ rs. let q : Left = (answer.Finished f outcome, record d { journal = journal.items; rings = rs }) in q) (sym rings))) in (
       finish_may d ring f r is may.head.at may.complete,
       ends,
-      whole_kept t (finished_tables t ring journal fences new) w
+      whole_kept t (finished_tables t ring journal fences new loads) w
           (subst (λ (q : Left). IsKept d q.1) ends (finish_kept d ring now w.steady there (finish_may d ring f r is may.head.at may.complete)))
-          tied refl queues refl
-          (rooms_kept t (finished_tables t ring journal fences new) ring row new w.rooms refl refl at row_room room refl places refl),
+          tied refl queues loaded refl
+          (rooms_kept t (finished_tables t ring journal fences new loads) ring row new w.rooms refl refl at row_room room refl places refl),
     )

@@ -24,6 +24,7 @@ use Rattle.drm_core.specs.Plain.{marks, QueuesStand}
 use Rattle.drm_core.specs.Lawful.{IsPendingList}
 use Rattle.drm_core.specs.Ring.{pending_of, head_of, limit_of, age_of, entity_changed}
 use Rattle.drm_core.specs.State.{EntityState, RingState, DeviceState}
+use Rattle.drm_core.specs.Loads.{standing_of, owner_of, LoadsOf}
 use Rattle.drm_core.specs.Tables.{state_of, fence_state_of, ring_state_of, IsWhole}
 use Rattle.drm_core.proofs.CallsAre.{Left, at_record_there}
 use Rattle.drm_core.proofs.DeviceSteps.{IsKept, timeout_kept}
@@ -32,6 +33,7 @@ use Rattle.drm_core.proofs.Records.{stands_within, at_test, changed_is, to_map, 
 use Rattle.drm_core.proofs.Pairs.{get_set_same}
 use Rattle.drm_core.proofs.Pending.{pending_kept}
 use Rattle.drm_core.proofs.Condemning.{condemned_among}
+use Rattle.drm_core.proofs.LoadsKept.{loads_same, loads_set}
 use Rattle.drm_core.proofs.TableFacts.{rings_tie, rooms_kept, row_found, row_pending, entity_there, whole_kept}
 use Rattle.drm_core.proofs.Queues.{marks_changed, stands_set, stands_map, stands_marked}
 
@@ -133,10 +135,23 @@ condemned_fences : (ring entity : ℕ) (js : List JobRecord) → map fence_state
 condemned_fences ring entity [] = refl
 condemned_fences ring entity (r ∷ rs) = ap (λ fs. fence_state_of r ∷ fs) (condemned_fences ring entity rs)
 
+condemned_standings : (ring entity : ℕ) (js : List JobRecord) → map standing_of (map (condemned ring entity) js) ≡ map standing_of js
+condemned_standings ring entity [] = refl
+condemned_standings ring entity (r ∷ rs) = ap (λ ss. standing_of r ∷ ss) (condemned_standings ring entity rs)
+
+condemned_owners : (ring entity : ℕ) (js : List JobRecord) → map owner_of (map (condemned ring entity) js) ≡ map owner_of js
+condemned_owners ring entity [] = refl
+condemned_owners ring entity (r ∷ rs) = ap (λ os. owner_of r ∷ os) (condemned_owners ring entity rs)
+
 -- so do the queues
 blamed_queues : {t : Table} {ring now f : ℕ} {r : JobRecord} {journal : Vec JobRecord Global} {row : RingJobs} {guilty : Bool} → IsWhole t → IsBlamed t ring now f r journal row guilty → QueuesStand journal.items t.entities
 blamed_queues {t} {ring} {now} {f} {r} w b =
     subst (λ js. QueuesStand js t.entities) (sym b.items) (stands_set t.journal.items f r (hung (state_of t) r) t.entities b.head.at refl refl w.queues)
+
+-- and the loads
+blamed_loads : {t : Table} {ring now f : ℕ} {r : JobRecord} {journal : Vec JobRecord Global} {row : RingJobs} {guilty : Bool} → IsWhole t → IsBlamed t ring now f r journal row guilty → LoadsOf t.spec journal.items t.loads
+blamed_loads {t} {ring} {now} {f} {r} w b =
+    subst (λ js. LoadsOf t.spec js t.loads) (sym b.items) (loads_set t.spec t.journal.items f r (hung (state_of t) r) t.loads w.loads b.head.at refl refl)
 
 -- and the pending list of its ring
 pub blamed_pending : {t : Table} {ring now f : ℕ} {r : JobRecord} {journal : Vec JobRecord Global} {row : RingJobs} {guilty : Bool} → IsWhole t → ring < length t.spec.rings
@@ -170,7 +185,7 @@ resumed_done {t} {ring} {now} {f} {r} {journal} {row} w there b little =
     let tied : t.fences.list ≡ map fence_state_of journal.items =
     w.fences ∙ sym (ap (map fence_state_of) b.items ∙ blamed_fences t.journal.items f r (hung d r) b.head.at refl) in (
       ends,
-      whole_kept t u w (subst (λ (q : Left). IsKept d q.1) ends (timeout_kept d ring now w.steady there)) tied refl (blamed_queues w b) refl
+      whole_kept t u w (subst (λ (q : Left). IsKept d q.1) ends (timeout_kept d ring now w.steady there)) tied refl (blamed_queues w b) (blamed_loads w b) refl
           (rooms_kept t u ring row (record row { since = now }) w.rooms refl refl b.row_at refl b.room refl refl refl),
     )
 
@@ -195,6 +210,10 @@ guilty_done {t} {ring} {now} {f} {r} {journal} {row} entity last entities w ther
     subst (QueuesStand last.items) (sym marked_by)
     (stands_marked last.items t.entities entity entity_row.0 blame entity_row.1 refl
     (subst (λ js. QueuesStand js t.entities) (sym items) (stands_map journal.items (condemned ring entity) t.entities (λ e x. refl) (blamed_queues w b)))) in
+    let loads : LoadsOf t.spec last.items t.loads =
+    subst (λ js. LoadsOf t.spec js t.loads) (sym items)
+    (loads_same t.spec journal.items (map (condemned ring entity) journal.items) t.loads (blamed_loads w b)
+    (condemned_standings ring entity journal.items) (condemned_owners ring entity journal.items)) in
     let ends : timeout_outcome d ring now ≡ (answer.Guilty entity, state_of u) =
     b.hangs
     ∙ (ap (λ x. cond {A = Left} x (answer.Guilty r.job.entity, condemned_device (hung_device d ring now f) ring r.job.entity) (answer.Resumed, hung_device d ring now f)) (b.much ∙ more)
@@ -205,6 +224,6 @@ guilty_done {t} {ring} {now} {f} {r} {journal} {row} entity last entities w ther
     let tied : t.fences.list ≡ map fence_state_of last.items =
     w.fences ∙ sym (ap (map fence_state_of) items ∙ (condemned_fences ring entity journal.items ∙ (ap (map fence_state_of) b.items ∙ blamed_fences t.journal.items f r (hung d r) b.head.at refl))) in (
       ends,
-      whole_kept t u w (subst (λ (q : Left). IsKept d q.1) ends (timeout_kept d ring now w.steady there)) tied refl queues refl
+      whole_kept t u w (subst (λ (q : Left). IsKept d q.1) ends (timeout_kept d ring now w.steady there)) tied refl queues loads refl
           (rooms_kept t u ring row (record row { since = now }) w.rooms refl refl b.row_at refl (room ∙ b.room) refl refl (ap (λ (e : EntityRows). e.places) marked_by)),
     )

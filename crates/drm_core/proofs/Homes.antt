@@ -48,7 +48,7 @@ none_before {X} p y ys none =
     ] none
 
 -- and no element passes
-none_passes : {X : Type 0} (p : X → Bool) (xs : List X) → find p xs ≡ None → (k : ℕ) (x : X) → slice_get xs k ≡ Some x → p x ≡ false
+pub none_passes : {X : Type 0} (p : X → Bool) (xs : List X) → find p xs ≡ None → (k : ℕ) (x : X) → slice_get xs k ≡ Some x → p x ≡ false
 none_passes p [] none k x at = absurd (cc (at))
 none_passes p (y ∷ ys) none zero x at = let same : y ≡ x = cc (at) in ap p (sym same) ∙ (none_before p y ys none).0
 none_passes p (y ∷ ys) none (suc k) x at = none_passes p ys (none_before p y ys none).1 k x at

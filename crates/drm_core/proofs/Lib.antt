@@ -56,6 +56,8 @@ pub mod HeadlineKept
 pub mod HeldFacts
 pub mod CoreStands
 pub mod Homes
+pub mod LoadsKept
+pub mod Balancing
 pub mod Marks
 pub mod Watching
 pub mod MarksKept

@@ -21,6 +21,7 @@ use Rattle.drm_job.specs.Fault.{job_tests, IsJob}
 use Rattle.drm_types.proofs.Firsts.{none_at}
 use Rattle.drm_fence.specs.declared.phase.Phase.TheVariants.{Scheduled}
 use Rattle.drm_fence.specs.Fences.{Fences}
+use Rattle.drm_fence.specs.Phases.{is_queued}
 use Rattle.drm_entity.specs.Rows.{EntityRows, queue_at, popped}
 use Rattle.drm_core.specs.declared.journal.JobRecord.{JobRecord}
 use Rattle.drm_core.specs.declared.table.RingJobs.{RingJobs}
@@ -31,12 +32,14 @@ use Rattle.drm_core.specs.Choice.{choice}
 use Rattle.drm_core.specs.Ring.{credits_of, free_credits, credit_limit_of, pending_of, is_guilty, ring_changed}
 use Rattle.drm_core.specs.Refusals.{pick_refusal}
 use Rattle.drm_core.specs.Outcomes.{pick_outcome, picked_device}
+use Rattle.drm_core.specs.Loads.{Standing, LoadsOf}
 use Rattle.drm_core.specs.Tables.{state_of, fence_state_of, ring_state_of, put_in, IsWhole}
 use Rattle.drm_core.proofs.Records.{changed_is, at_index}
 use Rattle.drm_core.proofs.Pending.{contains_at}
 use Rattle.drm_core.proofs.DeviceSteps.{IsKept, pick_kept, not_when}
-use Rattle.drm_core.proofs.ChoiceIs.{IsChosen}
-use Rattle.drm_core.proofs.Candidates.{head_number}
+use Rattle.drm_core.proofs.ChoiceIs.{IsChosen, choice_is}
+use Rattle.drm_core.proofs.Candidates.{head_number, queued_goes_on}
+use Rattle.drm_core.proofs.LoadsKept.{loads_set}
 use Rattle.drm_core.proofs.TableFacts.{entity_there, rings_tie, rooms_kept, row_pending, whole_kept}
 use Rattle.drm_core.proofs.CallsAre.{Left, pick_may, pick_takes}
 use Rattle.drm_core.proofs.Queues.{head_numbered, stands_popped, IsPopped}
@@ -203,12 +206,19 @@ pick_done t ring now f r skipped journal fences row new entities w there is fits
     ∙ (ap (λ j. let q : Left = (answer.Picked f skipped, record d { journal = j; rings = ring_changed d.rings ring (put_in f now) }) in q) (sym given)
     ∙ (ap (λ rs. let q : Left = (answer.Picked f skipped, record d { journal = journal.items; rings = rs }) in q) (sym rings)
     ∙ ap (λ es. let q : Left = (answer.Picked f skipped, record d { journal = journal.items; rings = map ring_state_of (set t.rings.items ring new); entities = es }) in q) (sym left_queue.marks_same)))) in
+    let chosen = choice_is d ring f is in
+    let same : chosen.0 ≡ r = cc (chosen.1.at, at) in
+    let queued : is_queued r.phase ≡ true = ap (λ (x : JobRecord). is_queued x.phase) (sym same) ∙ chosen.1.queued in
+    let begun : JobRecord = record r { phase = Scheduled; is_skipped = skipped || r.is_skipped } in
+    let loads : LoadsOf t.spec journal.items t.loads =
+    subst (λ js. LoadsOf t.spec js t.loads) (sym (items ∙ changed_is t.journal.items f r (λ x. record x { phase = Scheduled; is_skipped = skipped || x.is_skipped }) at))
+    (loads_set t.spec t.journal.items f r begun t.loads w.loads at (ap (λ b. let s : Standing = record { ring = r.ring; ended = b } in s) (sym (queued_goes_on r.phase queued))) refl) in
     let may = pick_may d ring f is fits in (
       may,
       takes,
       whole_kept t (picked_tables t ring journal fences new entities) w
           (subst (λ (q : Left). IsKept d q.1) takes (pick_kept d ring now w.steady there may))
-          tied refl left_queue.stand refl
+          tied refl left_queue.stand loads refl
           (rooms_kept t (picked_tables t ring journal fences new entities) ring row new w.rooms refl refl at_row row_room room refl places left_queue.places),
     )
 

@@ -1,5 +1,5 @@
 -- A cancellation and a reap of the tables are those of their definitions, and keep the tables whole.
-use Rattle.std.proofs.Common.{◌≡◌, ℕ, ◌+◌, ◌<◌, ◌≤◌, Bool, true, false, not, ◌&&◌, ◌||◌, ◌==◌, List, [], ◌∷◌, take, length, map, get_or, Some, None, Option, refl, sym, ap, subst, ◌∙◌, inl, inr, ◌⊎◌, arith, slice_get}
+use Rattle.std.proofs.Common.{◌≡◌, ℕ, ◌+◌, set, ◌<◌, ◌≤◌, Bool, true, false, not, ◌&&◌, ◌||◌, ◌==◌, List, [], ◌∷◌, take, length, map, get_or, Some, None, Option, refl, sym, ap, subst, ◌∙◌, inl, inr, ◌⊎◌, arith, slice_get}
 use Rattle.std.specs.declared.alloc.Global.{Global}
 use Rattle.std.specs.Prelude.{filter, is_none, nat_lt, vec_capacity, Vec, IfSome, IfNone, Contains}
 use Rattle.std.specs.Option.{option_map_or}
@@ -19,6 +19,7 @@ use Rattle.drm_core.specs.declared.event.Answer.TheVariants as answer
 use Rattle.drm_core.specs.declared.event.Refusal.TheVariants.{Nothing, Waits}
 use Rattle.drm_core.specs.declared.journal.JobRecord.{JobRecord}
 use Rattle.drm_core.specs.declared.table.RingJobs.{RingJobs}
+use Rattle.drm_core.specs.declared.loads.Loads.{Loads}
 use Rattle.drm_core.specs.declared.table.Table.{Table}
 use Rattle.drm_core.specs.State.{EntityState}
 use Rattle.drm_core.specs.Arming.{rings_of}
@@ -31,6 +32,7 @@ use Rattle.drm_core.specs.Plain.{marks, QueuesStand}
 use Rattle.drm_core.specs.Ring.{is_stopped, pending_of}
 use Rattle.drm_core.specs.Lawful.{IsPendingList}
 use Rattle.drm_core.specs.Stopping.{may_end_after}
+use Rattle.drm_core.specs.Loads.{LoadsOf}
 use Rattle.drm_core.specs.Tables.{state_of, fence_state_of, IsWhole}
 use Rattle.drm_core.proofs.CallsAre.{Left}
 use Rattle.drm_core.proofs.Candidates.{head_number, head_found, queued_goes_on}
@@ -40,8 +42,9 @@ use Rattle.drm_core.proofs.LatestStands.{all_at, all_from, same_test, in_front, 
 use Rattle.drm_core.proofs.Pending.{contains_at, place_of}
 use Rattle.drm_core.proofs.Records.{stands_within, at_test, changed_is, at_index}
 use Rattle.drm_core.proofs.PickDone.{rings_there}
-use Rattle.drm_core.proofs.ArmDone.{few_entities}
+use Rattle.drm_core.proofs.ArmDone.{few_entities, ring_of_entity_there}
 use Rattle.drm_core.proofs.Homes.{one_ring, listed_there}
+use Rattle.drm_core.proofs.LoadsKept.{loads_ended}
 use Rattle.drm_core.proofs.TableFacts.{entity_row_there, row_found, row_pending, whole_kept}
 use Rattle.drm_core.proofs.Queues.{IsFront, front_is, marks_changed, stands_marked, stands_popped, IsPopped}
 
@@ -57,7 +60,7 @@ stopped_done t entity entities w there is =
     ap (λ es. record (state_of t) { entities = es }) (ap marks is ∙ marks_changed t.entities entity row.0 stop mark row.1 refl) in (
       state,
       whole_kept t (record t { entities = entities }) w (subst (IsKept (state_of t)) (sym state) (cancel_kept (state_of t) entity w.steady)) w.fences refl
-          (subst (QueuesStand t.journal.items) (sym is) (stands_marked t.journal.items t.entities entity row.0 stop row.1 refl w.queues)) refl
+          (subst (QueuesStand t.journal.items) (sym is) (stands_marked t.journal.items t.entities entity row.0 stop row.1 refl w.queues)) w.loads refl
           (record {
             jobs = w.rooms.jobs;
             waits = w.rooms.waits;
@@ -70,10 +73,7 @@ stopped_done t entity entities w there is =
 -- the ring of a job is there
 pub job_ring_there : (t : Table) (number : ℕ) (r : JobRecord) → IsWhole t → slice_get t.journal.items number ≡ Some r → r.ring < length t.spec.rings
 job_ring_there t number r w at =
-    let e = stands_within t.spec.entities r.job.entity (few_entities t.spec r.job w.limits (w.steady.lawful.records number r at).job).0 in
-    let rings_is : rings_of t.spec r.job.entity ≡ e.0.rings = ap (λ o. option_map_or (λ (x : EntitySpec). x.rings) o []) e.1 in
-    listed_there e.0.rings (length t.spec.rings) r.ring (rings_there t.spec r.job.entity e.0 w.limits e.1)
-    (subst (λ rings. (r.ring ≡ option_map_or (λ x. x) (first rings) 0) ⊎ Contains rings r.ring) rings_is (w.steady.listed number r at))
+    ring_of_entity_there t r.job.entity r.ring w (few_entities t.spec r.job w.limits (w.steady.lawful.records number r at).job).0 (w.steady.listed number r at)
 
 -- a job at its place
 pub job_at : (t : Table) (number : ℕ) (entity : ℕ) (r : JobRecord) → head_number t.journal.items entity ≡ Some number → r ≡ get_or t.journal.items number r
@@ -207,6 +207,13 @@ front_goes_on journal entity number is =
     let front = front_is journal entity number is in
     at_test journal number front.0 (λ r. not (has_ended r.phase)) front.1.at ∙ ap not (queued_goes_on front.0.phase front.1.queued)
 
+pub front_going : (t : Table) (entity number : ℕ) (r : JobRecord) → head_number t.journal.items entity ≡ Some number → slice_get t.journal.items number ≡ Some r
+    → has_ended r.phase ≡ false
+front_going t entity number r is at =
+    let front = front_is t.journal.items entity number is in
+    let same : front.0 ≡ r = cc (front.1.at, at) in
+    queued_goes_on r.phase (ap (λ (x : JobRecord). is_queued x.phase) (sym same) ∙ front.1.queued)
+
 -- the entities after the front of a queue has ended
 pub front_popped : (t : Table) (entity number : ℕ) (items : List JobRecord) (new : EntityRows) (result : Option ℕ) → IsWhole t → entity < length t.spec.entities
     → head_number t.journal.items entity ≡ Some number → items ≡ ended_at t.journal.items number outcome.Stopped
@@ -219,23 +226,32 @@ front_popped t entity number items new result w there is ended some none =
     subst (λ js. IsPopped js t.entities new) (sym (ended ∙ changed_is js number front.0 end front.1.at))
     (stands_popped js t.entities new entity number front.0 (end front.0) result front.1.at front.1.of_entity front.1.queued refl is (entity_row_there t entity w there) some none w.queues)
 
+-- the loads after it
+pub front_unloaded : (t : Table) (entity number : ℕ) (r : JobRecord) (items : List JobRecord) (loads : Loads) → IsWhole t → head_number t.journal.items entity ≡ Some number
+    → slice_get t.journal.items number ≡ Some r → items ≡ ended_at t.journal.items number outcome.Stopped
+    → ((n : ℕ) → slice_get t.loads.live.items r.ring ≡ Some (n + 1) → loads.live.items ≡ set t.loads.live.items r.ring n) → loads.last ≡ t.loads.last → LoadsOf t.spec items loads
+front_unloaded t entity number r items loads w is at ended live last =
+    let end : JobRecord → JobRecord = λ x. record x { phase = Ended outcome.Stopped } in
+    subst (λ js. LoadsOf t.spec js loads) (sym (ended ∙ changed_is t.journal.items number r end at))
+    (loads_ended t.spec t.journal.items number r (end r) t.loads loads w.loads at (front_going t entity number r is at) refl refl refl (job_ring_there t number r w at) live last)
+
 -- a reap that is not refused
-pub reap_done : (t : Table) (entity number : ℕ) (journal : Vec JobRecord Global) (fences : Fences) (entities : EntityRows) → IsWhole t
+pub reap_done : (t : Table) (entity number : ℕ) (journal : Vec JobRecord Global) (fences : Fences) (entities : EntityRows) (loads : Loads) → IsWhole t
     → head_number t.journal.items entity ≡ Some number → reap_refusal (state_of t) entity ≡ None
     → journal.items ≡ ended_at t.journal.items number outcome.Stopped → fences.list ≡ map fence_state_of journal.items
-    → vec_capacity journal ≡ vec_capacity t.journal → fences.places ≡ t.fences.places → IsPopped journal.items t.entities entities
-    → (reap_outcome (state_of t) entity ≡ (answer.Reaped number, state_of (record t { journal = journal; fences = fences; entities = entities })))
-    × IsWhole (record t { journal = journal; fences = fences; entities = entities })
-reap_done t entity number journal fences entities w is may items tied room places left_queue =
+    → vec_capacity journal ≡ vec_capacity t.journal → fences.places ≡ t.fences.places → IsPopped journal.items t.entities entities → LoadsOf t.spec journal.items loads
+    → (reap_outcome (state_of t) entity ≡ (answer.Reaped number, state_of (record t { journal = journal; fences = fences; entities = entities; loads = loads })))
+    × IsWhole (record t { journal = journal; fences = fences; entities = entities; loads = loads })
+reap_done t entity number journal fences entities loads w is may items tied room places left_queue stand =
     let d = state_of t in
-    let u : Table = record t { journal = journal; fences = fences; entities = entities } in
+    let u : Table = record t { journal = journal; fences = fences; entities = entities; loads = loads } in
     let front = front_is t.journal.items entity number is in
     let ends : reap_outcome d entity ≡ (answer.Reaped number, state_of u) =
     ap (λ o. option_map_or {U = Left} (λ (n : ℕ × JobRecord). (answer.Reaped n.0, record d { journal = ended_at d.journal n.0 outcome.Stopped })) o (answer.Ok, d)) front.1.first
     ∙ (ap (λ j. let left : Left = (answer.Reaped number, record d { journal = j }) in left) (sym items)
     ∙ ap (λ es. let left : Left = (answer.Reaped number, record d { journal = journal.items; entities = es }) in left) (sym left_queue.marks_same)) in (
       ends,
-      whole_kept t u w (subst (λ (q : Left). IsKept d q.1) ends (reap_kept d entity w.steady may)) tied refl left_queue.stand refl
+      whole_kept t u w (subst (λ (q : Left). IsKept d q.1) ends (reap_kept d entity w.steady may)) tied refl left_queue.stand stand refl
           (record {
             jobs = subst (λ n. t.spec.max_jobs ≤ n) (sym room) w.rooms.jobs;
             waits = w.rooms.waits;

@@ -15,6 +15,7 @@ use Rattle.drm_core.specs.Tables.{state_of, fence_state_of, IsWhole}
 use Rattle.drm_core.proofs.Records.{at_index}
 use Rattle.drm_core.proofs.DeviceSteps.{IsKept, step_kept}
 use Rattle.drm_core.proofs.TableFacts.{IsRunning, fence_tie, whole_kept}
+use Rattle.drm_core.proofs.LoadsKept.{loads_set}
 use Rattle.drm_core.proofs.CallsAre.{Left, step_runs}
 use Rattle.drm_core.proofs.Queues.{stands_set}
 use Rattle.std.proofs.lemmas.Option.{slice_get_within}
@@ -39,6 +40,7 @@ step_done t ring f x y p memory fences w there is run x_is next going ran sizes 
       outcome,
       whole_kept t (ran_tables t f x y.ran memory fences) w
           (subst (λ (q : Left). IsKept (state_of t) q.1) outcome (step_kept (state_of t) ring w.steady there))
-          tie refl (stands_set t.journal.items f x (record x { ran = y.ran + 1 }) t.entities at_x refl refl w.queues) sizes
+          tie refl (stands_set t.journal.items f x (record x { ran = y.ran + 1 }) t.entities at_x refl refl w.queues)
+          (loads_set t.spec t.journal.items f x (record x { ran = y.ran + 1 }) t.loads w.loads at_x refl refl) sizes
           (record { jobs = w.rooms.jobs; waits = w.rooms.waits; places = places ∙ w.rooms.places; queues = w.rooms.queues; pending = w.rooms.pending }),
     )

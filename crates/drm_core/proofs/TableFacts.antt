@@ -34,6 +34,7 @@ use Rattle.drm_core.specs.Grows.{Grows, RecordGrows, GoesOn, EachInPlace}
 use Rattle.drm_core.specs.Order.{comes_after}
 use Rattle.drm_core.specs.Waits.{DepsStand, IsDependency}
 use Rattle.drm_core.specs.Plain.{marks_of, WaitsStand, QueuesStand}
+use Rattle.drm_core.specs.Loads.{LoadsOf}
 use Rattle.drm_core.specs.Tables.{state_of, fence_state_of, ring_state_of, IsWhole, HasRooms}
 use Rattle.drm_core.proofs.Records.{to_map, at_index}
 use Rattle.drm_core.proofs.Pairs.{get_set_cases}
@@ -158,8 +159,8 @@ waits_kept old new waits stand grows count = record {
 
 -- tables stay whole when their device is kept and their parts go on with it
 pub whole_kept : (t u : Table) → IsWhole t → IsKept (state_of t) (state_of u) → u.fences.list ≡ map fence_state_of u.journal.items → u.waits.items ≡ t.waits.items
-    → QueuesStand u.journal.items u.entities → sizes_of u.memory.bytes ≡ sizes_of t.memory.bytes → HasRooms u → IsWhole u
-whole_kept t u w kept fences waits queues sizes rooms =
+    → QueuesStand u.journal.items u.entities → LoadsOf u.spec u.journal.items u.loads → sizes_of u.memory.bytes ≡ sizes_of t.memory.bytes → HasRooms u → IsWhole u
+whole_kept t u w kept fences waits queues loads sizes rooms =
     let spec : u.spec ≡ t.spec = kept.grows.spec in
     record {
       steady = kept.steady;
@@ -168,6 +169,7 @@ whole_kept t u w kept fences waits queues sizes rooms =
       fences = fences;
       waits = subst (λ ws. WaitsStand u.journal.items ws) (sym waits) (waits_kept (state_of t) (state_of u) t.waits.items w.waits kept.grows kept.count);
       queues = queues;
+      loads = loads;
       sizes = sizes ∙ (w.sizes ∙ ap (λ (s : DeviceSpec). sizes_of s.buffers) (sym spec));
       rooms = rooms;
     }

@@ -22,6 +22,7 @@ pub mod Waits
 pub mod Candidates
 pub mod Plain
 pub mod Answers
+pub mod Loads
 pub mod Tables
 pub mod Cores
 pub mod Recovery

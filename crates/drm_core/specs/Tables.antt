@@ -16,6 +16,7 @@ use Rattle.drm_types.specs.declared.outcome.Outcome.{Outcome}
 use Rattle.drm_core.specs.Ring.{credit_limit_of, current_of}
 use Rattle.drm_core.specs.Steady.{IsSteady}
 use Rattle.drm_core.specs.Plain.{marks, WaitsStand, QueuesStand}
+use Rattle.drm_core.specs.Loads.{LoadsOf}
 
 abbrev pub ring_state_of : RingJobs → RingState
 ring_state_of row = record { pending = row.pending.items; since = row.since }
@@ -57,7 +58,7 @@ pub record HasRooms (t : Table) : Type 0 where
   pub queues : t.entities.places ≡ t.spec.max_jobs
   pub pending : (ring : ℕ) (row : RingJobs) → slice_get t.rings.items ring ≡ Some row → credit_limit_of (state_of t) ring ≤ vec_capacity row.pending
 
--- the tables of a steady device: its fences and its queues are those of its jobs, each job that has not ended has its
+-- the tables of a steady device: its fences, its queues and its loads are those of its jobs, each job that has not ended has its
 -- dependencies, and there is room for what may come
 pub record IsWhole (t : Table) : Type 0 where
   pub steady : IsSteady (state_of t)
@@ -66,6 +67,7 @@ pub record IsWhole (t : Table) : Type 0 where
   pub fences : t.fences.list ≡ map fence_state_of t.journal.items
   pub waits : WaitsStand t.journal.items t.waits.items
   pub queues : QueuesStand t.journal.items t.entities
+  pub loads : LoadsOf t.spec t.journal.items t.loads
   pub sizes : sizes_of t.memory.bytes ≡ sizes_of t.spec.buffers
   pub rooms : HasRooms t
 

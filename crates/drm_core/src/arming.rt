@@ -1,7 +1,7 @@
-ghost use Rattle.std.specs.Prelude.{◌≡◌, ℕ, ◌<◌, ◌≤◌, length, Some, None, Option, IsTrue, find, fold, nat_le, slice_get, false};
+ghost use Rattle.std.specs.Prelude.{◌≡◌, ℕ, ◌<◌, ◌≤◌, length, Some, None, Option, IsTrue, find, nat_le, slice_get};
 ghost use Rattle.std.specs.Option.{option_map_or};
 ghost use Rattle.drm_job.specs.Fault.{IsJob};
-ghost use Rattle.drm_core.specs.Arming.{armed_device, arming_ring, least_loaded, less_loaded, load as load_of, is_live as is_live_of, live_ring as live_ring_of, first_ring, rings_of};
+ghost use Rattle.drm_core.specs.Arming.{armed_device, arming_ring, first_ring, least_loaded, less_loaded, load as load_of, live_ring as live_ring_of, rings_of};
 ghost use Rattle.drm_core.specs.Refusals.{arm_refusal as arm_refusal_of};
 ghost use Rattle.drm_core.specs.Tables.{state_of, IsWhole};
 ghost use Rattle.drm_core.specs.Cores.{DepsCover, all_named, entity_at};
@@ -43,65 +43,89 @@ fn note_named(journal: &[JobRecord], after: &[FenceId], deps: &mut Deps)
     }
 }
 
-// Whether the job is of the entity and has no outcome.
-fn is_live(entity: EntityId, record: &JobRecord) -> bool
-    ensures { result ≡ is_live_of entity record.now }
-{
-    record.job.entity() == entity && !record.phase.is_ended()
-}
+impl Table {
+    /// How many jobs are queued for the ring or pending on it (`drm_gpu_scheduler.score`).
+    pub(crate) fn load(&self, ring: RingId) -> u32
+        requires there { ring < length self.now.spec.rings }
+        requires whole { IsWhole self.now }
+        ensures { result ≡ load_of self.now.journal.items ring }
+    {
+        self.loads.live[ring as usize]
+    }
 
-// The ring of the entity's jobs that have no outcome.
-fn live_ring(journal: &[JobRecord], entity: EntityId) -> Option<RingId>
-    ensures { result ≡ live_ring_of journal.now entity }
-{
-    journal
-        .iter()
-        .find(|record| is_live(entity, record))
-        .map(|record| record.ring)
-}
-
-// How many jobs are queued for the ring or pending on it.
-fn load(journal: &[JobRecord], ring: RingId) -> usize
-    ensures { result ≡ load_of journal.now ring }
-{
-    journal
-        .iter()
-        .filter(|record| record.ring == ring && !record.phase.is_ended())
-        .count()
-}
-
-// The least loaded of the rings, the first where some are alike.
-fn least_of(journal: &[JobRecord], first: RingId, rings: &[RingId]) -> RingId
-    ensures { result ≡ fold (less_loaded journal.now) first rings.now }
-{
-    let mut best = first;
-    for ring in rings {
-        if load(journal, *ring) < load(journal, best) {
-            best = *ring;
+    // The ring of the entity's jobs that have no outcome: its last job is one of them, if there is one.
+    fn live_ring(&self, entity: EntityId) -> Option<RingId>
+        requires there { entity < length self.now.spec.entities }
+        requires whole { IsWhole self.now }
+        ensures { result ≡ live_ring_of self.now.journal.items entity }
+    {
+        let Some(last) = self.loads.last[entity as usize] else {
+            return None;
+        };
+        let record = &self.journal[last as usize];
+        if record.phase.is_ended() {
+            None
+        } else {
+            Some(record.ring)
         }
     }
-    best
-}
 
-impl Table {
-    // The ring of the entity's next job: that of its jobs that have no outcome, else the listed one that is least loaded.
-    fn arming_ring(&self, entity: EntityId) -> RingId
+    // The rings that are listed for the entity, and the first of them.
+    fn rings_of(&self, entity: EntityId) -> &[RingId]
         requires { entity < length self.now.spec.entities }
+        ensures { result.now ≡ rings_of self.now.spec entity }
+    {
+        self.spec.entities.as_slice()[entity as usize]
+            .rings
+            .as_slice()
+    }
+
+    fn first_ring(&self, entity: EntityId) -> RingId
+        requires { entity < length self.now.spec.entities }
+        ensures { result ≡ first_ring self.now.spec entity }
+    {
+        self.rings_of(entity).first().copied().unwrap_or(0)
+    }
+
+    // Of two rings the one that is less loaded, the first where they are alike.
+    fn less_loaded(&self, best: RingId, ring: RingId) -> RingId
+        requires best { best < length self.now.spec.rings }
+        requires ring { ring < length self.now.spec.rings }
+        requires whole { IsWhole self.now }
+        ensures less { result ≡ less_loaded self.now.journal.items best ring }
+        ensures there { result < length self.now.spec.rings }
+    {
+        if self.load(ring) < self.load(best) {
+            ring
+        } else {
+            best
+        }
+    }
+
+    // The least loaded ring of the entity's list, the first where some are alike (`drm_sched_pick_best`).
+    fn least_loaded(&self, entity: EntityId) -> RingId
+        requires there { entity < length self.now.spec.entities }
+        requires whole { IsWhole self.now }
+        ensures { result ≡ least_loaded (state_of self.now) entity }
+    {
+        let rings = self.rings_of(entity);
+        let mut best = self.first_ring(entity);
+        for ring in rings {
+            best = self.less_loaded(best, *ring);
+        }
+        best
+    }
+
+    // The ring of the entity's next job (`drm_sched_entity_select_rq`).
+    fn arming_ring(&self, entity: EntityId) -> RingId
+        requires there { entity < length self.now.spec.entities }
+        requires whole { IsWhole self.now }
         ensures { result ≡ arming_ring (state_of self.now) entity }
     {
-        match live_ring(&self.journal, entity) {
+        match self.live_ring(entity) {
             Some(ring) => ring,
             None => self.least_loaded(entity),
         }
-    }
-
-    fn least_loaded(&self, entity: EntityId) -> RingId
-        requires { entity < length self.now.spec.entities }
-        ensures { result ≡ least_loaded (state_of self.now) entity }
-    {
-        let rings = self.spec.entities.as_slice()[entity as usize].rings.as_slice();
-        let first = rings.first().copied().unwrap_or(0);
-        least_of(&self.journal, first, rings)
     }
 
     // Why the job is not armed: its entity is stopped, the device is full, or it names a fence not armed yet.
@@ -138,7 +162,9 @@ impl Table {
         note_named(&self.journal, job.after(), &mut deps);
         let entity = job.entity();
         let ring = self.arming_ring(entity);
-        self.entities.push(entity, self.journal.len() as u32);
+        let number = self.journal.len() as u32;
+        self.entities.push(entity, number);
+        self.loads.add(ring, entity, number);
         self.waits.push_reserved(deps);
         self.journal.push_reserved(JobRecord {
             job,

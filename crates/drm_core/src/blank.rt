@@ -6,6 +6,7 @@ ghost use Rattle.drm_core.specs.Cores.{core_state, IsCore};
 ghost use Rattle.drm_core.specs.Building.{HaveRoomFor};
 
 use crate::cores::{ContextRow, CoreTable};
+use crate::loads::Loads;
 use crate::table::{RingJobs, Table};
 use drm_buffer::Store;
 use drm_entity::Entities;
@@ -71,6 +72,7 @@ impl Table {
         let fences = Timeline::new(alloc, spec.max_jobs)?;
         let rings = blank_rings(alloc, spec.rings.as_slice())?;
         let entities = Entities::new(alloc, &spec)?;
+        let loads = Loads::new(alloc, spec.rings.len(), spec.entities.len())?;
         Ok(Table {
             spec,
             memory,
@@ -79,6 +81,7 @@ impl Table {
             fences,
             rings,
             entities,
+            loads,
         })
     }
 }

@@ -17,6 +17,7 @@ mod event;
 mod events;
 mod journal;
 mod laws;
+mod loads;
 mod locking;
 mod looking;
 mod machine;

@@ -170,6 +170,7 @@ impl Table {
         };
         end_job(&mut self.journal, &mut self.fences, number, outcome);
         self.rings[ring as usize].pop(now);
+        self.loads.end(ring);
         Ok(Finished {
             fence: number,
             outcome,

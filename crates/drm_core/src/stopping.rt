@@ -116,6 +116,7 @@ impl Table {
             Outcome::Stopped,
         );
         self.entities.pop(entity);
+        self.loads.end(ring);
         Ok(number)
     }
 }

@@ -6,6 +6,7 @@ ghost use Rattle.drm_core.specs.Ring.{current_of, head_of, credits_of, used_cred
 ghost use Rattle.drm_core.specs.Tables.{state_of};
 
 use crate::journal::JobRecord;
+use crate::loads::Loads;
 use drm_buffer::Store;
 use drm_entity::Entities;
 use drm_fence::Timeline;
@@ -31,6 +32,7 @@ pub struct Table {
     pub rings: Vec<RingJobs>,
     /// The queued jobs of each entity, and its marks.
     pub entities: Entities,
+    pub loads: Loads,
 }
 
 /// Whether the ring is done with the job: all its packets ran, or it is skipped.

@@ -1,6 +1,8 @@
 use Rattle.std.proofs.Common.{◌<◌, ◌∙◌, refl, sym, ap, subst}
 use Rattle.drm_core.specs.Stopping.{may_end_after}
-use Rattle.drm_core.proofs.Reaping.{job_ring_there, job_at, reap_refused, front_goes_on, front_popped, reap_done}
+use Rattle.drm_core.proofs.Reaping.{job_ring_there, job_at, reap_refused, front_goes_on, front_popped, front_going, front_unloaded, reap_done}
+use Rattle.drm_core.proofs.LoadsKept.{some_live}
+use Rattle.drm_core.proofs.Balancing.{load_there}
 use Rattle.drm_core.proofs.Queues.{head_there}
 use Rattle.drm_core.proofs.TableFacts.{row_there, entity_row_there}
 use Rattle.drm_core.proofs.table.Table.reap.Goals as goal
@@ -45,6 +47,22 @@ end_job-requires-clause-going c =
     let head = head_there t.journal.items t.entities c.args.entity c.in-Some.number w.queues (entity_row_there t c.args.entity w c.requires.there) c.in-Some.ensures in
     front_goes_on t.journal.items c.args.entity c.in-Some.number head.0
 
+pub end-requires-clause-ring : goal.end-requires-clause-ring
+end-requires-clause-ring c =
+    let t = c.args.self.now in
+    let w = c.requires.whole in
+    let head = head_there t.journal.items t.entities c.args.entity c.in-Some.number w.queues (entity_row_there t c.args.entity w c.requires.there) c.in-Some.ensures in
+    let at = job_at t c.in-Some.number c.args.entity c.index.result.now head.0 c.index.ensures in
+    subst (λ n. c.index.result.now.ring < n) (sym t.loads.live.ok.0) (load_there t c.index.result.now.ring w (job_ring_there t c.in-Some.number c.index.result.now w at))
+
+pub end-requires-clause-some : goal.end-requires-clause-some
+end-requires-clause-some c n at_n =
+    let t = c.args.self.now in
+    let w = c.requires.whole in
+    let head = head_there t.journal.items t.entities c.args.entity c.in-Some.number w.queues (entity_row_there t c.args.entity w c.requires.there) c.in-Some.ensures in
+    let at = job_at t c.in-Some.number c.args.entity c.index.result.now head.0 c.index.ensures in
+    some_live t.spec t.journal.items t.loads c.in-Some.number n c.index.result.now w.loads at (front_going t c.args.entity c.in-Some.number c.index.result.now head.0 at) at_n
+
 pub returns-clause-reaped : goal.returns-clause-reaped
 returns-clause-reaped c =
     let t = c.args.self.now in
@@ -55,8 +73,9 @@ returns-clause-reaped c =
     (ap (λ js. may_end_after js c.index-deps.result.now c.index-2.result.now.pending.items c.args.entity) (sym c.deref.ensures.value)
     ∙ (ap (λ ns. may_end_after c.deref.result.now c.index-deps.result.now ns c.args.entity) (sym c.deref-2.ensures.value) ∙ (sym c.may_end.ensures ∙ c.if-not-may_end.false))) in
     let left = front_popped t c.args.entity c.in-Some.number c.end_job.new.journal.items c.pop.new.self c.pop.result w c.requires.there head.0 c.end_job.ensures.journal c.pop.ensures.some c.pop.ensures.none in
-    let done = reap_done t c.args.entity c.in-Some.number c.end_job.new.journal c.end_job.new.fences c.pop.new.self w head.0 may
-    c.end_job.ensures.journal c.end_job.ensures.tied c.end_job.ensures.room c.end_job.ensures.places left in
+    let done = reap_done t c.args.entity c.in-Some.number c.end_job.new.journal c.end_job.new.fences c.pop.new.self c.end.new.self w head.0 may
+    c.end_job.ensures.journal c.end_job.ensures.tied c.end_job.ensures.room c.end_job.ensures.places left
+    (front_unloaded t c.args.entity c.in-Some.number c.index.result.now c.end_job.new.journal.items c.end.new.self w head.0 at c.end_job.ensures.journal c.end.ensures.live c.end.ensures.last) in
     (may, done.0)
 
 pub returns-clause-whole : goal.returns-clause-whole
@@ -69,6 +88,7 @@ returns-clause-whole c =
     (ap (λ js. may_end_after js c.index-deps.result.now c.index-2.result.now.pending.items c.args.entity) (sym c.deref.ensures.value)
     ∙ (ap (λ ns. may_end_after c.deref.result.now c.index-deps.result.now ns c.args.entity) (sym c.deref-2.ensures.value) ∙ (sym c.may_end.ensures ∙ c.if-not-may_end.false))) in
     let left = front_popped t c.args.entity c.in-Some.number c.end_job.new.journal.items c.pop.new.self c.pop.result w c.requires.there head.0 c.end_job.ensures.journal c.pop.ensures.some c.pop.ensures.none in
-    let done = reap_done t c.args.entity c.in-Some.number c.end_job.new.journal c.end_job.new.fences c.pop.new.self w head.0 may
-    c.end_job.ensures.journal c.end_job.ensures.tied c.end_job.ensures.room c.end_job.ensures.places left in
+    let done = reap_done t c.args.entity c.in-Some.number c.end_job.new.journal c.end_job.new.fences c.pop.new.self c.end.new.self w head.0 may
+    c.end_job.ensures.journal c.end_job.ensures.tied c.end_job.ensures.room c.end_job.ensures.places left
+    (front_unloaded t c.args.entity c.in-Some.number c.index.result.now c.end_job.new.journal.items c.end.new.self w head.0 at c.end_job.ensures.journal c.end.ensures.live c.end.ensures.last) in
     done.1
