@@ -69,3 +69,5 @@ pub mod MarkedReport
 pub mod MarkedSteps
 pub mod MarkedBuffers
 pub mod MarkedReported
+pub mod MarkedBegun
+pub mod MarkedBlanks

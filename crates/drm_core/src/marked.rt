@@ -1,4 +1,4 @@
-ghost use Rattle.std.specs.Prelude.{◌≡◌, ◌<◌, length, Some, None, IfOk, IfErr, OnOk};
+ghost use Rattle.std.specs.Prelude.{◌≡◌, ◌<◌, length, replicate, Some, None, IfOk, IfErr, OnOk};
 ghost use Rattle.drm_types.specs.Limits.{spec_fault};
 ghost use Rattle.drm_job.specs.Fault.{IsJob};
 ghost use Rattle.drm_core.specs.declared.event.Answer.TheVariants as answer;
@@ -54,6 +54,17 @@ pub enum Begun {
     },
     /// The next packet waits for more resets of its job.
     Stalled { fence: FenceId },
+}
+
+// Rings of which none has a packet out.
+fn no_marks(alloc: Global, count: usize) -> Result<Vec<Option<OutMark>>, AllocError>
+    ensures { IfOk result (λ marks. marks.items ≡ replicate count None) }
+{
+    let mut marks = Vec::with_capacity(alloc, count)?;
+    for _ in 0..count {
+        marks.push(None)?;
+    }
+    Ok(marks)
 }
 
 impl Table {
@@ -261,10 +272,7 @@ impl MarkedTable {
         ensures whole { IfOk result (λ d. IsWholeMarked d) }
     {
         let table = Table::open(alloc, spec)?;
-        let mut marks = Vec::with_capacity(alloc, table.rings.len())?;
-        for _ in 0..table.rings.len() {
-            marks.push(None)?;
-        }
+        let marks = no_marks(alloc, table.rings.len())?;
         Ok(MarkedTable { table, marks })
     }
 }
