@@ -71,3 +71,4 @@ pub mod MarkedBuffers
 pub mod MarkedReported
 pub mod MarkedBegun
 pub mod MarkedBlanks
+pub mod MarkedGrows

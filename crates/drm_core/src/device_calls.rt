@@ -208,6 +208,7 @@ impl Device {
         ensures read { OnOk result ((is_out self.now buffer ≡ false) × (busy_fence self.now.state.journal resv.now.kept ≡ None) × (out.new ≡ bytes_of self.now.state.memory buffer)) }
         ensures writers { OnOk result (HaveEnded buffer self.now.state.journal) }
         ensures busy { IfErr result (λ r. (out_or (is_out self.now buffer) (option_map refusal.Busy (busy_fence self.now.state.journal resv.now.kept)) ≡ Some r) × (out.new ≡ out.old)) }
+        ensures writing { IfErr result (λ r. is_out self.now buffer ≡ false → HaveEnded buffer self.now.state.journal → ⊥) }
     {
         if self.parts.table.memory.is_out(buffer) {
             return Err(Refusal::PacketOut);
