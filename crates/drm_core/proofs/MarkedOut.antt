@@ -20,7 +20,7 @@ use Rattle.drm_core.specs.Ring.{current_of}
 use Rattle.drm_core.specs.Tables.{state_of, IsWhole, NextIsIn}
 use Rattle.drm_core.proofs.Pending.{place_of}
 use Rattle.drm_core.proofs.Records.{stands_within}
-use Rattle.drm_core.proofs.Stored.{next_there}
+use Rattle.drm_core.proofs.Stored.{next_there, same_count}
 use Rattle.drm_core.proofs.MarksKept.{is_out_at}
 
 -- what passes in a list that has something that passes
@@ -49,6 +49,17 @@ out_agrees d s b has lt =
           ap (λ o. option_map_or (λ z. z) o false)
           (has.inside b lt (λ ring m at c. both_ways (is_out d b) is (is_out_at d ring b m at c)))
     ] refl
+
+-- a buffer that no mark keeps out is in the memory
+pub is_inside : (d : MarkedTable) (b : ℕ) → IsWholeMarked d → b < length d.table.memory.bytes → is_out (marked_of d) b ≡ false
+    → slice_get d.table.memory.out b ≡ Some false
+is_inside d b w there free =
+    w.out.inside b (subst (λ n. b < n) (same_count d.table w.table) there)
+    (λ ring m at c. both_ways (is_out (marked_of d) b) free (is_out_at (marked_of d) ring b m at c))
+
+-- what the memory says of a buffer is what the marks say
+pub says_out : (d : MarkedTable) (b : ℕ) → IsWholeMarked d → b < length d.table.memory.bytes → is_out_of d.table.memory b ≡ is_out (marked_of d) b
+says_out d b w there = out_agrees (marked_of d) d.table.memory b w.out (subst (λ n. b < n) (same_count d.table w.table) there)
 
 any_agree : (p q : ℕ → Bool) (xs : List ℕ) → ((b : ℕ) → Contains xs b → p b ≡ q b) → list_any p xs ≡ list_any q xs
 any_agree p q xs same =

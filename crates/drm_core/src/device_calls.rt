@@ -19,7 +19,7 @@ ghost use Rattle.drm_core.specs.Outcomes.{pick_outcome, step_outcome, finish_out
 ghost use Rattle.drm_core.specs.Refusals.{arm_refusal, busy_fence, pick_refusal, step_refusal, finish_refusal, cancel_refusal, reap_refusal};
 ghost use Rattle.drm_core.specs.State.{opened_device};
 ghost use Rattle.drm_core.specs.Begun.{HasBegun, IsReport, HasReported, out_or};
-ghost use Rattle.drm_core.specs.Marks.{is_in_way, is_out, ring_out, unmarked};
+ghost use Rattle.drm_core.specs.Marks.{is_in_way, is_out, ring_out, unmarked, IsSteadyMarked};
 ghost use Rattle.drm_core.specs.Steady.{IsSteady};
 
 use crate::answer::{Expired, Finished, Picked, Stepped};
@@ -102,6 +102,7 @@ impl Device {
     pub fn begin_step(&mut self, ring: RingId) -> Result<Begun, Refusal>
         requires there { ring < length self.old.state.spec.rings }
         ensures begun { IfOk result (λ b. (out_or (is_in_way self.old ring) (step_refusal self.old.state ring) ≡ None) × HasBegun self.old ring b self.new) }
+        ensures state { self.new.state ≡ self.old.state }
         ensures refused { IfErr result (λ r. (out_or (is_in_way self.old ring) (step_refusal self.old.state ring) ≡ Some r) × (self.new ≡ self.old)) }
     {
         self.parts.begin_step(ring)
@@ -273,6 +274,7 @@ impl Device {
         ensures steady { IsSteady self.now.state }
         ensures limits { spec_fault self.now.state.spec ≡ None }
         ensures sizes { sizes_of self.now.state.memory ≡ sizes_of self.now.state.spec.buffers }
+        ensures marked { IsSteadyMarked self.now }
     {
         let _spec = &self.parts.table.spec;
     }
