@@ -4,11 +4,9 @@ use Rattle.std.specs.Option.{option_map_or}
 use Rattle.std.specs.Prelude.{is_none, option_map}
 use Rattle.std.specs.Vec.{with_item}
 use Rattle.std.proofs.lemmas.List.{map-set}
-use Rattle.drm_buffer.specs.Memory.{bytes_of}
 use Rattle.drm_buffer.specs.Stored.{Stored}
 use Rattle.drm_packet.specs.declared.Packet.{Packet}
 use Rattle.drm_packet.specs.Touches.{touches}
-use Rattle.drm_packet.specs.Parts.{target_of, other_bytes}
 use Rattle.drm_core.specs.declared.journal.JobRecord.{JobRecord}
 use Rattle.drm_core.specs.declared.marked.OutMark.{OutMark}
 use Rattle.drm_core.specs.declared.marked.MarkedTable.{MarkedTable}
@@ -32,11 +30,6 @@ pub record MayGo (d : MarkedTable) (ring f : ℕ) (r : JobRecord) (p : Packet) :
   pub next : slice_get r.job.packets r.ran ≡ Some p
   pub runs : must_stall p r.karma.resets ≡ false
 
--- a row that keeps the packet's bytes
-pub record KeepsBytes (d : MarkedTable) (p : Packet) (row : OutMark) : Type 0 where
-  pub write : row.write.value ≡ option_map (bytes_of d.table.memory.bytes) (target_of p)
-  pub read : row.read.value ≡ other_bytes p d.table.memory.bytes
-
 -- the memory of a device after the packet's buffers were taken
 abbrev pub taken : MarkedTable → Packet → Stored
 taken d p = record d.table.memory { out = set_both d.table.memory.out p true }
@@ -45,21 +38,13 @@ taken d p = record d.table.memory { out = set_both d.table.memory.out p true }
 abbrev pub sent : MarkedTable → ℕ → OutMark → Stored → MarkedTable
 sent d ring row memory = record { table = record d.table { memory = memory }; marks = with_item d.marks ring (Some row) }
 
--- its mark is that of the packet
-row_is : (d : MarkedTable) (f : ℕ) (r : JobRecord) (p : Packet) (row : OutMark) → row.fence ≡ f → row.packet ≡ r.ran → KeepsBytes d p row
-    → mark_of_row row ≡ mark_for (state_of d.table) f r p
-row_is d f r p row fence count keeps =
-    ap (λ n. let m : Mark = record { fence = n; packet = row.packet; write = row.write.value; read = row.read.value } in m) fence
-    ∙ (ap (λ n. let m : Mark = record { fence = f; packet = n; write = row.write.value; read = row.read.value } in m) count
-    ∙ (ap (λ o. let m : Mark = record { fence = f; packet = r.ran; write = o; read = row.read.value } in m) keeps.write
-    ∙ ap (λ o. record (mark_for (state_of d.table) f r p) { read = o }) keeps.read))
-
-pub sent_is : (d : MarkedTable) (ring f : ℕ) (r : JobRecord) (p : Packet) (row : OutMark) (memory : Stored) → row.fence ≡ f → row.packet ≡ r.ran → KeepsBytes d p row
+-- the mark stands for the packet that went out
+pub sent_is : (d : MarkedTable) (ring f : ℕ) (r : JobRecord) (p : Packet) (row : OutMark) (memory : Stored) → mark_of_row row ≡ mark_for (state_of d.table) f r p
     → memory ≡ taken d p → marked_of (sent d ring row memory) ≡ begun_device (marked_of d) ring (mark_for (state_of d.table) f r p)
-sent_is d ring f r p row memory fence count keeps memory_is =
+sent_is d ring f r p row memory mark_is memory_is =
     ap (λ s. marked_of (sent d ring row s)) memory_is
     ∙ ap (λ ms. record (marked_of d) { marks = ms })
-    (map-set (option_map mark_of_row) d.marks.items ring (Some row) ∙ ap (λ m. set (marked_of d).marks ring (Some m)) (row_is d f r p row fence count keeps))
+    (map-set (option_map mark_of_row) d.marks.items ring (Some row) ∙ ap (λ m. set (marked_of d).marks ring (Some m)) mark_is)
 
 -- tables are whole whatever of their memory is out
 whole_out : (t : Table) (out : List Bool) → IsWhole t → IsWhole (record t { memory = record t.memory { out = out } })
@@ -75,10 +60,10 @@ whole_out t out w = record {
 }
 
 pub sent_marked : (d : MarkedTable) (ring f : ℕ) (r : JobRecord) (p : Packet) (row : OutMark) (memory : Stored) → IsWholeMarked d → MayGo d ring f r p
-    → row.fence ≡ f → row.packet ≡ r.ran → KeepsBytes d p row → memory ≡ taken d p → IsWholeMarked (sent d ring row memory)
-sent_marked d ring f r p row memory w may fence count keeps memory_is =
+    → mark_of_row row ≡ mark_for (state_of d.table) f r p → memory ≡ taken d p → IsWholeMarked (sent d ring row memory)
+sent_marked d ring f r p row memory w may mark_is memory_is =
     let m = mark_for (state_of d.table) f r p in
-    let is = sent_is d ring f r p row memory fence count keeps memory_is in
+    let is = sent_is d ring f r p row memory mark_is memory_is in
     let ways = neither (ring_out (marked_of d) ring) (buffer_out (marked_of d) ring) may.free in
     let here : ring < length (marked_of d).marks = subst (λ n. ring < n) (sym w.steady.count) may.there in
     let none : mark_of (marked_of d) ring ≡ None = not_marked (mark_of (marked_of d) ring) ways.0 in
