@@ -1,5 +1,5 @@
 -- A device stays whole when a packet goes out of it.
-use Rattle.std.proofs.Common.{◌≡◌, ℕ, ◌<◌, Bool, true, false, not, List, [], set, map, length, Some, None, Option, refl, sym, ap, subst, ◌∙◌, slice_get}
+use Rattle.std.proofs.Common.{◌≡◌, ℕ, ◌<◌, Bool, true, false, not, List, [], set, length, Some, None, Option, refl, sym, ap, subst, ◌∙◌, slice_get}
 use Rattle.std.specs.Option.{option_map_or}
 use Rattle.std.specs.Prelude.{is_none, option_map}
 use Rattle.std.specs.Vec.{with_item}
@@ -11,7 +11,7 @@ use Rattle.drm_core.specs.declared.journal.JobRecord.{JobRecord}
 use Rattle.drm_core.specs.declared.marked.OutMark.{OutMark}
 use Rattle.drm_core.specs.declared.marked.MarkedTable.{MarkedTable}
 use Rattle.drm_core.specs.declared.table.Table.{Table}
-use Rattle.drm_core.specs.Marks.{Mark, MarkedDevice, mark_of, mark_for, ring_out, buffer_out, is_in_way, begun_device, IsSteadyMarked}
+use Rattle.drm_core.specs.Marks.{Mark, mark_of, mark_for, ring_out, buffer_out, is_in_way, begun_device, IsSteadyMarked}
 use Rattle.drm_core.specs.MarkedTables.{mark_of_row, marked_of, IsWholeMarked, HasOut}
 use Rattle.drm_core.specs.Outcomes.{must_stall}
 use Rattle.drm_core.specs.Ring.{current_of}

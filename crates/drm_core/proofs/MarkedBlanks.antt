@@ -3,11 +3,9 @@ use Rattle.std.proofs.Common.{◌≡◌, ℕ, zero, suc, map, length, replicate,
 use Rattle.std.specs.Option.{option_map_or}
 use Rattle.std.specs.Prelude.{option_map}
 use Rattle.std.proofs.lemmas.List.{length-map, length-replicate}
-use Rattle.drm_types.specs.declared.spec.DeviceSpec.{DeviceSpec}
 use Rattle.drm_core.specs.declared.marked.MarkedTable.{MarkedTable}
 use Rattle.drm_core.specs.Marks.{Mark, MarkedDevice, mark_of, unmarked}
 use Rattle.drm_core.specs.MarkedTables.{mark_of_row, marked_of, IsWholeMarked}
-use Rattle.drm_core.specs.State.{RingState, opened_device}
 use Rattle.drm_core.specs.Tables.{ring_state_of, state_of, IsWhole, AllIn}
 use Rattle.drm_core.proofs.Blanks.{map_to_same, map_same}
 

@@ -1,5 +1,5 @@
 -- A device grows over each of its calls while packets are out of it, whether the call is refused or not.
-use Rattle.std.proofs.Common.{◌≡◌, ℕ, ◌<◌, Bool, true, false, length, Some, None, Option, Result, Ok, Err, sym, ap, subst}
+use Rattle.std.proofs.Common.{◌≡◌, ℕ, ◌<◌, Bool, true, false, length, Some, None, Option, Result, Ok, Err, sym, subst}
 use Rattle.std.specs.Prelude.{IfOk, IfErr, OnOk}
 use Rattle.drm_core.specs.declared.answer.Expired.{Expired}
 use Rattle.drm_core.specs.declared.answer.Finished.{Finished}

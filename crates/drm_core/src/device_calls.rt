@@ -27,8 +27,8 @@ use crate::cores::{Held, Plan};
 use crate::event::Refusal;
 use crate::journal::JobRecord;
 use crate::machine::BuildError;
-use crate::planning;
 use crate::marked::{Begun, MarkedTable};
+use crate::planning;
 use drm_buffer::Buffer;
 use drm_resv::Resv;
 use drm_types::{BufferId, DeviceSpec, EntityId, FenceId, Moment, RingId};
@@ -124,7 +124,12 @@ impl Device {
     /// Takes back the packet that the ring has out, once it ran on its buffers (`drm_sched_job_done_cb`, by which the
     /// hardware tells `drm_sched_job_done`): its job has run one packet more, as by a `step` of the ring. The answer is
     /// the job's fence and the packet's number.
-    pub fn report(&mut self, ring: RingId, write: Option<Buffer>, read: Option<Buffer>) -> (FenceId, u32)
+    pub fn report(
+        &mut self,
+        ring: RingId,
+        write: Option<Buffer>,
+        read: Option<Buffer>,
+    ) -> (FenceId, u32)
         requires busy { IsReport self.old ring write read }
         ensures reported { HasReported self.old ring result self.new }
         ensures lawful { IsLawfulDevice self.new.state }
@@ -286,7 +291,8 @@ impl Device {
     pub fn ended(&self) -> u32
         ensures { result ≡ length (filter (λ r. has_ended r.phase) self.now.state.journal) }
     {
-        self.parts.table
+        self.parts
+            .table
             .journal
             .iter()
             .filter(|record| record.phase.is_ended())
@@ -309,7 +315,8 @@ impl Device {
     pub fn load(&self, ring: RingId) -> u32
         ensures { result ≡ load_of self.now.state.journal ring }
     {
-        self.parts.table
+        self.parts
+            .table
             .journal
             .iter()
             .filter(|record| record.ring == ring && !record.phase.is_ended())

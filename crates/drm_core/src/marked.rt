@@ -68,7 +68,9 @@ pub enum Begun {
         read: Option<Buffer>,
     },
     /// Nothing goes out: the next packet waits for more resets of its job.
-    Stalled { fence: FenceId },
+    Stalled {
+        fence: FenceId,
+    },
 }
 
 // Rings of which none has a packet out.
@@ -165,7 +167,12 @@ impl MarkedTable {
     }
 
     /// Takes the ring's packet back, which ran on its buffers.
-    pub(crate) fn report(&mut self, ring: RingId, write: Option<Buffer>, read: Option<Buffer>) -> (FenceId, u32)
+    pub(crate) fn report(
+        &mut self,
+        ring: RingId,
+        write: Option<Buffer>,
+        read: Option<Buffer>,
+    ) -> (FenceId, u32)
         requires busy { IsReport (marked_of self.old) ring write read }
         requires whole { IsWholeMarked self.old }
         ensures reported { HasReported (marked_of self.old) ring result (marked_of self.new) }

@@ -1,4 +1,4 @@
-use Rattle.std.proofs.Common.{rules, ◌≡◌, ◌∙◌, ◌<◌, Bool, true, false, length, refl, ap, sym, subst, Some, None}
+use Rattle.std.proofs.Common.{◌≡◌, ◌∙◌, ◌<◌, true, false, length, refl, ap, sym, subst, Some, None}
 use Rattle.std.specs.Prelude.{option_map}
 use Rattle.drm_core.specs.declared.event.Refusal.TheVariants as refusal
 use Rattle.drm_core.specs.Begun.{out_or}

@@ -1,6 +1,4 @@
-use Rattle.std.proofs.Common.{◌≡◌, false, sym, ◌∙◌}
-use Rattle.drm_core.specs.Marks.{ring_out}
-use Rattle.drm_core.specs.MarkedTables.{marked_of}
+use Rattle.std.proofs.Common.{sym, ◌∙◌}
 use Rattle.drm_core.proofs.MarkedDone.{finish_marked}
 use Rattle.drm_core.proofs.marked.MarkedTable.finish.Goals as goal
 
