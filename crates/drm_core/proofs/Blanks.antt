@@ -31,7 +31,7 @@ pub map_to_same : {X Y : Type 0} (y : Y) (xs : List X) → map (λ x. y) xs ≡ 
 map_to_same y [] = refl
 map_to_same y (x ∷ xs) = ap (λ ys. y ∷ ys) (map_to_same y xs)
 
-map_same : {X Y : Type 0} (f : X → Y) (n : ℕ) (x : X) → map f (replicate n x) ≡ replicate n (f x)
+pub map_same : {X Y : Type 0} (f : X → Y) (n : ℕ) (x : X) → map f (replicate n x) ≡ replicate n (f x)
 map_same f zero x = refl
 map_same f (suc n) x = ap (λ ys. f x ∷ ys) (map_same f n x)
 

@@ -71,3 +71,6 @@ pub mod MarkedReport
 pub mod MarkedSteps
 pub mod MarkedBuffers
 pub mod MarkedReported
+pub mod MarkedBegun
+pub mod MarkedBlanks
+pub mod MarkedGrows

@@ -1,10 +1,10 @@
 -- An arming leaves what is out.
-use Rattle.std.proofs.Common.{◌≡◌, ℕ, ◌<◌, length, refl, sym, ap, subst, ◌∙◌, slice_get}
+use Rattle.std.proofs.Common.{◌≡◌, ℕ, ◌<◌, length, refl, sym, ap, subst, ◌∙◌}
 use Rattle.drm_job.specs.declared.Draft.{Draft}
 use Rattle.drm_core.specs.declared.table.Table.{Table}
 use Rattle.drm_core.specs.declared.marked.MarkedTable.{MarkedTable}
 use Rattle.drm_core.specs.Arming.{new_record, armed_device}
-use Rattle.drm_core.specs.MarkedTables.{marked_of, IsWholeMarked}
+use Rattle.drm_core.specs.MarkedTables.{IsWholeMarked}
 use Rattle.drm_core.specs.Ring.{pending_of}
 use Rattle.drm_core.specs.State.{DeviceState}
 use Rattle.drm_core.specs.Steady.{IsSteady}

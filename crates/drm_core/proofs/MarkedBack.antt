@@ -1,5 +1,5 @@
 -- A packet that comes back to its table is the step of its ring.
-use Rattle.std.proofs.Common.{◌≡◌, ℕ, ◌+◌, ◌<◌, Bool, false, List, length, set, Some, None, Option, refl, sym, ap, subst, ◌∙◌, slice_get}
+use Rattle.std.proofs.Common.{◌≡◌, ℕ, ◌+◌, false, List, set, Some, Option, sym, ap, ◌∙◌, slice_get}
 use Rattle.drm_buffer.specs.Stored.{Stored}
 use Rattle.drm_fence.specs.Fences.{Fences}
 use Rattle.drm_packet.specs.declared.Packet.{Packet}

@@ -1,7 +1,7 @@
 -- The calls of a device keep its tables whole while packets are out of it.
-use Rattle.std.proofs.Common.{◌≡◌, ◌≢◌, ℕ, ◌<◌, Bool, true, false, not, List, [], set, map, length, Some, None, Option, Result, Ok, Err, refl, sym, ap, subst, ◌∙◌, inl, inr, slice_get}
+use Rattle.std.proofs.Common.{◌≡◌, ◌≢◌, ℕ, ◌<◌, false, not, List, [], length, Some, None, Result, Ok, Err, sym, ap, subst, ◌∙◌, slice_get}
 use Rattle.std.specs.Option.{option_map_or}
-use Rattle.std.specs.Prelude.{IfOk, IfErr, OnOk, is_none, Contains, option_map}
+use Rattle.std.specs.Prelude.{IfOk, IfErr, OnOk, is_none, Contains}
 use Rattle.std.proofs.lemmas.Bool.{both_ways}
 use Rattle.drm_types.specs.declared.spec.DeviceSpec.{DeviceSpec}
 use Rattle.drm_packet.specs.Touches.{touches}
@@ -15,8 +15,8 @@ use Rattle.drm_core.specs.declared.journal.JobRecord.{JobRecord}
 use Rattle.drm_core.specs.declared.table.Table.{Table}
 use Rattle.drm_core.specs.declared.marked.MarkedTable.{MarkedTable}
 use Rattle.drm_core.specs.Answers.{picked, finished, timed_out}
-use Rattle.drm_core.specs.Marks.{Mark, MarkedDevice, mark_of, out_by, ring_out, IsSteadyMarked}
-use Rattle.drm_core.specs.MarkedTables.{marked_of, HasOut, IsWholeMarked}
+use Rattle.drm_core.specs.Marks.{Mark, MarkedDevice, mark_of, out_by, ring_out}
+use Rattle.drm_core.specs.MarkedTables.{marked_of, IsWholeMarked}
 use Rattle.drm_core.specs.Outcomes.{pick_outcome, finish_outcome, timeout_outcome, cancelled_device, reap_outcome}
 use Rattle.drm_core.specs.Refusals.{pick_refusal, finish_refusal, cancel_refusal, reap_refusal}
 use Rattle.drm_core.specs.State.{DeviceState}

@@ -1,26 +1,22 @@
 -- What is out of a device's memory is what its marks keep out: before a packet goes out, after it went, and when it is back.
-use Rattle.std.proofs.Common.{◌≡◌, ◌≢◌, ℕ, zero, suc, ◌<◌, Bool, true, false, not, ◌==◌, List, [], ◌∷◌, set, map, length, Some, None, Option, refl, sym, ap, subst, ◌∙◌, inl, inr, slice_get}
+use Rattle.std.proofs.Common.{◌≡◌, ℕ, ◌<◌, Bool, true, false, ◌==◌, List, length, Some, None, Option, refl, sym, ap, subst, ◌∙◌, slice_get}
 use Rattle.std.specs.Option.{option_map_or}
 use Rattle.std.specs.List.{list_any}
-use Rattle.std.specs.Prelude.{◌||◌, Contains, IsTrue, option_map, is_none}
-use Rattle.std.proofs.lemmas.Bool.{both_ways, eqb-true, cases_eq}
+use Rattle.std.specs.Prelude.{Contains}
+use Rattle.std.proofs.lemmas.Bool.{both_ways, eqb-true}
 use Rattle.std.proofs.lemmas.List.Folds.{Any-from_list_any}
-use Rattle.drm_buffer.specs.Stored.{Stored, is_out_of, set_out}
+use Rattle.drm_buffer.specs.Stored.{Stored, is_out_of}
 use Rattle.drm_job.proofs.Apart.{any_from}
 use Rattle.drm_packet.specs.declared.Packet.{Packet}
 use Rattle.drm_packet.specs.Touches.{touches}
-use Rattle.drm_packet.specs.Parts.{target_of, source_of}
-use Rattle.drm_core.specs.declared.journal.JobRecord.{JobRecord}
-use Rattle.drm_core.specs.declared.table.Table.{Table}
 use Rattle.drm_core.specs.declared.marked.MarkedTable.{MarkedTable}
 use Rattle.drm_core.specs.Marks.{Mark, MarkedDevice, mark_of, out_by, is_out, buffer_out}
 use Rattle.drm_core.specs.MarkedTables.{marked_of, next_asks_out, HasOut, IsWholeMarked}
 use Rattle.drm_core.specs.Outcomes.{next_packet}
 use Rattle.drm_core.specs.Ring.{current_of}
-use Rattle.drm_core.specs.Tables.{state_of, IsWhole, NextIsIn}
+use Rattle.drm_core.specs.Tables.{state_of, NextIsIn}
 use Rattle.drm_core.proofs.Pending.{place_of}
-use Rattle.drm_core.proofs.Records.{stands_within}
-use Rattle.drm_core.proofs.Stored.{next_there}
+use Rattle.drm_core.proofs.Stored.{next_there, same_count}
 use Rattle.drm_core.proofs.MarksKept.{is_out_at}
 
 -- what passes in a list that has something that passes
@@ -49,6 +45,17 @@ out_agrees d s b has lt =
           ap (λ o. option_map_or (λ z. z) o false)
           (has.inside b lt (λ ring m at c. both_ways (is_out d b) is (is_out_at d ring b m at c)))
     ] refl
+
+-- a buffer that no mark keeps out is in the memory
+pub is_inside : (d : MarkedTable) (b : ℕ) → IsWholeMarked d → b < length d.table.memory.bytes → is_out (marked_of d) b ≡ false
+    → slice_get d.table.memory.out b ≡ Some false
+is_inside d b w there free =
+    w.out.inside b (subst (λ n. b < n) (same_count d.table w.table) there)
+    (λ ring m at c. both_ways (is_out (marked_of d) b) free (is_out_at (marked_of d) ring b m at c))
+
+-- what the memory says of a buffer is what the marks say
+pub says_out : (d : MarkedTable) (b : ℕ) → IsWholeMarked d → b < length d.table.memory.bytes → is_out_of d.table.memory b ≡ is_out (marked_of d) b
+says_out d b w there = out_agrees (marked_of d) d.table.memory b w.out (subst (λ n. b < n) (same_count d.table w.table) there)
 
 any_agree : (p q : ℕ → Bool) (xs : List ℕ) → ((b : ℕ) → Contains xs b → p b ≡ q b) → list_any p xs ≡ list_any q xs
 any_agree p q xs same =

@@ -1,23 +1,20 @@
 -- A report of a device: what it asks is there, and it leaves the tables whole.
-use Rattle.std.proofs.Common.{◌≡◌, ◌≢◌, ℕ, ◌<◌, Bool, true, false, not, List, [], set, map, length, Some, None, Option, refl, sym, ap, subst, ◌∙◌, inl, inr, slice_get, get_or}
+use Rattle.std.proofs.Common.{◌≡◌, ℕ, ◌<◌, List, set, map, length, Some, None, Option, refl, sym, ap, subst, ◌∙◌, slice_get, get_or}
 use Rattle.std.specs.Option.{option_map_or}
 use Rattle.std.specs.Prelude.{option_map, Contains}
 use Rattle.std.proofs.lemmas.List.{map-set, length-map}
 use Rattle.std.proofs.lemmas.Option.{slice_get-get_or}
 use Rattle.drm_buffer.specs.Memory.{bytes_of}
-use Rattle.drm_packet.specs.declared.Packet.{Packet}
-use Rattle.drm_packet.specs.Parts.{target_of, part_effect, other_bytes}
-use Rattle.drm_packet.specs.Touches.{touches}
+use Rattle.drm_packet.specs.Parts.{target_of, part_effect}
 use Rattle.drm_core.specs.declared.event.Answer.TheVariants as answer
 use Rattle.drm_core.specs.declared.journal.JobRecord.{JobRecord}
 use Rattle.drm_core.specs.declared.table.Table.{Table}
 use Rattle.drm_core.specs.declared.marked.OutMark.{OutMark}
 use Rattle.drm_core.specs.declared.marked.MarkedTable.{MarkedTable}
 use Rattle.drm_core.specs.Begun.{IsReport, HasReported}
-use Rattle.drm_core.specs.Marks.{Mark, MarkedDevice, mark_of, packet_at, out_by, reported_device, IsOut, IsSteadyMarked}
+use Rattle.drm_core.specs.Marks.{Mark, MarkedDevice, mark_of, packet_at, reported_device, IsOut}
 use Rattle.drm_core.specs.MarkedTables.{mark_of_row, marked_of, IsWholeMarked, ComesBack, IsBack}
-use Rattle.drm_core.specs.Outcomes.{next_packet, step_outcome, ran_device}
-use Rattle.drm_core.specs.Refusals.{step_refusal}
+use Rattle.drm_core.specs.Outcomes.{next_packet, ran_device}
 use Rattle.drm_core.specs.State.{DeviceState}
 use Rattle.drm_core.specs.Tables.{state_of}
 use Rattle.drm_core.proofs.Records.{to_map}

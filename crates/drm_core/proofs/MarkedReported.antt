@@ -7,7 +7,6 @@ use Rattle.std.proofs.lemmas.Bool.{both_ways, eqb-true, eq-eqb, cases_eq}
 use Rattle.std.proofs.lemmas.List.{map-set}
 use Rattle.drm_job.proofs.Apart.{any_from}
 use Rattle.drm_packet.specs.Touches.{touches}
-use Rattle.drm_packet.specs.Parts.{target_of, source_of}
 use Rattle.drm_core.specs.declared.journal.JobRecord.{JobRecord}
 use Rattle.drm_core.specs.declared.table.Table.{Table}
 use Rattle.drm_core.specs.declared.marked.OutMark.{OutMark}

@@ -1,5 +1,5 @@
 -- A plain step beside packets that are out: they stay out, since it takes none of their buffers.
-use Rattle.std.proofs.Common.{◌≡◌, ◌≢◌, ℕ, ◌+◌, ◌<◌, Bool, true, false, not, cond, ◌||◌, List, [], set, length, Some, None, Option, Result, Ok, Err, refl, sym, ap, subst, ◌∙◌, slice_get}
+use Rattle.std.proofs.Common.{◌≡◌, ℕ, ◌<◌, true, false, cond, List, [], length, Some, None, Option, Result, Ok, Err, refl, sym, ap, subst, ◌∙◌, slice_get}
 use Rattle.std.specs.Option.{option_map_or}
 use Rattle.std.specs.Prelude.{IfOk, IfErr, Contains}
 use Rattle.drm_types.specs.declared.spec.DeviceSpec.{DeviceSpec}
@@ -14,7 +14,7 @@ use Rattle.drm_core.specs.declared.table.Table.{Table}
 use Rattle.drm_core.specs.declared.marked.MarkedTable.{MarkedTable}
 use Rattle.drm_core.specs.Answers.{stepped}
 use Rattle.drm_core.specs.Journal.{is_at}
-use Rattle.drm_core.specs.Marks.{Mark, MarkedDevice, mark_of, packet_at, out_by, ring_out, buffer_out, is_in_way, IsOut}
+use Rattle.drm_core.specs.Marks.{Mark, mark_of, packet_at, out_by, ring_out, buffer_out, is_in_way, IsOut}
 use Rattle.drm_core.specs.MarkedTables.{marked_of, IsWholeMarked}
 use Rattle.drm_core.specs.Outcomes.{must_stall, at_record, stepped_by, ran_device, step_outcome}
 use Rattle.drm_core.specs.Refusals.{step_refusal}

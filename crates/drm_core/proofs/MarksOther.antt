@@ -1,19 +1,16 @@
 -- What picks, finishes, timeouts, cancels and reaps leave of a packet that is out: all, where they are of another ring; a pick and
 -- a reap also on its own.
-use Rattle.std.proofs.Common.{◌≡◌, ◌≢◌, ℕ, ◌-◌, ◌<◌, ◌+◌, Bool, true, false, not, cond, ◌||◌, List, [], ◌∷◌, ◌++◌, set, map, length, Some, None, Option, refl, sym, ap, subst, ◌∙◌, inl, inr, slice_get}
+use Rattle.std.proofs.Common.{◌≡◌, ◌≢◌, ℕ, ◌-◌, ◌<◌, Bool, true, false, not, cond, ◌||◌, List, [], ◌∷◌, ◌++◌, length, Some, None, Option, refl, sym, ap, subst, ◌∙◌, inl, inr, slice_get}
 use Rattle.std.specs.Option.{option_map_or}
 use Rattle.std.specs.Prelude.{◌&&◌, ◌==◌, is_none, nat_lt, find, Contains, option_map}
 use Rattle.std.proofs.lemmas.Bool.{not-false, cases_eq, ne_eqb}
 use Rattle.std.proofs.lemmas.Option.{slice_get_within}
 use Rattle.drm_types.specs.Firsts.{when, first}
-use Rattle.drm_types.specs.declared.outcome.Outcome.{Outcome}
 use Rattle.drm_types.specs.declared.outcome.Outcome.TheVariants as outcome
 use Rattle.drm_types.specs.declared.spec.DeviceSpec.{DeviceSpec}
 use Rattle.drm_buffer.specs.Memory.{bytes_of}
-use Rattle.drm_fence.specs.declared.phase.Phase.{Phase}
 use Rattle.drm_fence.specs.declared.phase.Phase.TheVariants.{Scheduled}
-use Rattle.drm_fence.specs.Phases.{is_queued, is_scheduled}
-use Rattle.drm_job.specs.declared.Draft.{Draft}
+use Rattle.drm_fence.specs.Phases.{is_scheduled}
 use Rattle.drm_types.proofs.Firsts.{none_first}
 use Rattle.drm_packet.specs.Touches.{touches}
 use Rattle.drm_packet.specs.Parts.{target_of, other_bytes}
@@ -22,13 +19,13 @@ use Rattle.drm_core.specs.declared.event.Answer.TheVariants as answer
 use Rattle.drm_core.specs.declared.event.Refusal.TheVariants.{Nothing, Waits}
 use Rattle.drm_core.specs.declared.journal.JobRecord.{JobRecord}
 use Rattle.drm_core.specs.State.{DeviceState}
-use Rattle.drm_core.specs.Journal.{is_at, is_complete, changed_at}
+use Rattle.drm_core.specs.Journal.{is_complete}
 use Rattle.drm_core.specs.Choice.{queue_of, choice}
-use Rattle.drm_core.specs.Ring.{limit_of, head_of, current_of, pending_of, age_of, is_guilty, is_stopped}
+use Rattle.drm_core.specs.Ring.{limit_of, head_of, pending_of, age_of, is_guilty, is_stopped}
 use Rattle.drm_core.specs.Refusals.{reap_refusal, must_still_wait}
 use Rattle.drm_core.specs.Outcomes.{hung as hung_record, condemned, at_record, picked_device, finished_device, final_outcome, hung_device, condemned_device, is_too_much, hang_outcome, timeout_at, pick_outcome, finish_outcome, timeout_outcome, reap_outcome, cancelled_device, ended_at}
 use Rattle.drm_core.specs.Steady.{IsSteady}
-use Rattle.drm_core.specs.Marks.{Mark, MarkedDevice, mark_of, packet_at, out_by, IsOut, IsSteadyMarked}
+use Rattle.drm_core.specs.Marks.{Mark, MarkedDevice, mark_of, out_by, IsOut, IsSteadyMarked}
 use Rattle.drm_core.proofs.Records.{changed_is, to_map}
 use Rattle.drm_core.proofs.Pairs.{get_set_other}
 use Rattle.drm_core.proofs.Pending.{contains_at}

@@ -8,7 +8,7 @@ use Rattle.drm_core.specs.declared.event.Refusal.TheVariants.{PacketOut}
 use Rattle.drm_core.specs.declared.journal.JobRecord.{JobRecord}
 use Rattle.drm_core.specs.declared.marked.Begun.{Begun}
 use Rattle.drm_core.specs.declared.marked.Begun.TheVariants.{Work, Stalled}
-use Rattle.drm_core.specs.Marks.{Mark, MarkedDevice, mark_of, mark_for, packet_at, is_in_way, begun_device, reported_device}
+use Rattle.drm_core.specs.Marks.{Mark, MarkedDevice, mark_of, mark_for, packet_at, begun_device, reported_device}
 use Rattle.drm_core.specs.Outcomes.{must_stall, step_outcome}
 use Rattle.drm_core.specs.Refusals.{step_refusal}
 use Rattle.drm_core.specs.Ring.{current_of}

@@ -19,7 +19,7 @@ ghost use Rattle.drm_core.specs.Outcomes.{pick_outcome, step_outcome, finish_out
 ghost use Rattle.drm_core.specs.Refusals.{arm_refusal, busy_fence, pick_refusal, step_refusal, finish_refusal, cancel_refusal, reap_refusal};
 ghost use Rattle.drm_core.specs.State.{opened_device};
 ghost use Rattle.drm_core.specs.Begun.{HasBegun, IsReport, HasReported, out_or};
-ghost use Rattle.drm_core.specs.Marks.{is_in_way, is_out, ring_out, unmarked};
+ghost use Rattle.drm_core.specs.Marks.{is_in_way, is_out, ring_out, unmarked, IsSteadyMarked};
 ghost use Rattle.drm_core.specs.Steady.{IsSteady};
 
 use crate::answer::{Expired, Finished, Picked, Stepped};
@@ -38,7 +38,10 @@ use std::marker::Model;
 /// A device: its memory, its armed jobs, its rings and its entities (`drm_gpu_scheduler`, without the reservations
 /// that tell a job what to wait for).
 ///
-/// Contracts see it as its state. A call that is refused changes nothing, and none but `build` takes memory.
+/// A ring runs its packets one at a time, by `step`, or beside the device: `begin_step` sends a packet out with its
+/// buffers, and `report` takes it back. Contracts see a device as its state, in which a buffer that is out has the bytes
+/// that went out, and the mark of each ring that has a packet out. A call that is refused changes nothing, and none but
+/// `build` takes memory.
 #[derive(Drop)]
 pub struct Device {
     parts: MarkedTable,
@@ -86,7 +89,12 @@ impl Device {
         self.parts.pick(ring, now)
     }
 
-    /// Runs one packet of the first pending job of the ring that has some left.
+    /// Runs one packet of the first pending job of the ring that has some left: `begin_step` and `report` in one.
+    ///
+    /// # Errors
+    ///
+    /// `PacketOut` where the ring has a packet out, or a buffer of its next packet is out; else `Idle` where no pending
+    /// job has packets left.
     pub fn step(&mut self, ring: RingId) -> Result<Stepped, Refusal>
         requires there { ring < length self.old.state.spec.rings }
         ensures ran { IfOk result (λ s. (out_or (is_in_way self.old ring) (step_refusal self.old.state ring) ≡ None) × (step_outcome self.old.state ring ≡ (stepped s, self.new.state))) }
@@ -98,16 +106,24 @@ impl Device {
         self.parts.step(ring)
     }
 
-    /// Sends the ring's next packet out with its buffers, to be run beside the device.
+    /// Sends the ring's next packet out with its buffers, to be run beside the device (the `run_job` callback, which
+    /// `drm_sched_run_job_work` calls outside of the scheduler's lock). The ring is marked until `report`.
+    ///
+    /// # Errors
+    ///
+    /// Those of `step`.
     pub fn begin_step(&mut self, ring: RingId) -> Result<Begun, Refusal>
         requires there { ring < length self.old.state.spec.rings }
         ensures begun { IfOk result (λ b. (out_or (is_in_way self.old ring) (step_refusal self.old.state ring) ≡ None) × HasBegun self.old ring b self.new) }
+        ensures state { self.new.state ≡ self.old.state }
         ensures refused { IfErr result (λ r. (out_or (is_in_way self.old ring) (step_refusal self.old.state ring) ≡ Some r) × (self.new ≡ self.old)) }
     {
         self.parts.begin_step(ring)
     }
 
-    /// Takes the ring's packet back, which ran on its buffers: the event is that of a step.
+    /// Takes back the packet that the ring has out, once it ran on its buffers (`drm_sched_job_done_cb`, by which the
+    /// hardware tells `drm_sched_job_done`): its job has run one packet more, as by a `step` of the ring. The answer is
+    /// the job's fence and the packet's number.
     pub fn report(
         &mut self,
         ring: RingId,
@@ -123,6 +139,10 @@ impl Device {
     }
 
     /// Ends the head of the ring, which is complete (`drm_sched_job_done`).
+    ///
+    /// # Errors
+    ///
+    /// `PacketOut` where the ring has a packet out; else `Idle` where nothing is pending, or `NotComplete`.
     pub fn finish(&mut self, ring: RingId, now: Moment) -> Result<Finished, Refusal>
         requires there { ring < length self.old.state.spec.rings }
         ensures finished { IfOk result (λ f. (out_or (ring_out self.old ring) (finish_refusal self.old.state ring) ≡ None) × (finish_outcome self.old.state ring now ≡ (finished f, self.new.state))) }
@@ -136,6 +156,10 @@ impl Device {
 
     /// Looks at the head of the ring after a time (`drm_sched_job_timedout`). A head that hangs goes on at its next
     /// packet.
+    ///
+    /// # Errors
+    ///
+    /// `PacketOut` where the ring has a packet out.
     pub fn timeout(&mut self, ring: RingId, now: Moment) -> Result<Expired, Refusal>
         requires there { ring < length self.old.state.spec.rings }
         ensures expired { IfOk result (λ e. (out_or (ring_out self.old ring) None ≡ None) × (timeout_outcome self.old.state ring now ≡ (timed_out e, self.new.state))) }
@@ -205,7 +229,8 @@ impl Device {
     ///
     /// # Errors
     ///
-    /// `PacketOut` where the buffer is out, else `Busy`, with the least fence of the reservation's writers that has no outcome. Then nothing is copied.
+    /// `PacketOut` where the buffer is out, else `Busy`, with the least fence of the reservation's writers that has no
+    /// outcome. Then nothing is copied.
     pub fn read_into(&self, buffer: BufferId, resv: &Resv, out: &mut [u8]) -> Result<(), Refusal>
         requires buffer { buffer < length self.now.state.memory }
         requires fits { Fits buffer self.now.state.journal resv.now.kept }
@@ -213,6 +238,7 @@ impl Device {
         ensures read { OnOk result ((is_out self.now buffer ≡ false) × (busy_fence self.now.state.journal resv.now.kept ≡ None) × (out.new ≡ bytes_of self.now.state.memory buffer)) }
         ensures writers { OnOk result (HaveEnded buffer self.now.state.journal) }
         ensures busy { IfErr result (λ r. (out_or (is_out self.now buffer) (option_map refusal.Busy (busy_fence self.now.state.journal resv.now.kept)) ≡ Some r) × (out.new ≡ out.old)) }
+        ensures writing { IfErr result (λ r. is_out self.now buffer ≡ false → HaveEnded buffer self.now.state.journal → ⊥) }
     {
         if self.parts.table.memory.is_out(buffer) {
             return Err(Refusal::PacketOut);
@@ -261,7 +287,7 @@ impl Device {
         self.parts.table.journal.len() as u32
     }
 
-    /// How many jobs have an outcome.
+    /// How many jobs have an outcome: their finished fences are signaled (`dma_fence_is_signaled`).
     pub fn ended(&self) -> u32
         ensures { result ≡ length (filter (λ r. has_ended r.phase) self.now.state.journal) }
     {
@@ -273,25 +299,24 @@ impl Device {
             .count() as u32
     }
 
-    /// What holds of every device, for who keeps more over it. It does nothing.
+    /// What holds of every device at every moment, for a caller that keeps more over it and has changed it. The call does
+    /// nothing.
     pub fn facts(&self)
         ensures steady { IsSteady self.now.state }
         ensures limits { spec_fault self.now.state.spec ≡ None }
         ensures sizes { sizes_of self.now.state.memory ≡ sizes_of self.now.state.spec.buffers }
+        ensures marked { IsSteadyMarked self.now }
     {
         let _spec = &self.parts.table.spec;
     }
 
-    /// How many jobs are queued for the ring or pending on it.
+    /// How many jobs are queued for the ring or pending on it: those of its records that have no outcome (the `score`
+    /// of a `drm_gpu_scheduler`, by which `drm_sched_pick_best` chooses).
     pub fn load(&self, ring: RingId) -> u32
+        requires there { ring < length self.now.state.spec.rings }
         ensures { result ≡ load_of self.now.state.journal ring }
     {
-        self.parts
-            .table
-            .journal
-            .iter()
-            .filter(|record| record.ring == ring && !record.phase.is_ended())
-            .count() as u32
+        self.parts.table.load(ring)
     }
 
     /// What is known of the job of this number, where it is armed.

@@ -1,4 +1,4 @@
-ghost use Rattle.std.specs.Prelude.{◌≡◌, ◌<◌, length, Some, None, IfOk, IfErr, OnOk};
+ghost use Rattle.std.specs.Prelude.{◌≡◌, ◌<◌, length, replicate, Some, None, IfOk, IfErr, OnOk};
 ghost use Rattle.drm_types.specs.Limits.{spec_fault};
 ghost use Rattle.drm_job.specs.Fault.{IsJob};
 ghost use Rattle.drm_core.specs.declared.event.Answer.TheVariants as answer;
@@ -8,7 +8,7 @@ ghost use Rattle.drm_core.specs.State.{opened_device};
 ghost use Rattle.drm_core.specs.Answers.{picked, stepped, finished, timed_out};
 ghost use Rattle.drm_core.specs.Begun.{HasBegun, IsReport, HasReported, out_or};
 ghost use Rattle.drm_core.specs.Marks.{ring_out, is_in_way, unmarked};
-ghost use Rattle.drm_core.specs.MarkedTables.{marked_of, next_asks_out, ComesBack, IsBack, IsWholeMarked};
+ghost use Rattle.drm_core.specs.MarkedTables.{mark_of_row, marked_of, next_asks_out, ComesBack, IsBack, IsWholeMarked};
 ghost use Rattle.drm_core.specs.Outcomes.{step_outcome, finish_outcome, timeout_outcome, pick_outcome, cancelled_device, reap_outcome};
 ghost use Rattle.drm_core.specs.Refusals.{step_refusal, finish_refusal, pick_refusal, cancel_refusal, reap_refusal, arm_refusal};
 ghost use Rattle.drm_core.specs.Tables.{state_of, IsWhole};
@@ -34,6 +34,20 @@ pub struct OutMark {
     pub read: Snapshot<Option<Buffer>>,
 }
 
+impl OutMark {
+    // The mark of the packet of this number, which goes out with these buffers.
+    fn of(fence: FenceId, packet: u32, write: &Option<Buffer>, read: &Option<Buffer>) -> OutMark
+        ensures { mark_of_row result ≡ record { fence = fence; packet = packet; write = write.now; read = read.now } }
+    {
+        OutMark {
+            fence,
+            packet,
+            write: Snapshot::of(write),
+            read: Snapshot::of(read),
+        }
+    }
+}
+
 /// The tables of a device and what each of its rings has out.
 #[derive(Drop)]
 pub struct MarkedTable {
@@ -41,10 +55,11 @@ pub struct MarkedTable {
     pub marks: Vec<Option<OutMark>>,
 }
 
-/// What a ring begins.
+/// What a ring begins, where its next packet is to run beside the device.
 #[derive(Drop)]
 pub enum Begun {
-    /// The packet of this number goes out with its buffers: the one that it writes, and the other one that it reads.
+    /// The packet goes out: the job's fence, the packet's number in it, a copy of the packet, the buffer that it writes,
+    /// and the other one that it reads, where it reads another. A `Stall` that waits no longer has no buffers.
     Work {
         fence: FenceId,
         packet: u32,
@@ -52,10 +67,21 @@ pub enum Begun {
         write: Option<Buffer>,
         read: Option<Buffer>,
     },
-    /// The next packet waits for more resets of its job.
+    /// Nothing goes out: the next packet waits for more resets of its job.
     Stalled {
         fence: FenceId,
     },
+}
+
+// Rings of which none has a packet out.
+fn no_marks(alloc: Global, count: usize) -> Result<Vec<Option<OutMark>>, AllocError>
+    ensures { IfOk result (λ marks. marks.items ≡ replicate count None) }
+{
+    let mut marks = Vec::with_capacity(alloc, count)?;
+    for _ in 0..count {
+        marks.push(None)?;
+    }
+    Ok(marks)
 }
 
 impl Table {
@@ -130,12 +156,7 @@ impl MarkedTable {
             return Ok(Begun::Stalled { fence: number });
         }
         let (write, read) = packet.take(&mut self.table.memory);
-        self.marks[ring as usize] = Some(OutMark {
-            fence: number,
-            packet: count,
-            write: Snapshot::of(&write),
-            read: Snapshot::of(&read),
-        });
+        self.marks[ring as usize] = Some(OutMark::of(number, count, &write, &read));
         Ok(Begun::Work {
             fence: number,
             packet: count,
@@ -203,9 +224,10 @@ impl MarkedTable {
         ensures whole { IsWholeMarked self.new }
     {
         if self.has_out(ring) {
-            return Err(Refusal::PacketOut);
+            Err(Refusal::PacketOut)
+        } else {
+            self.table.finish(ring, now)
         }
-        self.table.finish(ring, now)
     }
 
     /// Looks at the head of the ring after a time.
@@ -268,10 +290,7 @@ impl MarkedTable {
         ensures whole { IfOk result (λ d. IsWholeMarked d) }
     {
         let table = Table::open(alloc, spec)?;
-        let mut marks = Vec::with_capacity(alloc, table.rings.len())?;
-        for _ in 0..table.rings.len() {
-            marks.push(None)?;
-        }
+        let marks = no_marks(alloc, table.rings.len())?;
         Ok(MarkedTable { table, marks })
     }
 }

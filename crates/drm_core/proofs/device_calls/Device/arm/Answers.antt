@@ -4,7 +4,7 @@ use Rattle.drm_fence.specs.Fences.{has_ended_at}
 use Rattle.drm_core.specs.Arming.{armed_device}
 use Rattle.drm_core.specs.Grows.{Grows}
 use Rattle.drm_core.specs.Held.{kept_of, armed_held, AllFit}
-use Rattle.drm_core.specs.State.{DeviceState}
+use Rattle.drm_core.specs.Marks.{MarkedDevice}
 use Rattle.drm_core.specs.Tables.{state_of}
 use Rattle.drm_core.proofs.Growth.{arm_grows}
 use Rattle.drm_core.proofs.HeldFacts.{held_in_vector, held_after}
@@ -12,25 +12,26 @@ use Rattle.drm_core.proofs.device_calls.Device.arm.Goals as goal
 
 pub returns-clause-held : goal.returns-clause-held
 returns-clause-held c =
-    let t = c.self.inside.table in
+    let t = c.self.inside.parts.table in
     let job = c.args.plan.job in
     let v = c.args.held.now in
     let uses = held_in_vector v (has_ended_at t.fences.list) c.armed-fence.result (length t.journal.items) job c.deref_mut.result.now c.add_held_uses.new.held
-    (c.armed-fence.ensures ∙ ap (λ (d : DeviceState). length d.journal) (sym c.self.view_is)) c.deref_mut.ensures.value c.add_held_uses.ensures in
+    (c.armed-fence.ensures ∙ ap (λ (d : MarkedDevice). length d.state.journal) (sym c.self.view_is)) c.deref_mut.ensures.value c.add_held_uses.ensures in
     let new = (with_items v c.add_held_uses.new.held).items in
-    subst (λ (d : DeviceState). kept_of new ≡ armed_held d.journal job (kept_of v.items)) c.self.view_is
-    (held_after (state_of t) (state_of c.arm.new.self) t.fences.list job v.items new c.self.invariant.fences c.self.invariant.steady.lawful.entities c.arm.ensures.armed uses).0
+    subst (λ (d : MarkedDevice). kept_of new ≡ armed_held d.state.journal job (kept_of v.items)) c.self.view_is
+    (held_after (state_of t) (state_of c.arm.new.self.table) t.fences.list job v.items new c.self.invariant.table.fences c.self.invariant.table.steady.lawful.entities c.arm.ensures.armed uses).0
 
 pub returns-clause-fit : goal.returns-clause-fit
 returns-clause-fit c =
-    let t = c.self.inside.table in
+    let t = c.self.inside.parts.table in
     let job = c.args.plan.job in
     let v = c.args.held.now in
     let uses = held_in_vector v (has_ended_at t.fences.list) c.armed-fence.result (length t.journal.items) job c.deref_mut.result.now c.add_held_uses.new.held
-    (c.armed-fence.ensures ∙ ap (λ (d : DeviceState). length d.journal) (sym c.self.view_is)) c.deref_mut.ensures.value c.add_held_uses.ensures in
+    (c.armed-fence.ensures ∙ ap (λ (d : MarkedDevice). length d.state.journal) (sym c.self.view_is)) c.deref_mut.ensures.value c.add_held_uses.ensures in
     let new = (with_items v c.add_held_uses.new.held).items in
-    subst (λ (d : DeviceState). AllFit d.journal (kept_of v.items) → AllFit (state_of c.arm.new.self).journal (kept_of new)) c.self.view_is
-    (held_after (state_of t) (state_of c.arm.new.self) t.fences.list job v.items new c.self.invariant.fences c.self.invariant.steady.lawful.entities c.arm.ensures.armed uses).1
+    subst (λ (d : MarkedDevice). AllFit d.state.journal (kept_of v.items) → AllFit (state_of c.arm.new.self.table).journal (kept_of new)) c.self.view_is
+    (held_after (state_of t) (state_of c.arm.new.self.table) t.fences.list job v.items new c.self.invariant.table.fences c.self.invariant.table.steady.lawful.entities c.arm.ensures.armed uses).1
 
 pub returns-clause-grows : goal.returns-clause-grows
-returns-clause-grows c = subst (Grows c.args.self.now) (sym (c.arm.ensures.armed ∙ ap (λ (d : DeviceState). armed_device d c.args.plan.job) c.self.view_is)) (arm_grows c.args.self.now c.args.plan.job)
+returns-clause-grows c =
+    subst (Grows c.args.self.now.state) (sym (c.arm.ensures.armed ∙ ap (λ (d : MarkedDevice). armed_device d.state c.args.plan.job) c.self.view_is)) (arm_grows c.args.self.now.state c.args.plan.job)

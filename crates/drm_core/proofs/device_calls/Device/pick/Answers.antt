@@ -1,15 +1,15 @@
 use Rattle.std.proofs.Common.{rules, ◌<◌, length, sym, subst}
 use Rattle.drm_core.specs.Grows.{Grows}
-use Rattle.drm_core.specs.State.{DeviceState}
+use Rattle.drm_core.specs.Marks.{MarkedDevice}
 use Rattle.drm_core.specs.Tables.{state_of}
-use Rattle.drm_core.proofs.DeviceGrows.{pick_grown}
+use Rattle.drm_core.proofs.MarkedGrows.{pick_grows}
 use Rattle.drm_core.proofs.device_calls.Device.pick.Goals as goal
 
 pub returns-clause-grows : goal.returns-clause-grows
 returns-clause-grows c =
-    subst (λ (d : DeviceState). Grows d (state_of c.pick.new.self)) c.self.view_is
-    (pick_grown c.self.inside.table c.pick.new.self c.args.ring c.args.now c.pick.result c.self.invariant
-    (subst (λ (d : DeviceState). c.args.ring < length d.spec.rings) (sym c.self.view_is) c.requires.there) c.pick.ensures.picked c.pick.ensures.refused)
+    subst (λ (d : MarkedDevice). Grows d.state (state_of c.pick.new.self.table)) c.self.view_is
+    (pick_grows c.self.inside.parts c.pick.new.self c.args.ring c.args.now c.pick.result c.self.invariant
+    (subst (λ (d : MarkedDevice). c.args.ring < length d.state.spec.rings) (sym c.self.view_is) c.requires.there) c.pick.ensures.picked c.pick.ensures.refused)
 
 pub returns-clause-refused : goal.returns-clause-refused
 returns-clause-refused c = search rules

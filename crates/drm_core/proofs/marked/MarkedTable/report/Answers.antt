@@ -1,4 +1,4 @@
-use Rattle.std.proofs.Common.{◌≡◌, ◌∙◌, Some, None, sym, ap, set, refl, slice_get}
+use Rattle.std.proofs.Common.{◌∙◌, Some, sym, ap, set, refl}
 use Rattle.std.specs.Vec.{with_item}
 use Rattle.drm_core.specs.declared.marked.MarkedTable.{MarkedTable}
 use Rattle.drm_core.specs.MarkedTables.{mark_of_row}

@@ -1,4 +1,4 @@
-use Rattle.std.proofs.Common.{◌≡◌, false, sym, ◌∙◌}
+use Rattle.std.proofs.Common.{sym, ◌∙◌}
 use Rattle.drm_core.specs.Marks.{ring_out, buffer_out}
 use Rattle.drm_core.specs.MarkedTables.{marked_of}
 use Rattle.drm_core.proofs.TableFacts.{neither}

@@ -1,4 +1,4 @@
-use Rattle.std.proofs.Common.{◌≡◌, false, sym, ◌∙◌}
+use Rattle.std.proofs.Common.{sym, ◌∙◌}
 use Rattle.drm_core.proofs.MarkedDone.{timeout_marked}
 use Rattle.drm_core.proofs.marked.MarkedTable.timeout.Goals as goal
 

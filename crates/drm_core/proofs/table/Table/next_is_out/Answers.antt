@@ -1,4 +1,4 @@
-use Rattle.std.proofs.Common.{◌∙◌, sym, ap, Some, None, false, slice_get}
+use Rattle.std.proofs.Common.{◌∙◌, sym, ap, None, false, slice_get}
 use Rattle.std.specs.Option.{option_map_or}
 use Rattle.std.specs.List.{list_any}
 use Rattle.drm_buffer.specs.Stored.{is_out_of}
