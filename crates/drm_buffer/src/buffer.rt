@@ -48,12 +48,8 @@ impl Buffer {
         requires { offset + len ≤ length self.old }
         ensures { self.new ≡ overwritten self.old offset (replicate len byte) }
     {
-        ranges::fill(
-            self.bytes.as_mut_slice(),
-            offset as usize,
-            len as usize,
-            byte,
-        );
+        let (at, len) = (offset as usize, len as usize);
+        ranges::fill(self.bytes.as_mut_slice(), at, len, byte);
     }
 
     /// Writes a range of another buffer over as many places of this one; both lie within their buffers.
@@ -62,13 +58,9 @@ impl Buffer {
         requires source { source_offset + len ≤ length source.now }
         ensures { self.new ≡ overwritten self.old offset (slice_range source.now source_offset (source_offset + len)) }
     {
-        ranges::copy(
-            self.bytes.as_mut_slice(),
-            offset as usize,
-            source.bytes.as_slice(),
-            source_offset as usize,
-            len as usize,
-        );
+        let (from, to, len) = (source_offset as usize, offset as usize, len as usize);
+        let source = source.bytes.as_slice();
+        ranges::copy(self.bytes.as_mut_slice(), to, source, from, len);
     }
 
     /// Writes a range of the buffer over as many places of itself. All bytes are read before the first is written
@@ -78,12 +70,8 @@ impl Buffer {
         requires source { source_offset + len ≤ length self.old }
         ensures { self.new ≡ overwritten self.old offset (slice_range self.old source_offset (source_offset + len)) }
     {
-        ranges::copy_within(
-            self.bytes.as_mut_slice(),
-            offset as usize,
-            source_offset as usize,
-            len as usize,
-        );
+        let (from, to, len) = (source_offset as usize, offset as usize, len as usize);
+        ranges::copy_within(self.bytes.as_mut_slice(), to, from, len);
     }
 
     /// Adds a range of another buffer to as many places of this one, each modulo 256; both lie within their buffers.
@@ -92,13 +80,9 @@ impl Buffer {
         requires source { source_offset + len ≤ length source.now }
         ensures { self.new ≡ overwritten self.old offset (range_sums self.old source.now offset source_offset len) }
     {
-        ranges::add(
-            self.bytes.as_mut_slice(),
-            offset as usize,
-            source.bytes.as_slice(),
-            source_offset as usize,
-            len as usize,
-        );
+        let (from, to, len) = (source_offset as usize, offset as usize, len as usize);
+        let source = source.bytes.as_slice();
+        ranges::add(self.bytes.as_mut_slice(), to, source, from, len);
     }
 
     /// Adds a range of the buffer to as many places of itself, each modulo 256. All bytes are read before the first is
@@ -108,11 +92,7 @@ impl Buffer {
         requires source { source_offset + len ≤ length self.old }
         ensures { self.new ≡ overwritten self.old offset (range_sums self.old self.old offset source_offset len) }
     {
-        ranges::add_within(
-            self.bytes.as_mut_slice(),
-            offset as usize,
-            source_offset as usize,
-            len as usize,
-        );
+        let (from, to, len) = (source_offset as usize, offset as usize, len as usize);
+        ranges::add_within(self.bytes.as_mut_slice(), to, from, len);
     }
 }
