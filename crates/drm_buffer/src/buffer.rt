@@ -56,7 +56,8 @@ impl Buffer {
     pub fn copy(&mut self, offset: u32, source: &Buffer, source_offset: u32, len: u32)
         requires target { offset + len ≤ length self.old }
         requires source { source_offset + len ≤ length source.now }
-        ensures { self.new ≡ overwritten self.old offset (slice_range source.now source_offset (source_offset + len)) }
+        ensures { self.new
+            ≡ overwritten self.old offset (slice_range source.now source_offset (source_offset + len)) }
     {
         let (from, to, len) = (source_offset as usize, offset as usize, len as usize);
         let source = source.bytes.as_slice();

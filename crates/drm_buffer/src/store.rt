@@ -73,7 +73,8 @@ impl Store {
     /// Puts a buffer back that is out, with the bytes that it has now. It takes no memory.
     pub fn put(&mut self, buffer: BufferId, bytes: Buffer)
         requires { slice_get self.old.out buffer ≡ Some true }
-        ensures { self.new ≡ record { bytes = slice_set self.old.bytes buffer bytes; out = slice_set self.old.out buffer false } }
+        ensures { self.new
+            ≡ record { bytes = slice_set self.old.bytes buffer bytes; out = slice_set self.old.out buffer false } }
     {
         self.places[buffer.number() as usize] = Place::In(bytes);
     }

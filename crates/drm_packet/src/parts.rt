@@ -90,20 +90,23 @@ impl Packet {
         requires { (b : ℕ) → Contains (touches self.now) b → slice_get store.old.out b ≡ Some false }
         ensures write { result.0 ≡ option_map (bytes_of store.old.bytes) (target_of self.now) }
         ensures read { result.1 ≡ other_bytes self.now store.old.bytes }
-        ensures left { store.new ≡ record store.old { out = set_out (set_out store.old.out (target_of self.now) true) (source_of self.now) true } }
+        ensures left { store.new
+            ≡ record store.old { out = set_out (set_out store.old.out (target_of self.now) true) (source_of self.now) true } }
     {
         let write = take_from(store, self.target());
         let read = take_from(store, self.source());
         (write, read)
     }
 
-    /// Puts the packet's buffers back, which are out, after it ran on them: the one that it wrote as the packet leaves it,
-    /// the other as it went. It takes no memory.
+    /// Puts the packet's buffers back, which are out, after it ran on them: the one that it wrote as the packet leaves
+    /// it, the other as it went. It takes no memory.
     pub fn put(&self, store: &mut Store, write: Option<Buffer>, read: Option<Buffer>)
         requires out { (b : ℕ) → Contains (touches self.now) b → slice_get store.old.out b ≡ Some true }
         requires read { read ≡ other_bytes self.now store.old.bytes }
-        requires write { write ≡ option_map (λ t. part_effect self.now (bytes_of store.old.bytes t) read) (target_of self.now) }
-        ensures { store.new ≡ record { bytes = effect self.now store.old.bytes; out = set_out (set_out store.old.out (target_of self.now) false) (source_of self.now) false } }
+        requires write { write
+            ≡ option_map (λ t. part_effect self.now (bytes_of store.old.bytes t) read) (target_of self.now) }
+        ensures { store.new
+            ≡ record { bytes = effect self.now store.old.bytes; out = set_out (set_out store.old.out (target_of self.now) false) (source_of self.now) false } }
     {
         put_into(store, self.target(), write);
         put_into(store, self.source(), read);
@@ -149,7 +152,8 @@ fn take_from(store: &mut Store, buffer: Option<BufferId>) -> Option<Buffer>
 fn put_into(store: &mut Store, buffer: Option<BufferId>, bytes: Option<Buffer>)
     requires out { (b : ℕ) → buffer ≡ Some b → slice_get store.old.out b ≡ Some true }
     requires bytes { is_none bytes ≡ is_none buffer }
-    ensures { store.new ≡ record { bytes = put_bytes store.old.bytes buffer bytes; out = set_out store.old.out buffer false } }
+    ensures { store.new
+        ≡ record { bytes = put_bytes store.old.bytes buffer bytes; out = set_out store.old.out buffer false } }
 {
     if let (Some(buffer), Some(bytes)) = (buffer, bytes) {
         store.put(buffer, bytes);
