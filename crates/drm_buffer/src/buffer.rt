@@ -28,14 +28,6 @@ impl Buffer {
         Buffer { bytes }
     }
 
-    // The bytes, given back.
-    pub(crate) fn into_bytes(self) -> Vec<u8>
-        ensures { result.items ≡ self }
-    {
-        let Buffer { bytes } = self;
-        bytes
-    }
-
     /// The bytes, to look at.
     pub fn as_slice(&self) -> &[u8]
         ensures { result.now ≡ self.now }
