@@ -123,7 +123,7 @@ impl Draft {
             .all(|buffer| self.access_of(*buffer).is_some())
     }
 
-    // Whether the draft declares no buffer of the packet for holding alone: its packets may touch each.
+    // Whether its packets may touch each buffer that the packet touches: it is declared, and not for holding alone.
     pub(crate) fn lets_touch(&self, packet: &Packet) -> bool
         ensures { result ≡ list_all (can_read self.now) (touches packet.now) }
     {
