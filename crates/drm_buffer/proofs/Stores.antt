@@ -1,8 +1,8 @@
 -- Buffers that go out and come back.
-use Rattle.std.proofs.Common.{◌≡◌, ℕ, zero, suc, Bool, true, false, List, [], ◌∷◌, set, map, get_or, Some, refl, sym, ap, ◌∙◌, slice_get, replicate}
+use Rattle.std.proofs.Common.{◌≡◌, ℕ, zero, suc, Bool, true, false, List, [], ◌∷◌, set, map, get_or, Some, refl, sym, ap, ◌∙◌, slice_get}
 use Rattle.std.proofs.lemmas.List.{map-set, set-set}
 use Rattle.drm_buffer.specs.declared.place.Place.{Place}
-use Rattle.drm_buffer.specs.declared.place.Place.TheVariants.{In, Out}
+use Rattle.drm_buffer.specs.declared.place.Place.TheVariants.{In}
 use Rattle.drm_buffer.specs.Memory.{bytes_of, overwritten, written}
 use Rattle.drm_buffer.specs.Stored.{Stored}
 use Rattle.drm_buffer.specs.Places.{bytes_at, is_out_at, stored}

@@ -14,5 +14,6 @@ abbrev pub is_out_at : Place → Bool
 is_out_at (In buffer) = false
 is_out_at (Out went) = true
 
+-- the bytes that places show, and which are out
 abbrev pub stored : List Place → Stored
 stored places = record { bytes = map bytes_at places; out = map is_out_at places }

@@ -1,5 +1,5 @@
 -- What contracts see of buffers of which some are out.
-use Rattle.std.specs.Prelude.{◌≡◌, ℕ, ◌<◌, Bool, false, List, length, map, Option, Some, slice_get, slice_set}
+use Rattle.std.specs.Prelude.{◌≡◌, ℕ, ◌<◌, Bool, false, List, map, Option, Some, slice_get, slice_set}
 use Rattle.std.specs.Option.{option_map_or}
 
 -- the bytes of each buffer as if it were in, and which are out

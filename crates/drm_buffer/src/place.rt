@@ -5,15 +5,17 @@ use crate::buffer::Buffer;
 use std::mem;
 use std::snapshot::Snapshot;
 
-/// A place of the memory: its buffer, or, while that is out, what is remembered of it in contracts alone.
+/// A place of a store: its buffer, or, while that is out, what contracts alone remember of it.
 #[derive(Drop)]
 pub enum Place {
+    /// The buffer is here.
     In(Buffer),
+    /// The buffer is out; it had this value when it went. Nothing of it is kept when the program runs.
     Out(Snapshot<Buffer>),
 }
 
 impl Place {
-    // Takes the buffer out.
+    // Takes the buffer out, and leaves its value in its place.
     pub(crate) fn take(&mut self) -> Buffer
         requires { is_out_at self.old ≡ false }
         ensures bytes { result ≡ bytes_at self.old }
@@ -27,7 +29,7 @@ impl Place {
         }
     }
 
-    /// Whether the buffer is out.
+    // Whether the buffer is out.
     pub(crate) fn is_out(&self) -> bool
         ensures { result ≡ is_out_at self.now }
     {
@@ -37,7 +39,7 @@ impl Place {
         }
     }
 
-    /// The bytes of the buffer, to look at.
+    // The bytes of the buffer, to look at.
     pub(crate) fn bytes(&self) -> &[u8]
         requires { is_out_at self.now ≡ false }
         ensures { result.now ≡ bytes_at self.now }
@@ -48,7 +50,7 @@ impl Place {
         }
     }
 
-    // What the place shows.
+    // The value of the buffer.
     fn shown(&self) -> Snapshot<Buffer>
         requires { is_out_at self.now ≡ false }
         ensures { result.value ≡ bytes_at self.now }

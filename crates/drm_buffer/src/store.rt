@@ -8,7 +8,8 @@ use drm_types::{BufferId, Sequence};
 use std::alloc::{AllocError, Global};
 use std::marker::Model;
 
-/// The buffers of a device, of which some may be out. It shows the bytes of each as if it were in.
+/// The bytes of all buffers (GEM objects), of which some may be out: lent to who runs a packet on them without the
+/// lock of their device. Contracts see the bytes of each, as they went out where it is out, and which are out.
 #[derive(Drop)]
 pub struct Store {
     places: Vec<Place>,
@@ -24,7 +25,8 @@ impl Model for Store {
 }
 
 impl Store {
-    /// A store with copies of these buffers, all of them in.
+    /// A store with copies of these buffers, all of them in, so that a device's description keeps the bytes that it
+    /// began with.
     ///
     /// # Errors
     ///
@@ -41,7 +43,7 @@ impl Store {
         Ok(Store { places })
     }
 
-    /// Whether the buffer is out.
+    /// Whether the buffer is out. One that is not there is not.
     pub fn is_out(&self, buffer: BufferId) -> bool
         ensures { result ≡ is_out_of self.now buffer }
     {
@@ -51,7 +53,7 @@ impl Store {
         }
     }
 
-    /// The bytes of a buffer that is in.
+    /// The bytes of a buffer that is in, to look at.
     pub fn bytes(&self, buffer: BufferId) -> &[u8]
         requires { slice_get self.now.out buffer ≡ Some false }
         ensures { result.now ≡ bytes_of self.now.bytes buffer }
@@ -59,7 +61,7 @@ impl Store {
         self.places[buffer.number() as usize].bytes()
     }
 
-    /// Takes a buffer out.
+    /// Takes a buffer out that is in. It takes no memory: the place remembers only that the buffer is out.
     pub fn take(&mut self, buffer: BufferId) -> Buffer
         requires { slice_get self.old.out buffer ≡ Some false }
         ensures bytes { result ≡ bytes_of self.old.bytes buffer }
@@ -68,15 +70,16 @@ impl Store {
         self.places[buffer.number() as usize].take()
     }
 
-    /// Puts a buffer back.
+    /// Puts a buffer back that is out, with the bytes that it has now. It takes no memory.
     pub fn put(&mut self, buffer: BufferId, bytes: Buffer)
         requires { slice_get self.old.out buffer ≡ Some true }
-        ensures { self.new ≡ record { bytes = slice_set self.old.bytes buffer bytes; out = slice_set self.old.out buffer false } }
+        ensures { self.new
+            ≡ record { bytes = slice_set self.old.bytes buffer bytes; out = slice_set self.old.out buffer false } }
     {
         self.places[buffer.number() as usize] = Place::In(bytes);
     }
 
-    /// Writes the byte into each place of the range.
+    /// Writes the byte into each place of the range, which lies within a buffer that is in.
     pub fn fill(&mut self, buffer: BufferId, offset: u32, len: u32, byte: u8)
         requires within { slice_get self.old.out buffer ≡ Some false }
         requires range { offset + len ≤ length (bytes_of self.old.bytes buffer) }

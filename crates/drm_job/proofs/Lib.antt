@@ -3,4 +3,5 @@ pub mod Within
 pub mod InRange
 pub mod Repeats
 pub mod Distinct
+pub mod Moves
 pub mod Sound

@@ -22,6 +22,7 @@ use Rattle.drm_job.specs.Sound.{IsSound}
 use Rattle.drm_job.proofs.Distinct.{distinct_from, none_repeats, IsNew}
 use Rattle.drm_job.proofs.InRange.{runs_in}
 use Rattle.drm_types.proofs.Firsts.{none_at, none_when, none_more, none_where, false_where, none_of_map, none_found, finds_none}
+use Rattle.drm_job.proofs.Moves.{moved_rightly, none_wrongly_moved}
 use Rattle.drm_job.proofs.Within.{stays_within}
 
 -- a job is sound
@@ -46,7 +47,8 @@ sound_from spec job none =
           (none_at (job_tests spec job) 4 (when (nat_lt 64 (length job.packets)) (TooMany Packets)) none refl));
       buffers = All-weaker (λ b. nat_le (length spec.buffers) b ≡ false) (λ b. b < length spec.buffers) (λ b fail. leb-false (length spec.buffers) b fail) (buffers_of job) fails;
       distinct = (distinct_from [] (buffers_of job) repeats).1;
-      moves = none_of_map MoveNotKernel (wrongly_moved spec job) (none_at (job_tests spec job) 7 (option_map MoveNotKernel (wrongly_moved spec job)) none refl);
+      moves = moved_rightly spec job (none_of_map MoveNotKernel (wrongly_moved spec job)
+          (none_at (job_tests spec job) 7 (option_map MoveNotKernel (wrongly_moved spec job)) none refl));
       within = stays_within spec job none;
       ranges = runs_in spec job spec.buffers none refl;
     }
@@ -151,7 +153,7 @@ job_from spec job sound =
     (none_where (nat_lt 64 (length job.packets)) (TooMany Packets) (le-ltb 64 (length job.packets) sound.few_packets))
     (none_more missing (twice ∷ moved ∷ faulty ∷ []) (ap (option_map NoBuffer) found)
     (none_more twice (moved ∷ faulty ∷ []) (ap (option_map DeclaredTwice) once)
-    (none_more moved (faulty ∷ []) (ap (option_map MoveNotKernel) sound.moves)
+    (none_more moved (faulty ∷ []) (ap (option_map MoveNotKernel) (none_wrongly_moved spec job sound.moves))
     (none_more faulty []
     (no_faults spec job 0 job.packets
     (recursion_from_All (λ p. IsTrue (is_declared job p) × IsTrue (is_writable job p)) job.packets sound.within)

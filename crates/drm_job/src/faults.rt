@@ -32,6 +32,7 @@ pub fn check(draft: Draft, spec: &DeviceSpec) -> Result<Job, (Draft, JobFault)>
     }
 }
 
+// The first fault of the draft, in the order of `JobFault`.
 fn first_fault(draft: &Draft, spec: &DeviceSpec) -> Option<JobFault>
     ensures { result ≡ job_fault spec.now draft.now }
 {
@@ -98,6 +99,7 @@ fn first_moved(declared: &[(BufferId, Access)]) -> Option<BufferId>
         .map(|declared| declared.0)
 }
 
+// Whether this is the access of memory management.
 fn moves(access: Access) -> bool
     ensures { result ≡ is_move access }
 {

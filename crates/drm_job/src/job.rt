@@ -41,7 +41,7 @@ impl Job {
         self.draft.credits
     }
 
-    /// The buffers that its packets touch, each once.
+    /// The buffers that it uses, each once, and how.
     pub fn declared(&self) -> &[(BufferId, Access)]
         ensures { result.now ≡ self.now.declared }
     {
@@ -123,7 +123,7 @@ impl Draft {
             .all(|buffer| self.access_of(*buffer).is_some())
     }
 
-    // Whether the packet may touch each of its buffers.
+    // Whether its packets may touch each buffer that the packet touches: it is declared, and not for holding alone.
     pub(crate) fn lets_touch(&self, packet: &Packet) -> bool
         ensures { result ≡ list_all (can_read self.now) (touches packet.now) }
     {
@@ -131,12 +131,14 @@ impl Draft {
             && self.lets_read_all(packet.writes().as_slice())
     }
 
+    // Whether its packets may read each of these buffers.
     fn lets_read_all(&self, buffers: &[BufferId]) -> bool
         ensures { result ≡ list_all (can_read self.now) buffers.now }
     {
         buffers.iter().all(|buffer| self.lets_read(*buffer))
     }
 
+    // Whether its packets may read the buffer.
     fn lets_read(&self, buffer: BufferId) -> bool
         ensures { result ≡ can_read self.now buffer }
     {
@@ -146,7 +148,7 @@ impl Draft {
         }
     }
 
-    // Whether the draft declares each buffer that the packet writes for writing.
+    // Whether its packets may write each buffer that the packet writes.
     pub(crate) fn lets_write(&self, packet: &Packet) -> bool
         ensures { result ≡ is_writable self.now packet.now }
     {
@@ -157,6 +159,7 @@ impl Draft {
             .all(|buffer| self.lets_write_to(*buffer))
     }
 
+    // Whether its packets may write the buffer.
     fn lets_write_to(&self, buffer: BufferId) -> bool
         ensures { result ≡ can_write self.now buffer }
     {

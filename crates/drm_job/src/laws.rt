@@ -2,8 +2,8 @@
 ghost use Rattle.drm_job.specs.Laws.{JobsAreTheSoundDrafts, JobsStayWithin, JobsRunInTheirDevice};
 
 /// A draft is a job of a device exactly where it is sound: its entity and its buffers are there, it counts a credit,
-/// its lists are short, no buffer is declared twice, and its packets stay within what it declares and within their
-/// buffers.
+/// its lists are short, no buffer is declared twice, only an entity of KERNEL priority moves, and its packets stay
+/// within what it declares and within their buffers.
 pub fn jobs_are_the_sound_drafts()
     ensures { JobsAreTheSoundDrafts }
 {}

@@ -24,7 +24,8 @@ pub struct Draft {
     pub entity: EntityId,
     /// What the job counts of its ring's credits while it is pending, 1 to 65,535.
     pub credits: u16,
-    /// The buffers that its packets touch, each once: at most 16.
+    /// The buffers that it uses, each once, and how: at most 16. Its packets touch no others, and of these none that is
+    /// only held.
     pub declared: Sequence<(BufferId, Access)>,
     /// Fences that it waits for beside those of the buffers: at most 16.
     pub after: Sequence<FenceId>,
@@ -35,8 +36,11 @@ pub struct Draft {
 /// A list of a draft.
 #[derive(Clone, Copy, Debug, PartialEq, Eq)]
 pub enum DraftList {
+    /// The buffers that it uses.
     Declared,
+    /// The fences that it waits for.
     After,
+    /// Its work.
     Packets,
 }
 
@@ -55,11 +59,12 @@ pub enum JobFault {
     NoBuffer { buffer: BufferId },
     /// The first declared buffer that stands before it too.
     DeclaredTwice { buffer: BufferId },
-    /// The first buffer that is declared for moving, where the entity is not of KERNEL priority.
+    /// The first buffer that is declared for moving, where the entity is not of KERNEL priority: moves are the work of
+    /// memory management.
     MoveNotKernel { buffer: BufferId },
     /// The packet touches a buffer that is not declared.
     PacketUndeclared { packet: u32 },
-    /// The packet touches a buffer that is declared for holding.
+    /// The packet touches a buffer that is declared for holding alone.
     PacketOnHold { packet: u32 },
     /// The packet writes a buffer that is declared for reading.
     PacketReadOnly { packet: u32 },

@@ -1,16 +1,15 @@
 -- A packet that runs in a store: its buffers go out, it runs on them, and they come back.
-use Rattle.std.proofs.Common.{◌≡◌, ◌≢◌, ℕ, zero, suc, ◌+◌, Bool, true, false, cond, ◌&&◌, ◌==◌, nat_lt, nat_le, length, List, [], ◌∷◌, set, Some, None, refl, sym, ap, ◌∙◌, slice_get, get_or, Option, arith}
+use Rattle.std.proofs.Common.{◌≡◌, ◌≢◌, ℕ, zero, suc, Bool, true, false, cond, ◌&&◌, ◌==◌, List, [], ◌∷◌, set, Some, None, refl, sym, ap, ◌∙◌, slice_get, Option, arith}
 use Rattle.std.specs.Prelude.{option_map, Contains}
-use Rattle.std.specs.Option.{option_map_or}
 use Rattle.std.proofs.lemmas.Bool.{eqb-false}
-use Rattle.std.proofs.lemmas.List.{set-set, set_comm, get_or-set_other}
+use Rattle.std.proofs.lemmas.List.{set-set, get_or-set_other}
 use Rattle.drm_buffer.specs.Memory.{bytes_of}
 use Rattle.drm_buffer.specs.Stored.{Stored, set_out}
 use Rattle.drm_packet.specs.declared.Packet.{Packet}
 use Rattle.drm_packet.specs.declared.Packet.TheVariants.{Fill, Copy, Add, Stall}
 use Rattle.drm_packet.specs.Effect.{effect}
 use Rattle.drm_packet.specs.Touches.{is_in_range, touches}
-use Rattle.drm_packet.specs.Parts.{target_of, source_of, read_bytes, part_effect, lies_in, fits_parts, other_bytes, put_bytes}
+use Rattle.drm_packet.specs.Parts.{target_of, source_of, part_effect, lies_in, fits_parts, other_bytes, put_bytes}
 use Rattle.drm_packet.proofs.PartEffects.{read_source, parts_make_the_effect}
 
 -- a packet in range of a memory fits the bytes of its buffers

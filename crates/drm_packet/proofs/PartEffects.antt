@@ -1,13 +1,12 @@
 -- A packet writes its target by the bytes of its own buffers, and nothing else.
-use Rattle.std.proofs.Common.{◌≡◌, ℕ, ◌+◌, true, false, cond, ◌==◌, List, Some, None, Option, refl, sym, ap, ◌∙◌, set, slice_range}
+use Rattle.std.proofs.Common.{◌≡◌, ℕ, ◌+◌, true, false, cond, ◌==◌, List, Some, None, refl, ap, ◌∙◌, set, slice_range}
 use Rattle.std.specs.Prelude.{option_map}
-use Rattle.std.specs.Option.{option_map_or}
 use Rattle.std.proofs.lemmas.Bool.{eqb-true}
 use Rattle.drm_buffer.specs.Memory.{bytes_of, overwritten, range_sums}
 use Rattle.drm_packet.specs.declared.Packet.{Packet}
 use Rattle.drm_packet.specs.declared.Packet.TheVariants.{Fill, Copy, Add, Stall}
 use Rattle.drm_packet.specs.Effect.{effect}
-use Rattle.drm_packet.specs.Parts.{target_of, source_of, read_bytes, part_effect, other_bytes}
+use Rattle.drm_packet.specs.Parts.{target_of, read_bytes, part_effect, other_bytes}
 
 -- the bytes that are read are those of the source
 pub read_source : (m : List (List ℕ)) (source target : ℕ)

@@ -3,6 +3,10 @@
 //! `Packet::run` leaves exactly the `effect` of the packet, where `in_range` answered true; `reads` and `writes`
 //! name every buffer that counts. Two packets of which neither writes what the other touches commute
 //! (`apart_packets_commute`): that is why jobs that do not conflict may run beside each other.
+//!
+//! A packet also runs on its own buffers alone, while these are out of their store: `take` brings them out, `run_parts`
+//! runs on them, `put` brings them back. That leaves the same `effect` (`parts_make_the_effect`), so a ring may work
+//! while others use the store.
 #![tactic(auto)]
 
 mod buffers;
@@ -12,7 +16,7 @@ mod run;
 
 pub use buffers::Buffers;
 use drm_types::BufferId;
-pub use laws::apart_packets_commute;
+pub use laws::{apart_packets_commute, parts_make_the_effect};
 
 /// One packet of a job. Offsets and lengths count bytes; a range that is empty or leaves its buffer makes the
 /// packet one of no job.

@@ -1,10 +1,10 @@
 ghost use Rattle.std.specs.Prelude.{◌≡◌, ℕ, IsTrue, Some, None, false, true, slice_get, slice_set, option_map, is_none, Contains};
 ghost use Rattle.std.specs.List.{list_any};
+ghost use Rattle.std.specs.Option.{option_copied};
 ghost use Rattle.drm_buffer.specs.Memory.{bytes_of};
 ghost use Rattle.drm_buffer.specs.Stored.{is_out_of, set_out};
 ghost use Rattle.drm_packet.specs.Effect.{effect};
 ghost use Rattle.drm_packet.specs.Touches.{is_in_range, touches};
-ghost use Rattle.std.specs.Option.{option_copied};
 ghost use Rattle.drm_packet.specs.Parts.{target_of, source_of, part_effect, fits_parts, other_bytes, put_bytes};
 
 use crate::Packet;
@@ -12,7 +12,7 @@ use drm_buffer::{Buffer, Store};
 use drm_types::BufferId;
 
 impl Packet {
-    /// The buffer that the packet writes.
+    /// The buffer that the packet writes: none, where it is a stall.
     pub fn target(&self) -> Option<BufferId>
         ensures { result ≡ target_of self.now }
     {
@@ -30,23 +30,24 @@ impl Packet {
         match *self {
             Packet::Fill { .. } | Packet::Stall { .. } => None,
             Packet::Copy { source, target, .. } | Packet::Add { source, target, .. } => {
-                if source == target {
-                    None
-                } else {
-                    Some(source)
-                }
+                if source == target { None } else { Some(source) }
             }
         }
     }
 
-    /// Runs the packet on the bytes of its own buffers: the one that it writes, and the other one that it reads.
+    /// Runs the packet on its own buffers: the one that it writes, and the other one that it reads. Its ranges lie
+    /// within them; where it reads no other buffer (`None`), it reads the one that it writes. It takes no memory, and a
+    /// stall changes nothing.
     pub fn run_parts(&self, write: &mut Buffer, read: Option<&Buffer>)
         requires { IsTrue (fits_parts self.now write.old (option_copied read)) }
         ensures { write.new ≡ part_effect self.now write.old (option_copied read.entry) }
     {
         match *self {
             Packet::Fill {
-                offset, len, byte, ..
+                offset,
+                len,
+                byte,
+                ..
             } => write.fill(offset, len, byte),
             Packet::Copy {
                 source_offset,
@@ -70,7 +71,7 @@ impl Packet {
         }
     }
 
-    /// Whether a buffer of the packet is out.
+    /// Whether a buffer is out that the packet reads or writes.
     pub fn asks_out(&self, store: &Store) -> bool
         ensures { result ≡ list_any (is_out_of store.now) (touches self.now) }
     {
@@ -83,30 +84,36 @@ impl Packet {
         }
     }
 
-    /// Takes the packet's buffers out: the one that it writes, and the other one that it reads.
+    /// Takes the packet's buffers out, which are in: the one that it writes, and the other one that it reads. A stall
+    /// has neither. It takes no memory.
     pub fn take(&self, store: &mut Store) -> (Option<Buffer>, Option<Buffer>)
         requires { (b : ℕ) → Contains (touches self.now) b → slice_get store.old.out b ≡ Some false }
         ensures write { result.0 ≡ option_map (bytes_of store.old.bytes) (target_of self.now) }
         ensures read { result.1 ≡ other_bytes self.now store.old.bytes }
-        ensures left { store.new ≡ record store.old { out = set_out (set_out store.old.out (target_of self.now) true) (source_of self.now) true } }
+        ensures left { store.new
+            ≡ record store.old { out = set_out (set_out store.old.out (target_of self.now) true) (source_of self.now) true } }
     {
         let write = take_from(store, self.target());
         let read = take_from(store, self.source());
         (write, read)
     }
 
-    /// Puts the packet's buffers back after it ran on them.
+    /// Puts the packet's buffers back, which are out, after it ran on them: the one that it wrote as the packet leaves
+    /// it, the other as it went. It takes no memory.
     pub fn put(&self, store: &mut Store, write: Option<Buffer>, read: Option<Buffer>)
         requires out { (b : ℕ) → Contains (touches self.now) b → slice_get store.old.out b ≡ Some true }
         requires read { read ≡ other_bytes self.now store.old.bytes }
-        requires write { write ≡ option_map (λ t. part_effect self.now (bytes_of store.old.bytes t) read) (target_of self.now) }
-        ensures { store.new ≡ record { bytes = effect self.now store.old.bytes; out = set_out (set_out store.old.out (target_of self.now) false) (source_of self.now) false } }
+        requires write { write
+            ≡ option_map (λ t. part_effect self.now (bytes_of store.old.bytes t) read) (target_of self.now) }
+        ensures { store.new
+            ≡ record { bytes = effect self.now store.old.bytes; out = set_out (set_out store.old.out (target_of self.now) false) (source_of self.now) false } }
     {
         put_into(store, self.target(), write);
         put_into(store, self.source(), read);
     }
 
-    /// Runs the packet in a store: its buffers go out, it runs on them, and they come back.
+    /// Runs the packet in a store in which its buffers are in: they go out, it runs on them, and they come back. A stall
+    /// changes nothing. It takes no memory.
     pub fn run_in(&self, store: &mut Store)
         requires range { IsTrue (is_in_range self.now store.old.bytes) }
         requires target { (t : ℕ) → target_of self.now ≡ Some t → slice_get store.old.out t ≡ Some false }
@@ -129,6 +136,7 @@ impl Packet {
     }
 }
 
+// Takes a buffer out, if there is one to take.
 fn take_from(store: &mut Store, buffer: Option<BufferId>) -> Option<Buffer>
     requires { (b : ℕ) → buffer ≡ Some b → slice_get store.old.out b ≡ Some false }
     ensures bytes { result ≡ option_map (bytes_of store.old.bytes) buffer }
@@ -140,10 +148,12 @@ fn take_from(store: &mut Store, buffer: Option<BufferId>) -> Option<Buffer>
     }
 }
 
+// Puts a buffer back, if there is one to put back.
 fn put_into(store: &mut Store, buffer: Option<BufferId>, bytes: Option<Buffer>)
     requires out { (b : ℕ) → buffer ≡ Some b → slice_get store.old.out b ≡ Some true }
     requires bytes { is_none bytes ≡ is_none buffer }
-    ensures { store.new ≡ record { bytes = put_bytes store.old.bytes buffer bytes; out = set_out store.old.out buffer false } }
+    ensures { store.new
+        ≡ record { bytes = put_bytes store.old.bytes buffer bytes; out = set_out store.old.out buffer false } }
 {
     if let (Some(buffer), Some(bytes)) = (buffer, bytes) {
         store.put(buffer, bytes);

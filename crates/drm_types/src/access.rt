@@ -1,38 +1,42 @@
 ghost use Rattle.std.specs.Prelude.{◌≡◌};
 ghost use Rattle.drm_types.specs.Usages.{wanted_usage, added_usage, place_of, is_as_strong};
 
-/// What a job does with a buffer that it declares.
+/// What a job does with a buffer that it declares. The usage that follows is in `wanted` and `adds`.
 #[derive(Clone, Copy, Debug, PartialEq, Eq)]
 pub enum Access {
-    /// Its packets may read the buffer. It waits for writers.
+    /// Its packets may read the buffer. It waits for writers and for moves (`DMA_RESV_USAGE_READ`).
     Read,
-    /// Its packets may read and write the buffer. It waits for readers and writers.
+    /// Its packets may read and write the buffer. It waits for readers, writers and moves (`DMA_RESV_USAGE_WRITE`).
     Write,
-    /// Its packets do not touch the buffer: it is only kept from being moved. It waits for moves alone.
+    /// Its packets do not touch the buffer: the buffer is only kept where it is until the job has ended, as a driver
+    /// does with buffers that have to stay resident (`DMA_RESV_USAGE_BOOKKEEP`). It waits for moves alone, and moves
+    /// alone wait for it: no implicit sync.
     Hold,
-    /// Its packets may read and write the buffer, as memory management does that moves it. It waits for everybody, and
-    /// everybody for it. Only an entity of KERNEL priority declares it.
+    /// Its packets may read and write the buffer, as memory management does when it clears, evicts or moves the buffer
+    /// (`DMA_RESV_USAGE_KERNEL`). It waits for everybody, and everybody for it. Only an entity of KERNEL priority
+    /// declares it.
     Move,
 }
 
 /// What a fence stands for at a buffer (`enum dma_resv_usage`), strongest first. Asking for a usage gives the
-/// fences of that usage and of all stronger ones.
+/// fences of that usage and of all stronger ones (`dma_resv_for_each_fence`).
 #[derive(Clone, Copy, Debug, PartialEq, Eq)]
 pub enum Usage {
-    /// Memory management. Everybody waits for it.
+    /// Memory management: a move (`Access::Move`). Everybody waits for it.
     Kernel,
-    /// An implicit writer. Readers and writers wait for it.
+    /// An implicit writer (`Access::Write`). Readers, writers and memory management wait for it.
     Write,
-    /// An implicit reader. Writers wait for it.
+    /// An implicit reader (`Access::Read`). Writers and memory management wait for it.
     Read,
-    /// No implicit sync. Only memory management waits for it.
+    /// No implicit sync (`Access::Hold`). Only memory management waits for it.
     Bookkeep,
 }
 
 /// The weakest usage that a job with this access waits for (`dma_resv_usage_rw`).
 ///
-/// It is right that the two names cross: a new reader waits for the writers, and a new writer for the readers
-/// too, which asking for READ gives since WRITE is the stronger.
+/// It is right that the names cross: a new reader waits for the writers, and a new writer for the readers too, which
+/// asking for READ gives since WRITE is the stronger. So a hold asks for KERNEL, the moves alone, and a move asks for
+/// BOOKKEEP, all fences of the buffer.
 pub fn wanted(access: Access) -> Usage
     ensures { result ≡ wanted_usage access }
 {

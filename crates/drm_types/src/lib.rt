@@ -2,7 +2,7 @@
 //! of a device with its limits.
 //!
 //! What a caller may rely on: `DeviceSpec::check` accepts exactly the descriptions within the limits and names
-//! the first part that is not; `wanted` and `adds` are the two tables of implicit sync.
+//! the first part that is not; `wanted` and `adds` are the two tables of implicit sync, for all four usages.
 #![tactic(auto)]
 
 mod access;

@@ -42,12 +42,13 @@ pub struct RingSpec {
     pub hang_limit: u32,
 }
 
-/// An entity: its rings and its priority.
+/// An entity (`drm_sched_entity_init`): the rings that it may feed, and its priority on each of them.
 #[derive(Drop)]
 pub struct EntitySpec {
-    /// The rings that it may feed (`sched_list`): 1 to 8 that are there, none twice.
+    /// The rings that it may feed (`sched_list`): 1 to 8 that are there, none twice. At an arming an entity without
+    /// work moves to the one with the least load, which is the first of them at a tie (`drm_sched_entity_select_rq`).
     pub rings: Sequence<RingId>,
-    /// The run queue of the ring in which it stands.
+    /// In which of its ring's run queues it stands.
     pub priority: Priority,
 }
 
@@ -58,7 +59,7 @@ pub struct DeviceSpec {
     pub buffers: Sequence<Sequence<u8>>,
     /// 1 to 8 rings.
     pub rings: Sequence<RingSpec>,
-    /// 1 to 64 entities, each with rings that are there.
+    /// 1 to 64 entities, each with 1 to 8 rings that are there.
     pub entities: Sequence<EntitySpec>,
     /// How many jobs the device takes in its life, 1 to 65,535.
     pub max_jobs: u32,
@@ -67,8 +68,8 @@ pub struct DeviceSpec {
 /// The first part of a description that is out of its limits, and the index in it.
 ///
 /// Parts: 0 number of buffers, 1 size of a buffer, 2 number of rings, 3 credit limit, 4 timeout and 5 hang
-/// limit of a ring, 6 number of entities, 7 rings of an entity, 8 number of jobs. Parts 0, 2, 6 and 8 have
-/// index 0.
+/// limit of a ring, 6 number of entities, 7 the list of an entity's rings (no ring, more than 8, one that is not there,
+/// or one that stands twice), 8 number of jobs. Parts 0, 2, 6 and 8 have index 0.
 #[derive(Clone, Copy, Debug, PartialEq, Eq)]
 pub struct BadSpec {
     /// The number of the part, 0 to 8, as they are listed above.

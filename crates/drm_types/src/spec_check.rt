@@ -153,6 +153,7 @@ fn bad_hang_limit(rings: &[RingSpec]) -> Option<usize>
         .position(|ring| !is_between(0, 1000, ring.hang_limit as usize))
 }
 
+// The place of the first entity whose list of rings is none.
 fn bad_rings(entities: &[EntitySpec], rings: usize) -> Option<usize>
     ensures place { result ≡ position (λ entity. not (are_rings_of rings entity.rings)) entities.now }
     ensures within { IfSome result (λ i. i < length entities.now) }

@@ -1,6 +1,6 @@
-use Rattle.std.proofs.Common.{◌≡◌, Some, true, false, slice_get, sym, ap, ◌∙◌}
+use Rattle.std.proofs.Common.{◌≡◌, Some, false, slice_get, sym, ap, ◌∙◌}
 use Rattle.drm_buffer.specs.Stored.{Stored, set_out}
-use Rattle.drm_packet.specs.Parts.{target_of, source_of, put_bytes}
+use Rattle.drm_packet.specs.Parts.{source_of, put_bytes}
 use Rattle.drm_packet.proofs.InStores.{apart_buffers, source_touched, set_out_other, come_back}
 use Rattle.drm_packet.proofs.Packet.put.Goals as goal
 

@@ -1,4 +1,4 @@
-use Rattle.std.proofs.Common.{◌≡◌, ℕ, Some, None, true, false, List, set, slice_get, sym, ap, ◌∙◌}
+use Rattle.std.proofs.Common.{◌≡◌, ℕ, Some, true, false, List, set, slice_get, sym, ap, ◌∙◌}
 use Rattle.drm_buffer.specs.Stored.{Stored}
 use Rattle.drm_packet.specs.Parts.{target_of, source_of}
 use Rattle.drm_packet.proofs.InStores.{apart_buffers, get_other, get_same, ran_alone, ran_beside}

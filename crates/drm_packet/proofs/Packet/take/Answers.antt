@@ -1,4 +1,4 @@
-use Rattle.std.proofs.Common.{◌≡◌, Some, true, false, slice_get, sym, ap, ◌∙◌}
+use Rattle.std.proofs.Common.{◌≡◌, Some, true, slice_get, sym, ap, ◌∙◌}
 use Rattle.drm_buffer.specs.Stored.{Stored}
 use Rattle.drm_packet.specs.Parts.{source_of}
 use Rattle.drm_packet.proofs.InStores.{apart_buffers, source_touched, set_out_other}

@@ -6,3 +6,9 @@ returns-in-Read c = search rules
 
 pub returns-in-Write : goal.returns-in-Write
 returns-in-Write c = search rules
+
+pub returns-in-Hold : goal.returns-in-Hold
+returns-in-Hold c = search rules
+
+pub returns-in-Move : goal.returns-in-Move
+returns-in-Move c = search rules
