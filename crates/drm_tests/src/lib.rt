@@ -2,7 +2,8 @@
 //! share. They call public items alone.
 #![tactic(auto)]
 
-ghost use Rattle.std.specs.Prelude.{◌≡◌, IfOk, length, replicate};
+ghost use Rattle.std.specs.Prelude.{◌≡◌, [], ◌∷◌, IfOk, length, replicate};
+ghost use Rattle.drm_types.specs.declared.spec.Priority.TheVariants as priority;
 
 #[cfg(test)]
 mod buffer;
@@ -61,6 +62,20 @@ pub fn ring_of(credit_limit: u16) -> RingSpec
     }
 }
 
+// So many entities of NORMAL priority on the first ring.
+fn entities_of(alloc: Global, count: usize) -> Result<Sequence<EntitySpec>, AllocError>
+    ensures { IfOk result (λ entities. entities ≡ replicate count (record { rings = 0 ∷ []; priority = priority.Normal })) }
+{
+    let mut entities = Sequence::new(alloc);
+    for _ in 0..count {
+        entities.push(EntitySpec {
+            rings: Sequence::from_vec(vec![in alloc; 0; 1]?),
+            priority: Priority::Normal,
+        })?;
+    }
+    Ok(entities)
+}
+
 /// A device of these buffers, of so many rings alike, and of so many entities of NORMAL priority on the first of them.
 pub fn device(
     alloc: Global,
@@ -71,18 +86,14 @@ pub fn device(
 ) -> Result<DeviceSpec, AllocError>
     ensures buffers { IfOk result (λ spec. spec.buffers ≡ buffers) }
     ensures rings { IfOk result (λ spec. spec.rings ≡ replicate rings.0 (record { credit_limit = rings.1; timeout = 10; hang_limit = 0 })) }
-    ensures entities { IfOk result (λ spec. length spec.entities ≡ entities) }
+    ensures entities { IfOk result (λ spec. spec.entities ≡ replicate entities (record { rings = 0 ∷ []; priority = priority.Normal })) }
     ensures jobs { IfOk result (λ spec. spec.max_jobs ≡ max_jobs) }
 {
     let ring = ring_of(rings.1);
-    let entity = EntitySpec {
-        ring: 0,
-        priority: Priority::Normal,
-    };
     Ok(DeviceSpec {
         buffers,
         rings: Sequence::from_vec(vec![in alloc; ring; rings.0]?),
-        entities: Sequence::from_vec(vec![in alloc; entity; entities]?),
+        entities: entities_of(alloc, entities)?,
         max_jobs,
     })
 }

@@ -72,7 +72,7 @@ fn runs(device: &mut Device) -> bool {
                 packet: 0
             })
         )
-        && device.timeout(0, 10) == Ok(Expired::Complete)
+        && matches!(device.timeout(0, 10), Ok(Expired::Complete))
         && matches!(
             device.finish(0, 10),
             Ok(Finished {

@@ -1,7 +1,7 @@
 //! Packets that are out of a device: two jobs that read one buffer.
 
-use super::{ENTITY, Job, OTHER, RING, Work, device, draft_of};
-use crate::{Begun, Device, Held, Plan, Refusal};
+use crate::{ENTITY, Job, OTHER, RING, Work, device, draft_of};
+use drm_core::{Begun, Device, Held, Plan, Refusal};
 use drm_job::check;
 use drm_resv::{Deps, Resv};
 use drm_types::{Access, BufferId};
