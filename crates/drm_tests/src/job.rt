@@ -43,11 +43,7 @@ struct Case(
 
 /// Two jobs by what they declare, and whether they conflict.
 #[derive(Clone, Copy, Debug)]
-struct Pair(
-    &'static [(u32, Access)],
-    &'static [(u32, Access)],
-    bool,
-);
+struct Pair(&'static [(u32, Access)], &'static [(u32, Access)], bool);
 
 fn sample(alloc: Global) -> Result<DeviceSpec, AllocError> {
     let mut spec = device(alloc, buffers_of(alloc, &[&[0; 4], &[0; 4]])?, (1, 4), 1, 8)?;
@@ -131,17 +127,50 @@ fn first_wrong(alloc: Global, cases: &[Case]) -> Result<Option<Case>, AllocError
 }
 
 const UNDECLARED: Want = Fault(JobFault::PacketUndeclared { packet: 0 });
+
 const ON_HOLD: Want = Fault(JobFault::PacketOnHold { packet: 0 });
+
 const READ_ONLY: Want = Fault(JobFault::PacketReadOnly { packet: 0 });
+
 const OUT_OF_RANGE: Want = Fault(JobFault::PacketRange { packet: 0 });
 
 const LISTS_AND_BUFFERS: [Case; 8] = [
-    Case(5, 0, &[(9, Write)], &[Fill(1, 9, 9)], Fault(JobFault::NoEntity)),
+    Case(
+        5,
+        0,
+        &[(9, Write)],
+        &[Fill(1, 9, 9)],
+        Fault(JobFault::NoEntity),
+    ),
     Case(2, 1, &[], &[Fill(1, 9, 9)], Fault(JobFault::NoEntity)),
-    Case(0, 0, &[(9, Write)], &[Fill(1, 9, 9)], Fault(JobFault::NoCredits)),
-    Case(0, 1, &[(9, Write), (9, Write)], &[Fill(1, 9, 9)], NoBuffer(9)),
-    Case(0, 1, &[(0, Read), (0, Read), (2, Read)], &[Fill(1, 9, 9)], NoBuffer(2)),
-    Case(0, 1, &[(0, Write), (0, Read)], &[Fill(1, 9, 9)], DeclaredTwice(0)),
+    Case(
+        0,
+        0,
+        &[(9, Write)],
+        &[Fill(1, 9, 9)],
+        Fault(JobFault::NoCredits),
+    ),
+    Case(
+        0,
+        1,
+        &[(9, Write), (9, Write)],
+        &[Fill(1, 9, 9)],
+        NoBuffer(9),
+    ),
+    Case(
+        0,
+        1,
+        &[(0, Read), (0, Read), (2, Read)],
+        &[Fill(1, 9, 9)],
+        NoBuffer(2),
+    ),
+    Case(
+        0,
+        1,
+        &[(0, Write), (0, Read)],
+        &[Fill(1, 9, 9)],
+        DeclaredTwice(0),
+    ),
     Case(
         0,
         1,
@@ -170,8 +199,20 @@ const ONE_BUFFER: [Case; 6] = [
         Fault(JobFault::PacketRange { packet: 1 }),
     ),
     Case(0, 1, &[(0, Write)], &[Fill(0, 1, 4)], OUT_OF_RANGE),
-    Case(0, 1, &[(0, Write)], &[Fill(0, 4_294_967_295, 1)], OUT_OF_RANGE),
-    Case(0, 1, &[(0, Write)], &[Fill(0, 1, 4_294_967_295)], OUT_OF_RANGE),
+    Case(
+        0,
+        1,
+        &[(0, Write)],
+        &[Fill(0, 4_294_967_295, 1)],
+        OUT_OF_RANGE,
+    ),
+    Case(
+        0,
+        1,
+        &[(0, Write)],
+        &[Fill(0, 1, 4_294_967_295)],
+        OUT_OF_RANGE,
+    ),
 ];
 
 #[test]
@@ -185,9 +226,27 @@ const TWO_BUFFERS: [Case; 6] = [
     Case(0, 1, &[(0, Write)], &[Copy(1, 0, 0, 0, 4)], UNDECLARED),
     Case(0, 1, &[(0, Write)], &[Copy(0, 0, 1, 0, 4)], UNDECLARED),
     Case(0, 1, &[(0, Read)], &[Copy(0, 0, 1, 0, 9)], UNDECLARED),
-    Case(0, 1, &[(0, Write), (1, Read)], &[Add(1, 0, 0, 0, 4), Stall(1)], Fits),
-    Case(0, 1, &[(0, Read), (1, Read)], &[Add(1, 0, 0, 0, 4)], READ_ONLY),
-    Case(0, 1, &[(0, Write)], &[Fill(0, 0, 9), Fill(1, 0, 1)], OUT_OF_RANGE),
+    Case(
+        0,
+        1,
+        &[(0, Write), (1, Read)],
+        &[Add(1, 0, 0, 0, 4), Stall(1)],
+        Fits,
+    ),
+    Case(
+        0,
+        1,
+        &[(0, Read), (1, Read)],
+        &[Add(1, 0, 0, 0, 4)],
+        READ_ONLY,
+    ),
+    Case(
+        0,
+        1,
+        &[(0, Write)],
+        &[Fill(0, 0, 9), Fill(1, 0, 1)],
+        OUT_OF_RANGE,
+    ),
 ];
 
 #[test]
@@ -204,7 +263,13 @@ const MOVES: [Case; 9] = [
     Case(0, 1, &[(0, Move)], &[Fill(1, 9, 9)], MoveNotKernel(0)),
     Case(0, 1, &[(0, Hold), (0, Move)], &[], DeclaredTwice(0)),
     Case(0, 1, &[(0, Move), (9, Read)], &[], NoBuffer(9)),
-    Case(1, 1, &[(0, Move)], &[Fill(0, 0, 4), Copy(0, 0, 0, 1, 3)], Fits),
+    Case(
+        1,
+        1,
+        &[(0, Move)],
+        &[Fill(0, 0, 4), Copy(0, 0, 0, 1, 3)],
+        Fits,
+    ),
     Case(1, 1, &[(0, Move), (1, Hold)], &[], Fits),
     Case(1, 1, &[(0, Move)], &[Fill(0, 0, 5)], OUT_OF_RANGE),
 ];
@@ -221,7 +286,13 @@ const HOLDS: [Case; 9] = [
     Case(0, 1, &[(0, Hold)], &[Stall(0)], Fits),
     Case(0, 1, &[(0, Hold)], &[Fill(0, 0, 4)], ON_HOLD),
     Case(0, 1, &[(0, Hold)], &[Fill(0, 9, 9)], ON_HOLD),
-    Case(0, 1, &[(0, Hold), (1, Read)], &[Copy(0, 0, 1, 0, 4)], ON_HOLD),
+    Case(
+        0,
+        1,
+        &[(0, Hold), (1, Read)],
+        &[Copy(0, 0, 1, 0, 4)],
+        ON_HOLD,
+    ),
     Case(0, 1, &[(0, Hold)], &[Copy(0, 0, 1, 0, 4)], UNDECLARED),
     Case(0, 1, &[(0, Hold)], &[Add(1, 0, 0, 0, 4)], UNDECLARED),
     Case(
@@ -231,7 +302,13 @@ const HOLDS: [Case; 9] = [
         &[Fill(0, 0, 4), Copy(1, 0, 0, 0, 4)],
         Fault(JobFault::PacketOnHold { packet: 1 }),
     ),
-    Case(0, 1, &[(0, Write), (1, Hold)], &[Fill(0, 0, 9), Fill(1, 0, 1)], OUT_OF_RANGE),
+    Case(
+        0,
+        1,
+        &[(0, Write), (1, Hold)],
+        &[Fill(0, 0, 9), Fill(1, 0, 1)],
+        OUT_OF_RANGE,
+    ),
 ];
 
 #[test]
@@ -358,9 +435,6 @@ fn jobs_lend_their_draft(rt: HostRuntime) -> Result<(), Fail> {
     assert_eq!(rt; job.access_of(BufferId::new(0)), Some(Access::Write));
     assert_eq!(rt; job.access_of(BufferId::new(2)), None);
     assert!(rt; job.uses(BufferId::new(1)) && !job.uses(BufferId::new(2)));
-    assert_eq!(rt;
-        job.into_draft().declared.as_slice(),
-        declared.as_slice()
-    );
+    assert_eq!(rt; job.into_draft().declared.as_slice(), declared.as_slice());
     Ok(())
 }

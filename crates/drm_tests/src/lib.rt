@@ -2,7 +2,8 @@
 //! share. They call public items alone.
 #![tactic(auto)]
 
-ghost use Rattle.std.specs.Prelude.{◌≡◌, [], ◌∷◌, IfOk, length, replicate};
+ghost use Rattle.std.specs.Prelude.{◌≡◌, [], ◌∷◌, IfOk, length, map, replicate};
+ghost use Rattle.drm_buffer.specs.Stored.{all_in};
 ghost use Rattle.drm_types.specs.declared.spec.Priority.TheVariants as priority;
 
 #[cfg(test)]
@@ -16,6 +17,8 @@ mod job;
 #[cfg(test)]
 mod packet;
 #[cfg(test)]
+mod parts;
+#[cfg(test)]
 mod reset;
 #[cfg(test)]
 mod resv;
@@ -26,16 +29,19 @@ mod runq;
 #[cfg(test)]
 mod serial;
 #[cfg(test)]
+mod store;
+#[cfg(test)]
 mod types;
 
-use drm_buffer::Memory;
+use drm_buffer::{Memory, Store};
 use drm_packet::Packet;
 use drm_types::{BufferId, DeviceSpec, EntitySpec, Priority, RingSpec, Sequence};
 use std::alloc::{AllocError, Global};
 
 /// Buffers with these bytes.
 pub fn buffers_of(alloc: Global, lists: &[&[u8]]) -> Result<Sequence<Sequence<u8>>, AllocError>
-    ensures { IfOk result (λ buffers. length buffers ≡ length lists.now) }
+    ensures bytes { IfOk result (λ buffers. buffers ≡ map (λ list. list.now) lists.now) }
+    ensures count { IfOk result (λ buffers. length buffers ≡ length lists.now) }
 {
     let mut buffers = Sequence::new(alloc);
     for list in lists {
@@ -49,6 +55,13 @@ pub fn memory_of(alloc: Global, lists: &[&[u8]]) -> Result<Memory, AllocError>
     ensures { IfOk result (λ memory. length memory ≡ length lists.now) }
 {
     Ok(Memory::new(buffers_of(alloc, lists)?))
+}
+
+/// A store with these bytes, of which nothing is out.
+pub fn store_of(alloc: Global, lists: &[&[u8]]) -> Result<Store, AllocError>
+    ensures { IfOk result (λ store. store ≡ all_in (map (λ list. list.now) lists.now)) }
+{
+    Store::copy_of(alloc, &buffers_of(alloc, lists)?)
 }
 
 /// A ring with this credit limit, whose head hangs at the age of 10, and whose entities are guilty at the first hang.
