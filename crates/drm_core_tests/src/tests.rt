@@ -1,14 +1,18 @@
 //! Worked runs of a core, event by event: tables of what is done and what the core has to say.
+mod choosing;
 mod device_calls;
 mod locking;
 mod outside;
 mod recovery;
 mod running;
+mod usages;
 
 use crate::{Job, draft_of};
 use drm_core::{Answer, BuildError, Core, Event, Refusal};
 use drm_job::JobFault;
-use drm_types::{BufferId, CtxId, DeviceSpec, EntityId, FenceId, Moment, Outcome, RingId, Ticket};
+use drm_types::{
+    BadSpec, BufferId, CtxId, DeviceSpec, EntityId, FenceId, Moment, Outcome, RingId, Ticket,
+};
 use std::alloc::{AllocError, Global};
 
 /// An event, of numbers alone.
@@ -42,6 +46,7 @@ pub enum Say {
     /// The refusals that name a buffer.
     NoBuffer(u32),
     DeclaredTwice(u32),
+    MoveNotKernel(u32),
     NotHeld(u32),
     StillHolds(u32),
     HeldByOther(u32),
@@ -89,6 +94,15 @@ pub fn first_wrong(
         }
     }
     Ok(None)
+}
+
+/// The part of the description for which no core is built.
+pub fn bad_part(alloc: Global, spec: DeviceSpec) -> Result<Option<BadSpec>, AllocError> {
+    match Core::build(alloc, spec) {
+        Ok(_core) => Ok(None),
+        Err(BuildError::Memory) => Err(AllocError),
+        Err(BuildError::Spec(bad)) => Ok(Some(bad)),
+    }
 }
 
 fn event_of(alloc: Global, event: Do) -> Result<Event, AllocError> {
@@ -181,6 +195,12 @@ fn says(given: &Answer, want: &Say) -> bool {
         Say::DeclaredTwice(b) => is_faulty(
             given,
             JobFault::DeclaredTwice {
+                buffer: BufferId::new(b),
+            },
+        ),
+        Say::MoveNotKernel(b) => is_faulty(
+            given,
+            JobFault::MoveNotKernel {
                 buffer: BufferId::new(b),
             },
         ),

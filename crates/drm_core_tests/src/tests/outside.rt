@@ -67,13 +67,15 @@ fn a_buffer_that_is_out_keeps_the_other_ring(rt: HostRuntime) -> Result<(), Fail
     assert!(rt; matches!(device.finish(0, 1), Err(Refusal::PacketOut)));
     assert!(rt; matches!(device.timeout(0, 20), Err(Refusal::PacketOut)));
     assert!(rt; device.timeout(1, 5).is_ok());
-    let Ok(Begun::Work {
-        fence,
-        packet,
-        copy,
-        write: Some(mut write),
-        read,
-    }) = begun
+    let Ok(
+        Begun::Work {
+            fence,
+            packet,
+            copy,
+            write: Some(mut write),
+            read,
+        },
+    ) = begun
     else {
         panic!(rt; "not begun");
     };
@@ -82,6 +84,15 @@ fn a_buffer_that_is_out_keeps_the_other_ring(rt: HostRuntime) -> Result<(), Fail
     assert_eq!(rt; device.report(0, Some(write), read), (0, 0));
     assert!(rt; device.bytes(BufferId::new(1)) == [5, 6, 7, 8].as_slice());
     assert!(rt; device.finish(0, 1).is_ok());
-    assert!(rt; matches!(device.begin_step(1), Ok(Begun::Work { fence: 1, packet: 0, .. })));
+    assert!(rt;
+        matches!(
+            device.begin_step(1),
+            Ok(Begun::Work {
+                fence: 1,
+                packet: 0,
+                ..
+            })
+        )
+    );
     Ok(())
 }
