@@ -1,6 +1,7 @@
 //! Worked runs of a core, event by event: tables of what is done and what the core has to say.
 mod choosing;
 mod device_calls;
+mod loads;
 mod locking;
 mod outside;
 mod recovery;

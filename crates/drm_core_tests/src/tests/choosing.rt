@@ -9,7 +9,7 @@ use drm_types::{BadSpec, Outcome, Priority};
 use std::test::Fail;
 
 /// An entity of both rings, and one that lists the second first.
-const EITHER: Entity = Entity {
+pub const EITHER: Entity = Entity {
     rings: &[0, 1],
     priority: Priority::Normal,
 };

@@ -137,10 +137,7 @@ const A_READBACK_WAITS_FOR_A_MOVE: [(Do, Say); 4] = [
 fn a_readback_passes_a_hold(rt: HostRuntime) -> Result<(), Fail> {
     let alloc = rt.alloc();
     let spec = device(alloc, &[&[0; 4]], &[RING], &[ENTITY], 8)?;
-    assert_eq!(rt;
-        first_wrong(alloc, spec, &A_READBACK_PASSES_A_HOLD)?,
-        None
-    );
+    assert_eq!(rt; first_wrong(alloc, spec, &A_READBACK_PASSES_A_HOLD)?, None);
     Ok(())
 }
 
@@ -154,7 +151,10 @@ fn a_readback_waits_for_a_move(rt: HostRuntime) -> Result<(), Fail> {
         &[ENTITY, MOVER],
         8,
     )?;
-    assert_eq!(rt; first_wrong(alloc, spec, &A_READBACK_WAITS_FOR_A_MOVE)?, None);
+    assert_eq!(rt;
+        first_wrong(alloc, spec, &A_READBACK_WAITS_FOR_A_MOVE)?,
+        None
+    );
     Ok(())
 }
 
