@@ -185,12 +185,15 @@ fn runs_outside(device: &mut Device) -> bool
     let Ok(
         Begun::Work {
             copy,
-            write: Some(mut write),
-            read: Some(read),
+            write,
+            read,
             ..
         },
     ) = device.begin_step(0)
     else {
+        return false;
+    };
+    let (Some(mut write), Some(read)) = (write, read) else {
         return false;
     };
     let Packet::Copy {
@@ -246,16 +249,19 @@ fn runs_a_stall(device: &mut Device) -> bool
     }
     let Ok(
         Begun::Work {
-            copy: Packet::Stall { resets: 0 },
-            write: None,
-            read: None,
+            copy,
+            write,
+            read,
             ..
         },
     ) = device.begin_step(0)
     else {
         return false;
     };
-    device.report(0, None, None) == (0, 0)
+    if copy != (Packet::Stall { resets: 0 }) || write.is_some() || read.is_some() {
+        return false;
+    }
+    device.report(0, write, read) == (0, 0)
 }
 
 fn is_stalled(device: &mut Device) -> bool {
