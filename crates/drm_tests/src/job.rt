@@ -32,7 +32,7 @@ enum Want {
 }
 
 /// A draft without fences: entity, credits, declared buffers, packets.
-#[derive(Clone, Copy, Debug)]
+#[derive(Clone, Copy)]
 struct Case(
     EntityId,
     u16,
@@ -82,7 +82,7 @@ fn packets_of(alloc: Global, list: &[Work]) -> Result<Sequence<Packet>, AllocErr
     Ok(packets)
 }
 
-fn draft_of(alloc: Global, case: Case) -> Result<Draft, AllocError> {
+fn draft_of(alloc: Global, case: &Case) -> Result<Draft, AllocError> {
     Ok(Draft {
         entity: case.0,
         credits: case.1,
@@ -115,12 +115,12 @@ fn wanted(want: Want) -> Option<JobFault> {
     }
 }
 
-// The first draft of which the check says otherwise.
-fn first_wrong(alloc: Global, cases: &[Case]) -> Result<Option<Case>, AllocError> {
+// The first draft, counted from 1, of which the check says otherwise.
+fn first_wrong(alloc: Global, cases: &[Case]) -> Result<Option<usize>, AllocError> {
     let spec = sample(alloc)?;
-    for case in cases {
-        if fault_of(draft_of(alloc, *case)?, &spec) != wanted(case.4) {
-            return Ok(Some(*case));
+    for (place, case) in cases.iter().enumerate() {
+        if fault_of(draft_of(alloc, case)?, &spec) != wanted(case.4) {
+            return Ok(Some(place + 1));
         }
     }
     Ok(None)
@@ -183,8 +183,7 @@ const LISTS_AND_BUFFERS: [Case; 8] = [
 
 #[test]
 fn lists_and_buffers(rt: HostRuntime) -> Result<(), Fail> {
-    let wrong = first_wrong(rt.alloc(), &LISTS_AND_BUFFERS)?;
-    assert!(rt; wrong.is_none(), "{wrong:?}");
+    assert_eq!(rt; first_wrong(rt.alloc(), &LISTS_AND_BUFFERS)?, None);
     Ok(())
 }
 
@@ -217,8 +216,7 @@ const ONE_BUFFER: [Case; 6] = [
 
 #[test]
 fn packets_of_one_buffer(rt: HostRuntime) -> Result<(), Fail> {
-    let wrong = first_wrong(rt.alloc(), &ONE_BUFFER)?;
-    assert!(rt; wrong.is_none(), "{wrong:?}");
+    assert_eq!(rt; first_wrong(rt.alloc(), &ONE_BUFFER)?, None);
     Ok(())
 }
 
@@ -251,8 +249,7 @@ const TWO_BUFFERS: [Case; 6] = [
 
 #[test]
 fn packets_of_two_buffers(rt: HostRuntime) -> Result<(), Fail> {
-    let wrong = first_wrong(rt.alloc(), &TWO_BUFFERS)?;
-    assert!(rt; wrong.is_none(), "{wrong:?}");
+    assert_eq!(rt; first_wrong(rt.alloc(), &TWO_BUFFERS)?, None);
     Ok(())
 }
 
@@ -276,8 +273,7 @@ const MOVES: [Case; 9] = [
 
 #[test]
 fn only_the_kernel_moves(rt: HostRuntime) -> Result<(), Fail> {
-    let wrong = first_wrong(rt.alloc(), &MOVES)?;
-    assert!(rt; wrong.is_none(), "{wrong:?}");
+    assert_eq!(rt; first_wrong(rt.alloc(), &MOVES)?, None);
     Ok(())
 }
 
@@ -313,8 +309,7 @@ const HOLDS: [Case; 9] = [
 
 #[test]
 fn packets_touch_nothing_on_hold(rt: HostRuntime) -> Result<(), Fail> {
-    let wrong = first_wrong(rt.alloc(), &HOLDS)?;
-    assert!(rt; wrong.is_none(), "{wrong:?}");
+    assert_eq!(rt; first_wrong(rt.alloc(), &HOLDS)?, None);
     Ok(())
 }
 

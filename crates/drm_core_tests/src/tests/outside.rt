@@ -42,7 +42,8 @@ fn job_of(alloc: Global, device: &Device, job: Job) -> Option<drm_job::Job>
     }
 }
 
-fn is_armed(armed: Result<FenceId, (Plan, Refusal)>, fence: FenceId) -> bool {
+/// Whether the job of this number was armed.
+pub fn is_armed(armed: Result<FenceId, (Plan, Refusal)>, fence: FenceId) -> bool {
     match armed {
         Ok(number) => number == fence,
         Err((_plan, _refusal)) => false,
