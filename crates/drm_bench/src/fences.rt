@@ -11,7 +11,7 @@ pub(crate) fn device(alloc: Global, credit_limit: u16) -> Result<DeviceSpec, All
     let mut entities = Sequence::new(alloc);
     for _ in 0..64 {
         entities.push(EntitySpec {
-            ring: 0,
+            rings: Sequence::from_vec(vec![in alloc; 0; 1]?),
             priority: Priority::Normal,
         })?;
     }

@@ -3,7 +3,7 @@
 //! The runs are tables of what is done and what the core has to say. They use the core as any caller does.
 #![tactic(auto)]
 
-ghost use Rattle.std.specs.Prelude.{◌≡◌, IfOk};
+ghost use Rattle.std.specs.Prelude.{◌≡◌, IfOk, map};
 
 #[cfg(test)]
 mod tests;
@@ -11,7 +11,8 @@ mod tests;
 use drm_job::Draft;
 use drm_packet::Packet;
 use drm_types::{
-    Access, BufferId, DeviceSpec, EntityId, EntitySpec, FenceId, Priority, RingSpec, Sequence,
+    Access, BufferId, DeviceSpec, EntityId, EntitySpec, FenceId, Priority, RingId, RingSpec,
+    Sequence,
 };
 use std::alloc::{AllocError, Global};
 
@@ -34,6 +35,13 @@ pub struct Job(
     pub &'static [Work],
 );
 
+/// An entity of a device: its rings and its priority.
+#[derive(Clone, Copy)]
+pub struct Entity {
+    pub rings: &'static [RingId],
+    pub priority: Priority,
+}
+
 /// Four credits, a timeout of ten, and no hang is forgiven.
 pub const RING: RingSpec = RingSpec {
     credit_limit: 4,
@@ -42,26 +50,40 @@ pub const RING: RingSpec = RingSpec {
 };
 
 /// An entity of ring 0, and one of ring 1.
-pub const ENTITY: EntitySpec = EntitySpec {
-    ring: 0,
+pub const ENTITY: Entity = Entity {
+    rings: &[0],
     priority: Priority::Normal,
 };
 
-pub const OTHER: EntitySpec = EntitySpec {
-    ring: 1,
+pub const OTHER: Entity = Entity {
+    rings: &[1],
     priority: Priority::Normal,
 };
+
+// The descriptions of these entities.
+fn entities_of(alloc: Global, list: &[Entity]) -> Result<Sequence<EntitySpec>, AllocError>
+    ensures { IfOk result (λ entities. entities ≡ map (λ e. record { rings = e.rings.now; priority = e.priority }) list.now) }
+{
+    let mut entities = Sequence::new(alloc);
+    for entity in list {
+        entities.push(EntitySpec {
+            rings: Sequence::from_vec(Vec::from_slice(alloc, entity.rings)?),
+            priority: entity.priority,
+        })?;
+    }
+    Ok(entities)
+}
 
 /// A device of these rings and entities, whose buffers begin with these bytes.
 pub fn device(
     alloc: Global,
     first_bytes: &[&[u8]],
     rings: &[RingSpec],
-    entities: &[EntitySpec],
+    entities: &[Entity],
     max_jobs: u32,
 ) -> Result<DeviceSpec, AllocError>
     ensures rings { IfOk result (λ spec. spec.rings ≡ rings.now) }
-    ensures entities { IfOk result (λ spec. spec.entities ≡ entities.now) }
+    ensures entities { IfOk result (λ spec. spec.entities ≡ map (λ e. record { rings = e.rings.now; priority = e.priority }) entities.now) }
     ensures jobs { IfOk result (λ spec. spec.max_jobs ≡ max_jobs) }
 {
     let mut buffers = Sequence::new(alloc);
@@ -71,7 +93,7 @@ pub fn device(
     Ok(DeviceSpec {
         buffers,
         rings: Sequence::from_vec(Vec::from_slice(alloc, rings)?),
-        entities: Sequence::from_vec(Vec::from_slice(alloc, entities)?),
+        entities: entities_of(alloc, entities)?,
         max_jobs,
     })
 }

@@ -1,14 +1,19 @@
 //! Worked runs of a core, event by event: tables of what is done and what the core has to say.
+mod choosing;
 mod device_calls;
+mod loads;
 mod locking;
 mod outside;
 mod recovery;
 mod running;
+mod usages;
 
 use crate::{Job, draft_of};
 use drm_core::{Answer, BuildError, Core, Event, Refusal};
 use drm_job::JobFault;
-use drm_types::{BufferId, CtxId, DeviceSpec, EntityId, FenceId, Moment, Outcome, RingId, Ticket};
+use drm_types::{
+    BadSpec, BufferId, CtxId, DeviceSpec, EntityId, FenceId, Moment, Outcome, RingId, Ticket,
+};
 use std::alloc::{AllocError, Global};
 
 /// An event, of numbers alone.
@@ -42,6 +47,7 @@ pub enum Say {
     /// The refusals that name a buffer.
     NoBuffer(u32),
     DeclaredTwice(u32),
+    MoveNotKernel(u32),
     NotHeld(u32),
     StillHolds(u32),
     HeldByOther(u32),
@@ -89,6 +95,15 @@ pub fn first_wrong(
         }
     }
     Ok(None)
+}
+
+/// The part of the description for which no core is built.
+pub fn bad_part(alloc: Global, spec: DeviceSpec) -> Result<Option<BadSpec>, AllocError> {
+    match Core::build(alloc, spec) {
+        Ok(_core) => Ok(None),
+        Err(BuildError::Memory) => Err(AllocError),
+        Err(BuildError::Spec(bad)) => Ok(Some(bad)),
+    }
 }
 
 fn event_of(alloc: Global, event: Do) -> Result<Event, AllocError> {
@@ -139,27 +154,46 @@ fn is_refused(given: &Answer, want: &Refusal) -> bool {
 
 // Whether the two name the same cause. Causes with a buffer or a fault have words of their own.
 fn is_same(told: &Refusal, want: &Refusal) -> bool {
-    match want {
-        Refusal::NoFence { fence } => matches!(told, Refusal::NoFence { fence: f } if f == fence),
-        Refusal::NoCredit { need, free } =>
-            matches!(told, Refusal::NoCredit { need: n, free: f } if n == need && f == free),
-        Refusal::Busy { fence } => matches!(told, Refusal::Busy { fence: f } if f == fence),
-        Refusal::Memory => matches!(told, Refusal::Memory),
-        Refusal::Stopped => matches!(told, Refusal::Stopped),
-        Refusal::Full => matches!(told, Refusal::Full),
-        Refusal::Idle => matches!(told, Refusal::Idle),
-        Refusal::NotComplete => matches!(told, Refusal::NotComplete),
-        Refusal::AlreadyStopped => matches!(told, Refusal::AlreadyStopped),
-        Refusal::Waits => matches!(told, Refusal::Waits),
-        Refusal::Nothing => matches!(told, Refusal::Nothing),
-        Refusal::CtxBusy => matches!(told, Refusal::CtxBusy),
-        Refusal::CtxIdle => matches!(told, Refusal::CtxIdle),
-        Refusal::NotAllHeld => matches!(told, Refusal::NotAllHeld),
-        Refusal::NotPlanned => matches!(told, Refusal::NotPlanned),
-        Refusal::Sealed => matches!(told, Refusal::Sealed),
-        Refusal::TicketsOut => matches!(told, Refusal::TicketsOut),
-        Refusal::Already => matches!(told, Refusal::Already),
-        _ => false,
+    number_of(want) != 0
+        && number_of(told) == number_of(want)
+        && details_of(told) == details_of(want)
+}
+
+// The number of the cause, and 0 for those with words of their own.
+fn number_of(refusal: &Refusal) -> u32 {
+    match refusal {
+        Refusal::Memory => 12,
+        Refusal::NoFence { .. } => 20,
+        Refusal::Stopped => 30,
+        Refusal::Full => 31,
+        Refusal::Idle => 40,
+        Refusal::NoCredit { .. } => 41,
+        Refusal::NotComplete => 42,
+        Refusal::AlreadyStopped => 43,
+        Refusal::Waits => 44,
+        Refusal::Nothing => 45,
+        Refusal::Busy { .. } => 46,
+        Refusal::PacketOut => 47,
+        Refusal::CtxBusy => 50,
+        Refusal::CtxIdle => 51,
+        Refusal::NotAllHeld => 53,
+        Refusal::NotPlanned => 54,
+        Refusal::Sealed => 55,
+        Refusal::TicketsOut => 60,
+        Refusal::Already => 114,
+        Refusal::Faulty(_)
+        | Refusal::NotHeld { .. }
+        | Refusal::StillHolds { .. }
+        | Refusal::Held { .. } => 0,
+    }
+}
+
+// The fence that the cause names, or its credits; 0 where it names nothing.
+fn details_of(refusal: &Refusal) -> (u32, u32) {
+    match refusal {
+        Refusal::NoFence { fence } | Refusal::Busy { fence } => (*fence, 0),
+        Refusal::NoCredit { need, free } => (*need, *free),
+        _ => (0, 0),
     }
 }
 
@@ -181,6 +215,12 @@ fn says(given: &Answer, want: &Say) -> bool {
         Say::DeclaredTwice(b) => is_faulty(
             given,
             JobFault::DeclaredTwice {
+                buffer: BufferId::new(b),
+            },
+        ),
+        Say::MoveNotKernel(b) => is_faulty(
+            given,
+            JobFault::MoveNotKernel {
                 buffer: BufferId::new(b),
             },
         ),

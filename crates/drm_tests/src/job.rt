@@ -1,28 +1,94 @@
-//! The check on worked drafts of a device with two buffers of four bytes, one ring and two entities.
+//! The check on worked drafts, and which jobs conflict. The device has two buffers of four bytes, one ring, an entity of
+//! NORMAL priority and one of KERNEL priority.
+use crate::job::Want::{DeclaredTwice, Fault, Fits, MoveNotKernel, NoBuffer};
+use crate::job::Work::{Add, Copy, Fill, Stall};
 use crate::{add, buffers_of, copy, device, fill};
 use drm_job::{Draft, DraftList, Job, JobFault, check, conflicts};
 use drm_packet::Packet;
-use drm_types::{Access, BufferId, DeviceSpec, EntityId, Sequence};
+use drm_types::Access::{Hold, Move, Read, Write};
+use drm_types::{Access, BufferId, DeviceSpec, EntityId, EntitySpec, Priority, Sequence};
 use std::alloc::{AllocError, Global};
 use std::test::Fail;
 
-fn sample(alloc: Global) -> Result<DeviceSpec, AllocError> {
-    device(alloc, buffers_of(alloc, &[&[0; 4], &[0; 4]])?, (1, 4), 2, 8)
+/// A packet, with its buffers, offsets and length in the order of a script's words.
+#[derive(Clone, Copy, Debug)]
+enum Work {
+    Fill(u32, u32, u32),
+    Copy(u32, u32, u32, u32, u32),
+    Add(u32, u32, u32, u32, u32),
+    Stall(u16),
 }
 
-fn draft(
+/// What the check says of a draft.
+#[derive(Clone, Copy, Debug)]
+enum Want {
+    /// It is a job.
+    Fits,
+    Fault(JobFault),
+    /// The faults that name a buffer.
+    NoBuffer(u32),
+    DeclaredTwice(u32),
+    MoveNotKernel(u32),
+}
+
+/// A draft without fences: entity, credits, declared buffers, packets.
+#[derive(Clone, Copy)]
+struct Case(
+    EntityId,
+    u16,
+    &'static [(u32, Access)],
+    &'static [Work],
+    Want,
+);
+
+/// Two jobs by what they declare, and whether they conflict.
+#[derive(Clone, Copy, Debug)]
+struct Pair(&'static [(u32, Access)], &'static [(u32, Access)], bool);
+
+fn sample(alloc: Global) -> Result<DeviceSpec, AllocError> {
+    let mut spec = device(alloc, buffers_of(alloc, &[&[0; 4], &[0; 4]])?, (1, 4), 1, 8)?;
+    spec.entities.push(EntitySpec {
+        rings: Sequence::from_vec(vec![in alloc; 0; 1]?),
+        priority: Priority::Kernel,
+    })?;
+    Ok(spec)
+}
+
+fn packet_of(work: Work) -> Packet {
+    match work {
+        Fill(buffer, offset, len) => fill(buffer, offset, len),
+        Copy(source, from, target, to, len) => copy((source, from), (target, to), len),
+        Add(source, from, target, to, len) => add((source, from), (target, to), len),
+        Stall(resets) => Packet::Stall { resets },
+    }
+}
+
+fn declared_of(
     alloc: Global,
-    entity: EntityId,
-    credits: u16,
-    declared: &[(BufferId, Access)],
-    packets: &[Packet],
-) -> Result<Draft, AllocError> {
+    list: &[(u32, Access)],
+) -> Result<Sequence<(BufferId, Access)>, AllocError> {
+    let mut declared = Sequence::new(alloc);
+    for (buffer, access) in list {
+        declared.push((BufferId::new(*buffer), *access))?;
+    }
+    Ok(declared)
+}
+
+fn packets_of(alloc: Global, list: &[Work]) -> Result<Sequence<Packet>, AllocError> {
+    let mut packets = Sequence::new(alloc);
+    for work in list {
+        packets.push(packet_of(*work))?;
+    }
+    Ok(packets)
+}
+
+fn draft_of(alloc: Global, case: &Case) -> Result<Draft, AllocError> {
     Ok(Draft {
-        entity,
-        credits,
-        declared: Sequence::from_vec(Vec::from_slice(alloc, declared)?),
+        entity: case.0,
+        credits: case.1,
+        declared: declared_of(alloc, case.2)?,
         after: Sequence::new(alloc),
-        packets: Sequence::from_vec(Vec::from_slice(alloc, packets)?),
+        packets: packets_of(alloc, case.3)?,
     })
 }
 
@@ -33,190 +99,317 @@ fn fault_of(draft: Draft, spec: &DeviceSpec) -> Option<JobFault> {
     }
 }
 
-fn missing(buffer: u32) -> JobFault {
-    JobFault::NoBuffer {
-        buffer: BufferId::new(buffer),
+fn wanted(want: Want) -> Option<JobFault> {
+    match want {
+        Fits => None,
+        Fault(fault) => Some(fault),
+        NoBuffer(buffer) => Some(JobFault::NoBuffer {
+            buffer: BufferId::new(buffer),
+        }),
+        DeclaredTwice(buffer) => Some(JobFault::DeclaredTwice {
+            buffer: BufferId::new(buffer),
+        }),
+        MoveNotKernel(buffer) => Some(JobFault::MoveNotKernel {
+            buffer: BufferId::new(buffer),
+        }),
     }
 }
 
-fn declared_twice(buffer: u32) -> JobFault {
-    JobFault::DeclaredTwice {
-        buffer: BufferId::new(buffer),
+// The first draft, counted from 1, of which the check says otherwise.
+fn first_wrong(alloc: Global, cases: &[Case]) -> Result<Option<usize>, AllocError> {
+    let spec = sample(alloc)?;
+    for (place, case) in cases.iter().enumerate() {
+        if fault_of(draft_of(alloc, case)?, &spec) != wanted(case.4) {
+            return Ok(Some(place + 1));
+        }
     }
+    Ok(None)
 }
 
-fn too_many(what: DraftList) -> JobFault {
-    JobFault::TooMany { what }
-}
+const UNDECLARED: Want = Fault(JobFault::PacketUndeclared { packet: 0 });
 
-fn reads(buffer: u32) -> (BufferId, Access) {
-    (BufferId::new(buffer), Access::Read)
-}
+const ON_HOLD: Want = Fault(JobFault::PacketOnHold { packet: 0 });
 
-fn writes(buffer: u32) -> (BufferId, Access) {
-    (BufferId::new(buffer), Access::Write)
-}
+const READ_ONLY: Want = Fault(JobFault::PacketReadOnly { packet: 0 });
+
+const OUT_OF_RANGE: Want = Fault(JobFault::PacketRange { packet: 0 });
+
+const LISTS_AND_BUFFERS: [Case; 8] = [
+    Case(
+        5,
+        0,
+        &[(9, Write)],
+        &[Fill(1, 9, 9)],
+        Fault(JobFault::NoEntity),
+    ),
+    Case(2, 1, &[], &[Fill(1, 9, 9)], Fault(JobFault::NoEntity)),
+    Case(
+        0,
+        0,
+        &[(9, Write)],
+        &[Fill(1, 9, 9)],
+        Fault(JobFault::NoCredits),
+    ),
+    Case(
+        0,
+        1,
+        &[(9, Write), (9, Write)],
+        &[Fill(1, 9, 9)],
+        NoBuffer(9),
+    ),
+    Case(
+        0,
+        1,
+        &[(0, Read), (0, Read), (2, Read)],
+        &[Fill(1, 9, 9)],
+        NoBuffer(2),
+    ),
+    Case(
+        0,
+        1,
+        &[(0, Write), (0, Read)],
+        &[Fill(1, 9, 9)],
+        DeclaredTwice(0),
+    ),
+    Case(
+        0,
+        1,
+        &[(0, Read), (1, Read), (1, Read), (0, Read)],
+        &[Fill(1, 9, 9)],
+        DeclaredTwice(1),
+    ),
+    Case(1, 1, &[(0, Write), (1, Read)], &[Fill(1, 9, 9)], READ_ONLY),
+];
 
 #[test]
 fn lists_and_buffers(rt: HostRuntime) -> Result<(), Fail> {
-    let spec = sample(rt.alloc())?;
-    let cases: [(EntityId, u16, &[(BufferId, Access)], JobFault); 8] = [
-        (5, 0, &[writes(9)], JobFault::NoEntity),
-        (2, 1, &[], JobFault::NoEntity),
-        (0, 0, &[writes(9)], JobFault::NoCredits),
-        (0, 1, &[writes(9), writes(9)], missing(9)),
-        (0, 1, &[reads(0), reads(0), reads(2)], missing(2)),
-        (0, 1, &[writes(0), reads(0)], declared_twice(0)),
-        (
-            0,
-            1,
-            &[reads(0), reads(1), reads(1), reads(0)],
-            declared_twice(1),
-        ),
-        (
-            1,
-            1,
-            &[writes(0), reads(1)],
-            JobFault::PacketReadOnly { packet: 0 },
-        ),
-    ];
-    for (entity, credits, declared, want) in cases {
-        let draft = draft(rt.alloc(), entity, credits, declared, &[fill(1, 9, 9)])?;
-        assert_eq!(rt; fault_of(draft, &spec), Some(want));
-    }
+    assert_eq!(rt; first_wrong(rt.alloc(), &LISTS_AND_BUFFERS)?, None);
     Ok(())
 }
+
+const ONE_BUFFER: [Case; 6] = [
+    Case(0, 1, &[(0, Write)], &[Fill(0, 0, 4), Fill(0, 3, 1)], Fits),
+    Case(0, 1, &[(0, Read)], &[Fill(0, 9, 9)], READ_ONLY),
+    Case(
+        0,
+        1,
+        &[(0, Write)],
+        &[Fill(0, 0, 4), Fill(0, 0, 0)],
+        Fault(JobFault::PacketRange { packet: 1 }),
+    ),
+    Case(0, 1, &[(0, Write)], &[Fill(0, 1, 4)], OUT_OF_RANGE),
+    Case(
+        0,
+        1,
+        &[(0, Write)],
+        &[Fill(0, 4_294_967_295, 1)],
+        OUT_OF_RANGE,
+    ),
+    Case(
+        0,
+        1,
+        &[(0, Write)],
+        &[Fill(0, 1, 4_294_967_295)],
+        OUT_OF_RANGE,
+    ),
+];
 
 #[test]
 fn packets_of_one_buffer(rt: HostRuntime) -> Result<(), Fail> {
-    let spec = sample(rt.alloc())?;
-    let cases: [(&[(BufferId, Access)], &[Packet], Option<JobFault>); 6] = [
-        (&[writes(0)], &[fill(0, 0, 4), fill(0, 3, 1)], None),
-        (
-            &[reads(0)],
-            &[fill(0, 9, 9)],
-            Some(JobFault::PacketReadOnly { packet: 0 }),
-        ),
-        (
-            &[writes(0)],
-            &[fill(0, 0, 4), fill(0, 0, 0)],
-            Some(JobFault::PacketRange { packet: 1 }),
-        ),
-        (
-            &[writes(0)],
-            &[fill(0, 1, 4)],
-            Some(JobFault::PacketRange { packet: 0 }),
-        ),
-        (
-            &[writes(0)],
-            &[fill(0, u32::MAX, 1)],
-            Some(JobFault::PacketRange { packet: 0 }),
-        ),
-        (
-            &[writes(0)],
-            &[fill(0, 1, u32::MAX)],
-            Some(JobFault::PacketRange { packet: 0 }),
-        ),
-    ];
-    for (declared, packets, want) in cases {
-        let draft = draft(rt.alloc(), 0, 1, declared, packets)?;
-        assert_eq!(rt; fault_of(draft, &spec), want, "{want:?}");
-    }
+    assert_eq!(rt; first_wrong(rt.alloc(), &ONE_BUFFER)?, None);
     Ok(())
 }
 
+const TWO_BUFFERS: [Case; 6] = [
+    Case(0, 1, &[(0, Write)], &[Copy(1, 0, 0, 0, 4)], UNDECLARED),
+    Case(0, 1, &[(0, Write)], &[Copy(0, 0, 1, 0, 4)], UNDECLARED),
+    Case(0, 1, &[(0, Read)], &[Copy(0, 0, 1, 0, 9)], UNDECLARED),
+    Case(
+        0,
+        1,
+        &[(0, Write), (1, Read)],
+        &[Add(1, 0, 0, 0, 4), Stall(1)],
+        Fits,
+    ),
+    Case(
+        0,
+        1,
+        &[(0, Read), (1, Read)],
+        &[Add(1, 0, 0, 0, 4)],
+        READ_ONLY,
+    ),
+    Case(
+        0,
+        1,
+        &[(0, Write)],
+        &[Fill(0, 0, 9), Fill(1, 0, 1)],
+        OUT_OF_RANGE,
+    ),
+];
+
 #[test]
 fn packets_of_two_buffers(rt: HostRuntime) -> Result<(), Fail> {
-    let spec = sample(rt.alloc())?;
-    let cases: [(&[(BufferId, Access)], &[Packet], Option<JobFault>); 6] = [
-        (
-            &[writes(0)],
-            &[copy((1, 0), (0, 0), 4)],
-            Some(JobFault::PacketUndeclared { packet: 0 }),
-        ),
-        (
-            &[writes(0)],
-            &[copy((0, 0), (1, 0), 4)],
-            Some(JobFault::PacketUndeclared { packet: 0 }),
-        ),
-        (
-            &[reads(0)],
-            &[copy((0, 0), (1, 0), 9)],
-            Some(JobFault::PacketUndeclared { packet: 0 }),
-        ),
-        (
-            &[writes(0), reads(1)],
-            &[add((1, 0), (0, 0), 4), Packet::Stall { resets: 1 }],
-            None,
-        ),
-        (
-            &[reads(0), reads(1)],
-            &[add((1, 0), (0, 0), 4)],
-            Some(JobFault::PacketReadOnly { packet: 0 }),
-        ),
-        (
-            &[writes(0)],
-            &[fill(0, 0, 9), fill(1, 0, 1)],
-            Some(JobFault::PacketRange { packet: 0 }),
-        ),
-    ];
-    for (declared, packets, want) in cases {
-        let draft = draft(rt.alloc(), 0, 1, declared, packets)?;
-        assert_eq!(rt; fault_of(draft, &spec), want, "{want:?}");
-    }
+    assert_eq!(rt; first_wrong(rt.alloc(), &TWO_BUFFERS)?, None);
     Ok(())
+}
+
+const MOVES: [Case; 9] = [
+    Case(0, 1, &[(0, Move)], &[], MoveNotKernel(0)),
+    Case(0, 1, &[(0, Read), (1, Move)], &[], MoveNotKernel(1)),
+    Case(0, 1, &[(1, Move), (0, Move)], &[], MoveNotKernel(1)),
+    Case(0, 1, &[(0, Move)], &[Fill(1, 9, 9)], MoveNotKernel(0)),
+    Case(0, 1, &[(0, Hold), (0, Move)], &[], DeclaredTwice(0)),
+    Case(0, 1, &[(0, Move), (9, Read)], &[], NoBuffer(9)),
+    Case(
+        1,
+        1,
+        &[(0, Move)],
+        &[Fill(0, 0, 4), Copy(0, 0, 0, 1, 3)],
+        Fits,
+    ),
+    Case(1, 1, &[(0, Move), (1, Hold)], &[], Fits),
+    Case(1, 1, &[(0, Move)], &[Fill(0, 0, 5)], OUT_OF_RANGE),
+];
+
+#[test]
+fn only_the_kernel_moves(rt: HostRuntime) -> Result<(), Fail> {
+    assert_eq!(rt; first_wrong(rt.alloc(), &MOVES)?, None);
+    Ok(())
+}
+
+const HOLDS: [Case; 9] = [
+    Case(0, 1, &[(0, Hold)], &[], Fits),
+    Case(0, 1, &[(0, Hold)], &[Stall(0)], Fits),
+    Case(0, 1, &[(0, Hold)], &[Fill(0, 0, 4)], ON_HOLD),
+    Case(0, 1, &[(0, Hold)], &[Fill(0, 9, 9)], ON_HOLD),
+    Case(
+        0,
+        1,
+        &[(0, Hold), (1, Read)],
+        &[Copy(0, 0, 1, 0, 4)],
+        ON_HOLD,
+    ),
+    Case(0, 1, &[(0, Hold)], &[Copy(0, 0, 1, 0, 4)], UNDECLARED),
+    Case(0, 1, &[(0, Hold)], &[Add(1, 0, 0, 0, 4)], UNDECLARED),
+    Case(
+        0,
+        1,
+        &[(0, Write), (1, Hold)],
+        &[Fill(0, 0, 4), Copy(1, 0, 0, 0, 4)],
+        Fault(JobFault::PacketOnHold { packet: 1 }),
+    ),
+    Case(
+        0,
+        1,
+        &[(0, Write), (1, Hold)],
+        &[Fill(0, 0, 9), Fill(1, 0, 1)],
+        OUT_OF_RANGE,
+    ),
+];
+
+#[test]
+fn packets_touch_nothing_on_hold(rt: HostRuntime) -> Result<(), Fail> {
+    assert_eq!(rt; first_wrong(rt.alloc(), &HOLDS)?, None);
+    Ok(())
+}
+
+/// How many buffers are declared, fences named and packets given, and what the check says.
+#[derive(Clone, Copy, Debug)]
+struct Counts(usize, usize, usize, Want);
+
+const COUNTS: [Counts; 5] = [
+    Counts(1, 16, 64, Fits),
+    Counts(16, 16, 64, DeclaredTwice(0)),
+    Counts(
+        1,
+        16,
+        65,
+        Fault(JobFault::TooMany {
+            what: DraftList::Packets,
+        }),
+    ),
+    Counts(
+        1,
+        17,
+        65,
+        Fault(JobFault::TooMany {
+            what: DraftList::After,
+        }),
+    ),
+    Counts(
+        17,
+        17,
+        65,
+        Fault(JobFault::TooMany {
+            what: DraftList::Declared,
+        }),
+    ),
+];
+
+fn long_draft(alloc: Global, counts: Counts) -> Result<Draft, AllocError> {
+    let declared = (BufferId::new(0), Access::Read);
+    Ok(Draft {
+        entity: 0,
+        credits: u16::MAX,
+        declared: Sequence::from_vec(vec![in alloc; declared; counts.0]?),
+        after: Sequence::from_vec(vec![in alloc; 0; counts.1]?),
+        packets: Sequence::from_vec(vec![in alloc; Packet::Stall { resets: 0 }; counts.2]?),
+    })
 }
 
 #[test]
 fn long_lists(rt: HostRuntime) -> Result<(), Fail> {
     let spec = sample(rt.alloc())?;
-    let cases = [
-        (1, 16, 64, None),
-        (16, 16, 64, Some(declared_twice(0))),
-        (1, 16, 65, Some(too_many(DraftList::Packets))),
-        (1, 17, 65, Some(too_many(DraftList::After))),
-        (17, 17, 65, Some(too_many(DraftList::Declared))),
-    ];
-    for (declared, after, packets, want) in cases {
-        let draft = Draft {
-            entity: 0,
-            credits: u16::MAX,
-            declared: Sequence::from_vec(vec![in rt.alloc(); reads(0); declared]?),
-            after: Sequence::from_vec(vec![in rt.alloc(); 0; after]?),
-            packets: Sequence::from_vec(vec![in rt.alloc(); Packet::Stall { resets: 0 }; packets]?),
-        };
-        assert_eq!(rt; fault_of(draft, &spec), want, "{want:?}");
+    for counts in COUNTS {
+        let draft = long_draft(rt.alloc(), counts)?;
+        assert_eq!(rt; fault_of(draft, &spec), wanted(counts.3), "{counts:?}");
     }
     Ok(())
 }
 
-fn job(alloc: Global, spec: &DeviceSpec, declared: &[(BufferId, Access)]) -> Result<Job, Fail> {
-    check(
-        draft(alloc, 1, 3, declared, &[Packet::Stall { resets: 2 }])?,
-        spec,
-    )
-    .ok()
-    .ok_or("a fault")
-    .map_err(Fail::from)
+// A job of the entity of KERNEL priority.
+fn job(alloc: Global, spec: &DeviceSpec, declared: &[(u32, Access)]) -> Result<Job, Fail> {
+    let draft = Draft {
+        entity: 1,
+        credits: 3,
+        declared: declared_of(alloc, declared)?,
+        after: Sequence::new(alloc),
+        packets: Sequence::from_vec(vec![in alloc; Packet::Stall { resets: 2 }; 1]?),
+    };
+    match check(draft, spec) {
+        Ok(job) => Ok(job),
+        Err((_draft, fault)) => Err(Fail::from(fault)),
+    }
 }
+
+const PAIRS: [Pair; 18] = [
+    Pair(&[(0, Write)], &[(0, Read)], true),
+    Pair(&[(0, Read)], &[(0, Write)], true),
+    Pair(&[(0, Read), (1, Write)], &[(0, Write), (1, Read)], true),
+    Pair(&[(0, Read)], &[(0, Read)], false),
+    Pair(&[(0, Write)], &[(1, Write)], false),
+    Pair(&[], &[(0, Write), (1, Write)], false),
+    Pair(&[(0, Move)], &[(0, Read)], true),
+    Pair(&[(0, Move)], &[(0, Write)], true),
+    Pair(&[(0, Move)], &[(0, Hold)], true),
+    Pair(&[(0, Move)], &[(0, Move)], true),
+    Pair(&[(0, Read)], &[(0, Move)], true),
+    Pair(&[(0, Hold)], &[(0, Move)], true),
+    Pair(&[(0, Hold)], &[(0, Hold)], false),
+    Pair(&[(0, Hold)], &[(0, Read)], false),
+    Pair(&[(0, Hold)], &[(0, Write)], false),
+    Pair(&[(0, Read)], &[(0, Hold)], false),
+    Pair(&[(0, Write)], &[(0, Hold)], false),
+    Pair(&[(0, Move)], &[(1, Move)], false),
+];
 
 #[test]
 fn jobs_that_conflict(rt: HostRuntime) -> Result<(), Fail> {
     let spec = sample(rt.alloc())?;
-    let cases: [(&[(BufferId, Access)], &[(BufferId, Access)], bool); 6] = [
-        (&[writes(0)], &[reads(0)], true),
-        (&[reads(0)], &[writes(0)], true),
-        (&[reads(0), writes(1)], &[writes(0), reads(1)], true),
-        (&[reads(0)], &[reads(0)], false),
-        (&[writes(0)], &[writes(1)], false),
-        (&[], &[writes(0), writes(1)], false),
-    ];
-    for (earlier, later, want) in cases {
-        let (first, second) = (
-            job(rt.alloc(), &spec, earlier)?,
-            job(rt.alloc(), &spec, later)?,
-        );
-        assert_eq!(rt; conflicts(&first, &second), want, "{earlier:?} {later:?}");
+    for pair in PAIRS {
+        let earlier = job(rt.alloc(), &spec, pair.0)?;
+        let later = job(rt.alloc(), &spec, pair.1)?;
+        assert_eq!(rt; conflicts(&earlier, &later), pair.2, "{pair:?}");
     }
     Ok(())
 }
@@ -224,18 +417,19 @@ fn jobs_that_conflict(rt: HostRuntime) -> Result<(), Fail> {
 #[test]
 fn jobs_lend_their_draft(rt: HostRuntime) -> Result<(), Fail> {
     let spec = sample(rt.alloc())?;
-    let job = job(rt.alloc(), &spec, &[reads(1), writes(0)])?;
+    let job = job(rt.alloc(), &spec, &[(1, Read), (0, Write)])?;
+    let declared = [
+        (BufferId::new(1), Access::Read),
+        (BufferId::new(0), Access::Write),
+    ];
     assert_eq!(rt; (job.entity(), job.credits()), (1, 3));
-    assert_eq!(rt; job.declared(), [reads(1), writes(0)].as_slice());
+    assert_eq!(rt; job.declared(), declared.as_slice());
     assert_eq!(rt; job.after().len(), 0);
     assert_eq!(rt; job.packets().len(), 1);
     assert_eq!(rt; job.packet(0), Packet::Stall { resets: 2 });
     assert_eq!(rt; job.access_of(BufferId::new(0)), Some(Access::Write));
     assert_eq!(rt; job.access_of(BufferId::new(2)), None);
     assert!(rt; job.uses(BufferId::new(1)) && !job.uses(BufferId::new(2)));
-    assert_eq!(rt;
-        job.into_draft().declared.as_slice(),
-        [reads(1), writes(0)].as_slice()
-    );
+    assert_eq!(rt; job.into_draft().declared.as_slice(), declared.as_slice());
     Ok(())
 }

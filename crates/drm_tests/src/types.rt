@@ -42,12 +42,64 @@ fn the_first_part_is_told(rt: HostRuntime) -> Result<(), Fail> {
     Ok(())
 }
 
+// A device of eight rings and of two entities, with these lists.
+fn lists_of(alloc: Global, first: &[u32], second: &[u32]) -> Result<DeviceSpec, AllocError> {
+    let mut spec = device(alloc, buffers_of(alloc, &[&[0]])?, (8, 4), 0, 8)?;
+    for list in [first, second] {
+        spec.entities.push(EntitySpec {
+            rings: rings_of(alloc, list)?,
+            priority: Priority::Normal,
+        })?;
+    }
+    Ok(spec)
+}
+
+/// The rings of two entities, and the first whose list is none.
+#[derive(Clone, Copy, Debug)]
+struct Lists(&'static [u32], &'static [u32], Option<u32>);
+
+const LISTS: [Lists; 9] = [
+    Lists(&[0], &[7, 6, 5, 4, 3, 2, 1, 0], None),
+    Lists(&[0], &[1, 1], Some(1)),
+    Lists(&[0], &[0, 1, 0], Some(1)),
+    Lists(&[0], &[], Some(1)),
+    Lists(&[0], &[0, 1, 2, 3, 4, 5, 6, 7, 0], Some(1)),
+    Lists(&[0], &[8], Some(1)),
+    Lists(&[0], &[0, 8], Some(1)),
+    Lists(&[], &[1, 0], Some(0)),
+    Lists(&[2, 2], &[8], Some(0)),
+];
+
+#[test]
+fn entities_have_rings_each_once(rt: HostRuntime) -> Result<(), Fail> {
+    for lists in LISTS {
+        let spec = lists_of(rt.alloc(), lists.0, lists.1)?;
+        let want = match lists.2 {
+            None => Ok(()),
+            Some(index) => Err(BadSpec { part: 7, index }),
+        };
+        assert_eq!(rt; spec.check(), want, "{lists:?}");
+    }
+    Ok(())
+}
+
+const TABLE: [(Access, Usage, Usage); 4] = [
+    (Access::Read, Usage::Write, Usage::Read),
+    (Access::Write, Usage::Read, Usage::Write),
+    (Access::Hold, Usage::Kernel, Usage::Bookkeep),
+    (Access::Move, Usage::Bookkeep, Usage::Kernel),
+];
+
 #[test]
 fn tables_of_usages(rt: HostRuntime) {
-    assert_eq!(rt; wanted(Access::Read), Usage::Write);
-    assert_eq!(rt; wanted(Access::Write), Usage::Read);
-    assert_eq!(rt; adds(Access::Read), Usage::Read);
-    assert_eq!(rt; adds(Access::Write), Usage::Write);
+    for (access, wants, adding) in TABLE {
+        assert_eq!(rt; wanted(access), wants, "{access:?}");
+        assert_eq!(rt; adds(access), adding, "{access:?}");
+    }
+}
+
+#[test]
+fn strengths_and_numbers(rt: HostRuntime) {
     assert!(rt; Usage::Kernel.is_as_strong_as(Usage::Bookkeep));
     assert!(rt; !Usage::Read.is_as_strong_as(Usage::Write));
     assert_eq!(rt; Priority::Low.rank(), 3);

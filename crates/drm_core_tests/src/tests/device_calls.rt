@@ -4,6 +4,7 @@ ghost use Rattle.std.specs.Prelude.{◌≡◌, [], ◌∷◌, IfSome, IsTrue};
 ghost use Rattle.drm_job.specs.Fault.{IsJob};
 ghost use Rattle.drm_resv.specs.Reservation.{WithRoom};
 
+use super::outside::is_armed;
 use crate::{ENTITY, Job, RING, Work, device, draft_of};
 use drm_core::{Device, Expired, Finished, Held, Picked, Plan, Stepped};
 use drm_job::check;
@@ -25,9 +26,13 @@ fn plan(alloc: Global, device: &Device) -> Option<Plan>
     ensures { IfSome result (λ plan. IsJob device.now.state.spec plan.job × (plan.deps ≡ [])) }
 {
     let draft = draft_of(alloc, FILL).ok()?;
-    let job = check(draft, device.spec()).ok()?;
-    let deps = Deps::new();
-    Some(Plan { job, deps })
+    match check(draft, device.spec()) {
+        Ok(job) => Some(Plan {
+            job,
+            deps: Deps::new(),
+        }),
+        Err((_draft, _fault)) => None,
+    }
 }
 
 /// The reservation of buffer 0, held, with nothing in it and room for one use.
@@ -51,8 +56,8 @@ fn arms(alloc: Global, device: &mut Device) -> bool
     let Some(mut held) = hold(alloc) else {
         return false;
     };
-    let armed = device.arm(plan, &mut held);
-    matches!(armed, Ok(0)) && held.iter().all(|(_, resv)| resv.fences().len() == 1)
+    is_armed(device.arm(plan, &mut held), 0)
+        && held.iter().all(|(_, resv)| resv.fences().len() == 1)
 }
 
 /// Whether the device gives the first ring the job, runs its packet and ends it.
@@ -72,7 +77,7 @@ fn runs(device: &mut Device) -> bool {
                 packet: 0
             })
         )
-        && device.timeout(0, 10) == Ok(Expired::Complete)
+        && matches!(device.timeout(0, 10), Ok(Expired::Complete))
         && matches!(
             device.finish(0, 10),
             Ok(Finished {

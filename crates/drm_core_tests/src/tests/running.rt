@@ -1,7 +1,7 @@
 //! Jobs from their submission to their end: dependencies, credits and priorities.
 use super::{Do, Say, first_wrong};
 use crate::Work::{Add, Copy, Fill};
-use crate::{ENTITY, Job, OTHER, RING, device};
+use crate::{ENTITY, Entity, Job, OTHER, RING, device};
 use drm_core::Refusal;
 use drm_types::Access::{Read, Write};
 use drm_types::{Outcome, Priority};
