@@ -4,7 +4,7 @@ mod rings;
 mod submission;
 
 use crate::header::{Device, Priority};
-use crate::job::Job;
+use crate::job::{Job, Usage};
 use crate::memory::Memory;
 use crate::output::Output;
 use crate::script::{Event, Script, CONTEXTS};
@@ -112,6 +112,8 @@ struct Entity {
     queue: Queue,
     /// The job that left the queue last.
     previous: u32,
+    /// How many of its jobs have not ended, and the ring that they are on.
+    left: u32,
     ring: u8,
     priority: Priority,
     is_guilty: bool,
@@ -122,6 +124,8 @@ struct Ring {
     pending: Queue,
     /// The first pending job that may have packets to run.
     current: u32,
+    /// How many jobs on the ring, queued or pending, have not ended.
+    left: u32,
     limit: u16,
     counted: u16,
     timeout: u32,
@@ -134,7 +138,7 @@ struct Ring {
 struct Use {
     fence: u32,
     entity: u8,
-    writes: bool,
+    usage: Usage,
 }
 
 #[derive(Default)]
@@ -239,7 +243,8 @@ fn entities_of(device: &Device) -> Result<Vec<Entity>, Ending> {
     entities.extend(device.entities.iter().map(|entity| Entity {
         queue: Queue::EMPTY,
         previous: NONE,
-        ring: entity.ring as u8,
+        left: 0,
+        ring: entity.rings[0] as u8,
         priority: entity.priority,
         is_guilty: false,
         is_stopped: false,
@@ -252,6 +257,7 @@ fn rings_of(device: &Device) -> Result<Vec<Ring>, Ending> {
     rings.extend(device.rings.iter().map(|ring| Ring {
         pending: Queue::EMPTY,
         current: NONE,
+        left: 0,
         limit: ring.credit_limit,
         counted: 0,
         timeout: ring.timeout,

@@ -2,6 +2,7 @@
 use crate::text::{push, Cursor, Ending, BUFFER, ENTITY, GO, JOBS, RING, WORD, ZERO};
 
 pub const BUFFER_LIMIT: usize = 4096;
+const RING_LIMIT: usize = 8;
 
 pub struct BufferSpec {
     pub size: usize,
@@ -24,7 +25,7 @@ pub enum Priority {
 }
 
 pub struct EntitySpec {
-    pub ring: u32,
+    pub rings: Vec<u32>,
     pub priority: Priority,
 }
 
@@ -57,8 +58,8 @@ impl Device {
                     push(&mut device.rings, RingSpec { credit_limit, timeout, hang_limit })?;
                 }
                 ENTITY if !has_jobs => {
-                    let (ring, priority) = (cursor.whole()?, read_priority(cursor)?);
-                    push(&mut device.entities, EntitySpec { ring, priority })?;
+                    let (rings, priority) = (read_rings(cursor)?, read_priority(cursor)?);
+                    push(&mut device.entities, EntitySpec { rings, priority })?;
                 }
                 JOBS if !has_jobs => {
                     device.jobs = cursor.whole()?;
@@ -81,12 +82,12 @@ impl Device {
         let parts = [
             many(buffers.len(), 64),
             buffers.iter().position(|buffer| buffer.size == 0 || buffer.size > BUFFER_LIMIT),
-            many(rings.len(), 8),
+            many(rings.len(), RING_LIMIT),
             rings.iter().position(|ring| ring.credit_limit == 0),
             rings.iter().position(|ring| ring.timeout == 0),
             rings.iter().position(|ring| ring.hang_limit > 1000),
             many(entities.len(), 64),
-            entities.iter().position(|entity| entity.ring as usize >= rings.len()),
+            entities.iter().position(|entity| !are_listed(&entity.rings, rings.len())),
             many(self.jobs as usize, 65_535),
         ];
         for (part, wrong) in parts.into_iter().enumerate() {
@@ -96,6 +97,36 @@ impl Device {
         }
         Ok(self)
     }
+}
+
+/// Whether an entity may list these rings: there are so many in all.
+fn are_listed(rings: &[u32], all: usize) -> bool {
+    let mut seen = 0_u8;
+    rings.len() <= RING_LIMIT
+        && rings.iter().all(|ring| {
+            let is_new = (*ring as usize) < all && seen >> ring & 1 == 0;
+            seen |= u8::from(is_new) << (ring & 7);
+            is_new
+        })
+}
+
+/// The next word, which is numbers with a comma between each two.
+fn read_rings(cursor: &mut Cursor) -> Result<Vec<u32>, Ending> {
+    cursor.space()?;
+    let start = cursor.at;
+    let mut rings = Vec::new();
+    loop {
+        let Some(ring) = cursor.digits(u64::from(u32::MAX)) else { return Err(cursor.bad_number(start)) };
+        push(&mut rings, ring as u32)?;
+        if cursor.next() != b',' {
+            break;
+        }
+        cursor.at += 1;
+    }
+    if !cursor.is_at_word_end() {
+        return Err(cursor.bad_number(start));
+    }
+    Ok(rings)
 }
 
 fn read_priority(cursor: &mut Cursor) -> Result<Priority, Ending> {

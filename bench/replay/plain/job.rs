@@ -1,5 +1,5 @@
 //! Jobs, read and checked.
-use crate::header::Device;
+use crate::header::{Device, Priority};
 use crate::memory::{Packet, Transfer};
 use crate::text::{push, Cursor, Ending, NUMBER, WORD};
 
@@ -23,7 +23,56 @@ pub struct Job {
 #[derive(Clone, Copy)]
 pub struct Declaration {
     pub buffer: u8,
-    pub writes: bool,
+    pub access: Access,
+}
+
+#[derive(Clone, Copy, PartialEq, Eq)]
+pub enum Access {
+    Read,
+    Write,
+    Hold,
+    Move,
+}
+
+/// What a job is noted as at a buffer, the strongest first.
+#[derive(Clone, Copy, PartialEq, Eq, PartialOrd, Ord)]
+pub enum Usage {
+    Kernel,
+    Write,
+    Read,
+    Bookkeep,
+}
+
+impl Access {
+    fn of(byte: u8) -> Option<Access> {
+        match byte {
+            b'r' => Some(Access::Read),
+            b'w' => Some(Access::Write),
+            b'h' => Some(Access::Hold),
+            b'm' => Some(Access::Move),
+            _ => None,
+        }
+    }
+
+    /// The weakest usage that a job waits for.
+    pub fn wanted(self) -> Usage {
+        match self {
+            Access::Read => Usage::Write,
+            Access::Write => Usage::Read,
+            Access::Hold => Usage::Kernel,
+            Access::Move => Usage::Bookkeep,
+        }
+    }
+
+    /// The usage that it is noted as.
+    pub fn adds(self) -> Usage {
+        match self {
+            Access::Read => Usage::Read,
+            Access::Write => Usage::Write,
+            Access::Hold => Usage::Bookkeep,
+            Access::Move => Usage::Kernel,
+        }
+    }
 }
 
 /// Why the device's check refuses a job.
@@ -34,7 +83,9 @@ pub enum JobFault {
     TooMany(u8),
     NoBuffer(u32),
     DeclaredTwice(u8),
+    MoveNotKernel(u8),
     Undeclared(u32),
+    OnHold(u32),
     ReadOnly(u32),
     OutOfRange(u32),
 }
@@ -97,14 +148,16 @@ struct Draft<'j> {
     device: &'j Device,
     starts: [usize; 3],
     part: Part,
-    /// The buffers that are declared, and those of them that are written, as sets of bits.
+    /// The buffers that are declared, those of them that are touched, and those that are written, as sets of bits.
     declared: u64,
+    touched: u64,
     written: u64,
     declarations: usize,
     fences: usize,
     packets: usize,
     no_buffer: Option<JobFault>,
     declared_twice: Option<JobFault>,
+    first_moved: Option<u8>,
     bad_packet: Option<JobFault>,
 }
 
@@ -116,12 +169,14 @@ impl<'j> Draft<'j> {
             device,
             part: Part::Declarations,
             declared: 0,
+            touched: 0,
             written: 0,
             declarations: 0,
             fences: 0,
             packets: 0,
             no_buffer: None,
             declared_twice: None,
+            first_moved: None,
             bad_packet: None,
         }
     }
@@ -130,10 +185,10 @@ impl<'j> Draft<'j> {
     #[inline]
     fn read_word(&mut self, cursor: &mut Cursor) -> Result<bool, Ending> {
         let first = cursor.next();
-        if matches!(first, b'r' | b'w') && self.part == Part::Declarations {
+        if let (Some(access), Part::Declarations) = (Access::of(first), self.part) {
             cursor.at += 1;
             let Some(buffer) = cursor.digits(LARGEST) else { return Ok(false) };
-            self.declare(buffer as u32, first == b'w')?;
+            self.declare(buffer as u32, access)?;
         } else if first == b'a' && self.part <= Part::Fences && cursor.second().is_ascii_digit() {
             cursor.at += 1;
             let Some(fence) = cursor.digits(LARGEST) else { return Ok(false) };
@@ -148,7 +203,7 @@ impl<'j> Draft<'j> {
         Ok(true)
     }
 
-    fn declare(&mut self, buffer: u32, writes: bool) -> Result<(), Ending> {
+    fn declare(&mut self, buffer: u32, access: Access) -> Result<(), Ending> {
         self.declarations += 1;
         if buffer as usize >= self.device.buffers.len() {
             self.no_buffer = self.no_buffer.or(Some(JobFault::NoBuffer(buffer)));
@@ -159,10 +214,16 @@ impl<'j> Draft<'j> {
             self.declared_twice = self.declared_twice.or(Some(JobFault::DeclaredTwice(buffer as u8)));
         }
         self.declared |= bit;
-        if writes {
+        if access != Access::Hold {
+            self.touched |= bit;
+        }
+        if matches!(access, Access::Write | Access::Move) {
             self.written |= bit;
         }
-        push(&mut self.jobs.declarations, Declaration { buffer: buffer as u8, writes })
+        if access == Access::Move {
+            self.first_moved = self.first_moved.or(Some(buffer as u8));
+        }
+        push(&mut self.jobs.declarations, Declaration { buffer: buffer as u8, access })
     }
 
     #[inline]
@@ -188,6 +249,9 @@ impl<'j> Draft<'j> {
         };
         if !has(self.declared, source) || !has(self.declared, target) {
             return Err(JobFault::Undeclared(number));
+        }
+        if !has(self.touched, source) || !has(self.touched, target) {
+            return Err(JobFault::OnHold(number));
         }
         if !has(self.written, target) {
             return Err(JobFault::ReadOnly(number));
@@ -222,7 +286,9 @@ impl<'j> Draft<'j> {
         } else if self.packets > PACKET_LIMIT {
             Some(JobFault::TooMany(2))
         } else {
-            self.no_buffer.or(self.declared_twice).or(self.bad_packet)
+            let is_kernel = self.device.entities[entity as usize].priority == Priority::Kernel;
+            let moved = self.first_moved.filter(|_| !is_kernel).map(JobFault::MoveNotKernel);
+            self.no_buffer.or(self.declared_twice).or(moved).or(self.bad_packet)
         };
         let [first_declaration, first_fence, first_packet] = self.starts;
         if let Some(fault) = fault {
@@ -296,7 +362,7 @@ fn bad_word(cursor: &Cursor, start: usize, part: Part) -> Ending {
     let mut fields = word.split(|byte| *byte == b':');
     let name = fields.next().unwrap_or_default();
     let known = match (name, fields.count()) {
-        ([b'r' | b'w', ..], 0) => part == Part::Declarations,
+        ([b'r' | b'w' | b'h' | b'm', ..], 0) => part == Part::Declarations,
         ([b'a', ..], 0) => part <= Part::Fences,
         (b"fill", 4) | (b"copy" | b"add", 5) | (b"stall", 1) => true,
         _ => false,

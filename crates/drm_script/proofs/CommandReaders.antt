@@ -39,6 +39,8 @@ number_graphic n small = decimal_graphic n (omega arith)
 declaration_graphic : (d : ℕ × Access) → IsNumber d.0 → list_all is_graphic (declaration_word d) ≡ true
 declaration_graphic (buffer, access.Read) small = number_graphic buffer small
 declaration_graphic (buffer, access.Write) small = number_graphic buffer small
+declaration_graphic (buffer, access.Hold) small = number_graphic buffer small
+declaration_graphic (buffer, access.Move) small = number_graphic buffer small
 
 pieces_graphic : (packet : Packet) → PacketFits packet → AreWords (packet_pieces packet)
 pieces_graphic (Fill buffer offset len byte) fits =

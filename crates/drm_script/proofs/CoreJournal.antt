@@ -3,7 +3,7 @@ use Rattle.std.proofs.Common.{◌≡◌, ℕ, suc, ◌+◌, ◌<◌, ◌≤◌, 
 use Rattle.std.specs.Prelude.{Contains, IsTrue, is_none, nat_lt}
 use Rattle.std.specs.List.{list_all}
 use Rattle.std.proofs.lemmas.Bool.{and_from, lt-ltb, le-leb, eq-eqb}
-use Rattle.std.proofs.lemmas.List.{get_or_default}
+use Rattle.std.proofs.lemmas.List.{get_or_default, length-map}
 use Rattle.std.proofs.lemmas.List.Sums.{list_all-from_AllPass}
 use Rattle.drm_types.specs.Limits.{spec_fault}
 use Rattle.drm_types.specs.declared.outcome.Outcome.TheVariants.{Good, Cancelled, Stopped}
@@ -71,6 +71,10 @@ map_twice f g (x ∷ xs) = ap (λ r. g (f x) ∷ r) (map_twice f g xs)
 -- and its jobs leave its last bytes
 pub core_checks : (s : CoreState) → Promises s.device.spec s → left_by (journal_left s) ≡ s.device.memory
 core_checks s promises = ap (serial s.device.spec.buffers) (map_twice told_of turn_of s.device.journal) ∙ sym promises.bytes
+
+-- lists of the same lengths are as many
+pub as_many : (xs ys : List (List ℕ)) → map length xs ≡ map length ys → length xs ≡ length ys
+as_many xs ys same = sym (length-map xs length) ∙ ap length same ∙ length-map ys length
 
 -- the parts of what a core left are its journal
 pub parts_left : (s : CoreState) (spec : DeviceSpec) (records : List JobRecord) (jobs : List JournalJob) (finals : List (List ℕ)) → spec ≡ s.device.spec

@@ -27,9 +27,10 @@ use Rattle.drm_text.proofs.Spelled.{is_graphic, decimal_graphic, bytes_graphic}
 use Rattle.drm_text.proofs.WordReaders.{bind_ok, ok_is, or_fault_ok, ReadsLine, any_word, no_word, numbers_read, last_numbers_read, last_bytes_read}
 use Rattle.drm_script.specs.declared.header.Section.{Section}
 use Rattle.drm_script.specs.declared.header.Section.TheVariants as section
-use Rattle.drm_script.specs.Grammar.{IsNumber, Line, Each, SpellsBuffer, ring_words, RingFits, priority_word, entity_words, opening, SpellsHeader}
-use Rattle.drm_script.specs.Header.{priority_of, section_of, follows, section_after, is_open, ring_at, entity_at, checked_device, with_header_words, header_line, header_of, no_device, header_at}
+use Rattle.drm_script.specs.Grammar.{IsNumber, Line, Each, SpellsBuffer, ring_words, RingFits, EntityFits, priority_word, rings_word, entity_words, opening, SpellsHeader}
+use Rattle.drm_script.specs.Header.{priority_of, section_of, follows, section_after, is_open, ring_at, rings_at, entity_at, checked_device, with_header_words, header_line, header_of, no_device, header_at}
 use Rattle.drm_script.proofs.CommandReaders.{same_cons}
+use Rattle.drm_script.proofs.RingLists.{ring_lists_read, rings_are_word}
 use Rattle.drm_script.proofs.PacketReaders.{some_is, bind_some, choose, same_name}
 
 -- ---- rings and entities
@@ -90,30 +91,30 @@ priority_is_word priority.Normal = (omega arith, refl)
 priority_is_word priority.Low = (omega arith, refl)
 
 abbrev entity_fields : EntitySpec → Line
-entity_fields entity = decimal entity.ring ∷ priority_word entity.priority ∷ []
+entity_fields entity = rings_word entity.rings ∷ priority_word entity.priority ∷ []
 
 same_two : (a b w : List ℕ) (p q r : List (List ℕ)) → p ≡ a ∷ q → q ≡ w ∷ r → w ≡ b → r ≡ [] → p ≡ a ∷ b ∷ []
 same_two a b w p q r e f g h = cc
 
-abbrev the_entity : ℕ → Priority → EntitySpec
-the_entity ring p = record { ring = ring; priority = p }
+abbrev the_entity : List ℕ → Priority → EntitySpec
+the_entity rings p = record { rings = rings; priority = p }
 
-entities_read : ReadsLine entity_at entity_fields (λ entity. IsNumber entity.ring)
+entities_read : ReadsLine entity_at entity_fields EntityFits
 unfolding entity_at
 entities_read = record {
   takes = λ words x e.
-      let a = bind_ok (number_at (2 ^ 32 - 1) words) (λ ring. word_at ring.1 >>= λ word. or_fault (priority_of word.0) (fault_here ring.1 what.Word) >>= λ p. end_at word.1 >>= λ _. Ok (the_entity ring.0 p)) x e in
+      let a = bind_ok (rings_at words) (λ rings. word_at rings.1 >>= λ word. or_fault (priority_of word.0) (fault_here rings.1 what.Word) >>= λ p. end_at word.1 >>= λ _. Ok (the_entity rings.0 p)) x e in
       let b = bind_ok (word_at a.0.1) (λ word. or_fault (priority_of word.0) (fault_here a.0.1 what.Word) >>= λ p. end_at word.1 >>= λ _. Ok (the_entity a.0.0 p)) x a.2 in
       let c = bind_ok (or_fault (priority_of b.0.0) (fault_here a.0.1 what.Word)) (λ p. end_at b.0.1 >>= λ _. Ok (the_entity a.0.0 p)) x b.2 in
       let d = bind_ok (end_at b.0.1) (λ _. Ok (the_entity a.0.0 c.0)) x c.2 in
-      let p = (numbers_read (2 ^ 32 - 1) (omega arith)).takes words a.0 a.1 in
+      let p = ring_lists_read.takes words a.0 a.1 in
       let q = any_word.takes a.0.1 b.0 b.1 in
       let r = priority_takes b.0.0 c.0 (or_fault_ok (priority_of b.0.0) (fault_here a.0.1 what.Word) c.0 c.1) in
       let s = no_word.takes b.0.1 d.0 d.1 in
-      subst (λ (y : EntitySpec). (words.rest.parts ≡ entity_fields y) × IsNumber y.ring) (ok_is (the_entity a.0.0 c.0) x d.2)
+      subst (λ (y : EntitySpec). (words.rest.parts ≡ entity_fields y) × EntityFits y) (ok_is (the_entity a.0.0 c.0) x d.2)
       (same_two _ _ _ _ _ _ p.0 q.0 r s.0, p.1);
   again = λ words x is fits.
-      let a = (numbers_read (2 ^ 32 - 1) (omega arith)).again words x.ring (priority_word x.priority ∷ []) is fits in
+      let a = ring_lists_read.again words x.rings (priority_word x.priority ∷ []) is fits in
       let b = any_word.again a.0 (priority_word x.priority) [] a.2 (priority_is_word x.priority).0 in
       rw (a.1, b.1, priority_again x.priority, no_word.again b.0 tt b.2 tt) refl;
 }
@@ -126,7 +127,7 @@ data Describes (spec : DeviceSpec) (last : Section) (words : Line) (next : Devic
       → follows last section.Buffers ≡ true → Describes spec last words next now
   a_ring : (ring : RingSpec) → words ≡ ring_words ring → RingFits ring → next ≡ record spec { rings = spec.rings ++ ring ∷ [] } → now ≡ section.Rings
       → follows last section.Rings ≡ true → Describes spec last words next now
-  an_entity : (entity : EntitySpec) → words ≡ entity_words entity → IsNumber entity.ring → next ≡ record spec { entities = spec.entities ++ entity ∷ [] } → now ≡ section.Entities
+  an_entity : (entity : EntitySpec) → words ≡ entity_words entity → EntityFits entity → next ≡ record spec { entities = spec.entities ++ entity ∷ [] } → now ≡ section.Entities
       → follows last section.Entities ≡ true → Describes spec last words next now
   the_limit : (max_jobs : ℕ) → words ≡ codes "jobs" ∷ decimal max_jobs ∷ [] → IsNumber max_jobs → next ≡ record spec { max_jobs = max_jobs } → now ≡ section.Limit
       → follows last section.Limit ≡ true → Describes spec last words next now
@@ -232,7 +233,7 @@ record Header (spec : DeviceSpec) (last : Section) (parts : List (List ℕ)) (x 
   words : parts ≡ as_bytes (header_lines last lines rings entities max_jobs) ++ x.1.bytes ∷ x.1.more
   each : Each SpellsBuffer lines buffers
   rings_fit : AllByRecursion RingFits rings
-  entities_fit : AllByRecursion (λ entity. IsNumber entity.ring) entities
+  entities_fit : AllByRecursion EntityFits entities
   adds : x.0 ≡ with_parts spec buffers rings entities max_jobs
   whole : spec_fault x.0 ≡ None
   no_buffers : follows last section.Buffers ≡ false → (lines ≡ []) × (buffers ≡ [])
@@ -338,7 +339,7 @@ ring_more spec last bytes rest x ring is fits allowed h =
     }
 
 entity_more : (spec : DeviceSpec) (last : Section) (bytes : List ℕ) (rest : List (List ℕ)) (x : DeviceSpec × Left) (entity : EntitySpec) → bytes ≡ join_with_byte 32 (entity_words entity)
-    → IsNumber entity.ring → Allowed last section.Entities → Header (record spec { entities = spec.entities ++ entity ∷ [] }) section.Entities rest x → Header spec last (bytes ∷ rest) x
+    → EntityFits entity → Allowed last section.Entities → Header (record spec { entities = spec.entities ++ entity ∷ [] }) section.Entities rest x → Header spec last (bytes ∷ rest) x
 entity_more spec last bytes rest x entity is fits allowed h =
     let b = behind_entities last allowed in
     let none = h.no_buffers refl in
@@ -549,7 +550,7 @@ opening_again spec last n max_jobs more allowed some small fits =
     )
 
 entities_again : (es : List EntitySpec) (spec : DeviceSpec) (last : Section) (n max_jobs : ℕ) (more : List (List ℕ)) → follows last section.Entities ≡ true → follows last section.Limit ≡ true → 0 < length more
-    → AllByRecursion (λ entity. IsNumber entity.ring) es → IsNumber max_jobs → spec_fault (with_parts spec [] [] es max_jobs) ≡ None
+    → AllByRecursion EntityFits es → IsNumber max_jobs → spec_fault (with_parts spec [] [] es max_jobs) ≡ None
     → Gives spec last n (as_bytes (map entity_words es ++ opening max_jobs) ++ more) (with_parts spec [] [] es max_jobs) more
 entities_again [] spec last n max_jobs more allowed then some fit small fits = opening_again spec last n max_jobs more then some small fits
 entities_again (e ∷ es) spec last n max_jobs more allowed then some fit small fits =
@@ -557,7 +558,7 @@ entities_again (e ∷ es) spec last n max_jobs more allowed then some fit small 
     let lines = map entity_words es ++ opening max_jobs in
     let same : with_parts next [] [] es max_jobs ≡ with_parts spec [] [] (e ∷ es) max_jobs = rw (append_assoc spec.entities (e ∷ []) es) refl in
     let read : header_line spec last n (join_with_byte 32 (entity_words e)) ≡ Ok (next, section.Entities) =
-    line_again spec last n line.Entity (entity_fields e) section.Entities next (decimal_graphic e.ring (let s : e.ring ≤ 2 ^ 32 - 1 = fit.0 in omega arith), ((priority_is_word e.priority).1, tt)) (after last line.Entity section.Entities refl allowed)
+    line_again spec last n line.Entity (entity_fields e) section.Entities next ((rings_are_word e.rings fit.0).1, ((priority_is_word e.priority).1, tt)) (after last line.Entity section.Entities refl allowed)
     (λ words is. rw (entities_read.again words e is fit.0) refl) in
     let rest = entities_again es next section.Entities (n + 1) max_jobs more refl refl some fit.1 small (subst (λ (d : DeviceSpec). spec_fault d ≡ None) (sym same) fits) in (
       rest.0,
@@ -566,7 +567,7 @@ entities_again (e ∷ es) spec last n max_jobs more allowed then some fit small 
     )
 
 rings_again : (rs : List RingSpec) (es : List EntitySpec) (spec : DeviceSpec) (last : Section) (n max_jobs : ℕ) (more : List (List ℕ)) → follows last section.Rings ≡ true → follows last section.Entities ≡ true
-    → follows last section.Limit ≡ true → 0 < length more → AllByRecursion RingFits rs → AllByRecursion (λ entity. IsNumber entity.ring) es → IsNumber max_jobs → spec_fault (with_parts spec [] rs es max_jobs) ≡ None
+    → follows last section.Limit ≡ true → 0 < length more → AllByRecursion RingFits rs → AllByRecursion EntityFits es → IsNumber max_jobs → spec_fault (with_parts spec [] rs es max_jobs) ≡ None
     → Gives spec last n (as_bytes (map ring_words rs ++ map entity_words es ++ opening max_jobs) ++ more) (with_parts spec [] rs es max_jobs) more
 rings_again [] es spec last n max_jobs more allowed then too some rfit fit small fits = entities_again es spec last n max_jobs more then too some fit small fits
 rings_again (r ∷ rs) es spec last n max_jobs more allowed then too some rfit fit small fits =
@@ -597,7 +598,7 @@ buffer_again spec n words buffer (inr spells) =
     (λ w is. rw ((last_numbers_read 65535 (omega arith)).again w spells.0 is spells.2) (ap (λ (b : List ℕ). Ok (record spec { buffers = spec.buffers ++ b ∷ [] })) (sym spells.3)))
 
 buffers_again : (lines : List Line) (bs : List (List ℕ)) (rs : List RingSpec) (es : List EntitySpec) (spec : DeviceSpec) (n max_jobs : ℕ) (more : List (List ℕ)) → Each SpellsBuffer lines bs → 0 < length more
-    → AllByRecursion RingFits rs → AllByRecursion (λ entity. IsNumber entity.ring) es → IsNumber max_jobs → spec_fault (with_parts spec bs rs es max_jobs) ≡ None
+    → AllByRecursion RingFits rs → AllByRecursion EntityFits es → IsNumber max_jobs → spec_fault (with_parts spec bs rs es max_jobs) ≡ None
     → Gives spec section.Buffers n (as_bytes (lines ++ map ring_words rs ++ map entity_words es ++ opening max_jobs) ++ more) (with_parts spec bs rs es max_jobs) more
 buffers_again [] [] rs es spec n max_jobs more each some rfit fit small fits = rings_again rs es spec section.Buffers n max_jobs more refl refl refl some rfit fit small fits
 buffers_again [] (b ∷ bs) rs es spec n max_jobs more each some rfit fit small fits = absurd each

@@ -46,6 +46,8 @@ Begins first word = (tail : List ℕ) × (word ≡ first ∷ tail)
 abbrev IsOfKind : Kind → List ℕ → Type 0
 IsOfKind (kind.Declared access.Read) word = Begins 114 word
 IsOfKind (kind.Declared access.Write) word = Begins 119 word
+IsOfKind (kind.Declared access.Hold) word = Begins 104 word
+IsOfKind (kind.Declared access.Move) word = Begins 109 word
 IsOfKind kind.After word = Begins 97 word
 IsOfKind kind.Packet word = Unit {0}
 
@@ -59,9 +61,15 @@ kind_by_takes (byte ∷ rest) k e =
       | inl is ↦ subst (λ (x : Kind). IsOfKind x (byte ∷ rest)) (some_is (kind.Declared access.Read) k is.1) (first_byte byte 114 rest is.0)
       | inr e1 ↦ elim (choose (byte == 119) (Some (kind.Declared access.Write)) _ (Some k) e1) [
         | inl is ↦ subst (λ (x : Kind). IsOfKind x (byte ∷ rest)) (some_is (kind.Declared access.Write) k is.1) (first_byte byte 119 rest is.0)
-        | inr e2 ↦ elim (choose (byte == 97) (Some kind.After) None (Some k) e2) [
-          | inl is ↦ subst (λ (x : Kind). IsOfKind x (byte ∷ rest)) (some_is kind.After k is.1) (first_byte byte 97 rest is.0)
-          | inr e3 ↦ absurd (cc)
+        | inr e2 ↦ elim (choose (byte == 104) (Some (kind.Declared access.Hold)) _ (Some k) e2) [
+          | inl is ↦ subst (λ (x : Kind). IsOfKind x (byte ∷ rest)) (some_is (kind.Declared access.Hold) k is.1) (first_byte byte 104 rest is.0)
+          | inr e3 ↦ elim (choose (byte == 109) (Some (kind.Declared access.Move)) _ (Some k) e3) [
+            | inl is ↦ subst (λ (x : Kind). IsOfKind x (byte ∷ rest)) (some_is (kind.Declared access.Move) k is.1) (first_byte byte 109 rest is.0)
+            | inr e4 ↦ elim (choose (byte == 97) (Some kind.After) None (Some k) e4) [
+              | inl is ↦ subst (λ (x : Kind). IsOfKind x (byte ∷ rest)) (some_is kind.After k is.1) (first_byte byte 97 rest is.0)
+              | inr e5 ↦ absurd (cc)
+            ]
+          ]
         ]
       ]
     ]
@@ -122,6 +130,8 @@ works_takes draft at word next e =
 item_takes : (draft : Draft) (at : Position) (word : List ℕ) (next : Draft) (k : Kind) → IsOfKind k word → is_late draft k ≡ false → with_item draft at word k ≡ Ok next → Adds draft word next
 item_takes draft at word next (kind.Declared access.Read) is late e = declares_takes draft at word next 114 access.Read is (λ n. refl) late e
 item_takes draft at word next (kind.Declared access.Write) is late e = declares_takes draft at word next 119 access.Write is (λ n. refl) late e
+item_takes draft at word next (kind.Declared access.Hold) is late e = declares_takes draft at word next 104 access.Hold is (λ n. refl) late e
+item_takes draft at word next (kind.Declared access.Move) is late e = declares_takes draft at word next 109 access.Move is (λ n. refl) late e
 item_takes draft at word next kind.After is late e = waits_takes draft at word next is late e
 item_takes draft at word next kind.Packet is late e = works_takes draft at word next e
 
@@ -141,6 +151,10 @@ declares_again : (draft : Draft) (at : Position) (d : ℕ × Access) → IsNumbe
 declares_again draft at (buffer, access.Read) small no_after no_packets =
     rw (number_no_colon buffer small, no_after, no_packets, number_again buffer small) refl
 declares_again draft at (buffer, access.Write) small no_after no_packets =
+    rw (number_no_colon buffer small, no_after, no_packets, number_again buffer small) refl
+declares_again draft at (buffer, access.Hold) small no_after no_packets =
+    rw (number_no_colon buffer small, no_after, no_packets, number_again buffer small) refl
+declares_again draft at (buffer, access.Move) small no_after no_packets =
     rw (number_no_colon buffer small, no_after, no_packets, number_again buffer small) refl
 
 waits_again : (draft : Draft) (at : Position) (fence : ℕ) → IsNumber fence → is_nil draft.packets ≡ true

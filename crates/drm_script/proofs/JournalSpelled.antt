@@ -1,5 +1,5 @@
 -- The text of a journal is the lines of the grammar.
-use Rattle.std.proofs.Common.{◌≡◌, ℕ, List, [], ◌∷◌, ◌++◌, append_assoc, map, Some, None, Option, refl, sym, ap, ◌∙◌, inl}
+use Rattle.std.proofs.Common.{◌≡◌, ℕ, List, [], ◌∷◌, ◌++◌, append_assoc, length, map, Some, None, Option, refl, sym, ap, ◌∙◌, inl}
 use Rattle.std.specs.Prelude.{codes, flat_map}
 use Rattle.std.specs.List.{AllByRecursion, join_with_byte}
 use Rattle.std.specs.Fmt.{decimal}
@@ -21,11 +21,11 @@ use Rattle.drm_text.specs.Grammar.{AreBytes, line_of_words, text_of_lines}
 use Rattle.drm_text.specs.Hexadecimal.{text_of_byte, text_of_bytes}
 use Rattle.drm_script.specs.declared.journal.JournalJob.{JournalJob}
 use Rattle.drm_script.specs.Answers.{numbers, separated}
-use Rattle.drm_script.specs.Grammar.{Line, Each, SpellsBuffer, declaration_word, fence_word, packet_word, job_words, ring_words, priority_word, entity_words, opening}
+use Rattle.drm_script.specs.Grammar.{Line, Each, SpellsBuffer, declaration_word, fence_word, packet_word, job_words, ring_words, priority_word, rings_word, entity_words, opening}
 use Rattle.drm_script.specs.Journal.{JournalParts, IsJournal}
 use Rattle.drm_script.specs.JournalGrammar.{status_word, record_words, final_words, end_words, HasBytes, DeviceFits, RecordFits, SpellsJournal, SpellsIfShort}
-use Rattle.drm_script.specs.JournalText.{line_of_bytes, text_of_priority, line_of_ring, line_of_entity, text_of_header, word_of_declaration, word_of_fence, pieces, word_of_packet, words_of_job, text_of_status, line_of_job, text_of_journal}
-use Rattle.drm_script.proofs.Filled.{buffers_sized, as_sized, filled}
+use Rattle.drm_script.specs.JournalText.{line_of_bytes, text_of_priority, line_of_ring, text_of_rings, line_of_entity, text_of_header, word_of_declaration, word_of_fence, pieces, word_of_packet, words_of_job, text_of_status, line_of_job, text_of_journal}
+use Rattle.drm_script.proofs.Filled.{buffers_sized, as_sized, filled, rings_listed, entities_fit}
 use Rattle.drm_script.proofs.JournalReaders.{body_lines}
 
 -- words, each behind the separator
@@ -48,6 +48,8 @@ spaced text word same (x ∷ xs) = ap (λ (t : List ℕ). t ++ flat_map text xs)
 declaration_is : (d : ℕ × Access) → word_of_declaration d ≡ 32 ∷ declaration_word d
 declaration_is (buffer, access.Read) = refl
 declaration_is (buffer, access.Write) = refl
+declaration_is (buffer, access.Hold) = refl
+declaration_is (buffer, access.Move) = refl
 
 route_is : (name : List ℕ) (a b c d e : ℕ) → (32 ∷ name ++ pieces (a ∷ b ∷ c ∷ d ∷ e ∷ [])) ≡ 32 ∷ join_with_byte 58 (name ∷ decimal a ∷ decimal b ∷ decimal c ∷ decimal d ∷ decimal e ∷ [])
 route_is name a b c d e =
@@ -113,12 +115,14 @@ priority_is priority.High = refl
 priority_is priority.Normal = refl
 priority_is priority.Low = refl
 
+rings_are : (rings : List ℕ) → text_of_rings rings ≡ rings_word rings
+rings_are [] = refl
+rings_are (ring ∷ rings) = ap (λ (t : List ℕ). decimal ring ++ t) (numbers_behind 44 rings) ∙ sym (joined 44 (decimal ring) (map decimal rings))
+
 entity_is : (entity : EntitySpec) → line_of_entity entity ≡ line_of_words (entity_words entity)
 entity_is entity =
-    ap (λ (t : List ℕ). codes "entity" ++ t ++ text_of_priority entity.priority ++ 10 ∷ []) (numbers_behind 32 (entity.ring ∷ []))
-    ∙ ap (λ (t : List ℕ). codes "entity" ++ behind 32 (decimal entity.ring ∷ []) ++ t ++ 10 ∷ []) (priority_is entity.priority)
-    ∙ ap (λ (t : List ℕ). codes "entity" ++ t ++ 10 ∷ []) (append_assoc [] (behind 32 (decimal entity.ring ∷ [])) (32 ∷ priority_word entity.priority))
-    ∙ ap (λ (t : List ℕ). codes "entity" ++ (t ++ 32 ∷ priority_word entity.priority) ++ 10 ∷ []) (append-nil (32 ∷ decimal entity.ring))
+    ap (λ (t : List ℕ). codes "entity " ++ t ++ text_of_priority entity.priority ++ 10 ∷ []) (rings_are entity.rings)
+    ∙ ap (λ (t : List ℕ). codes "entity " ++ rings_word entity.rings ++ t ++ 10 ∷ []) (priority_is entity.priority)
 
 -- ---- all lines
 
@@ -183,7 +187,7 @@ unfolding SpellsJournal
 written_spells text journal is stands device jobs finals = λ short.
     let sized = buffers_sized journal.spec stands.0 in (
       journal_header journal.spec,
-      (map buffer_words journal.spec.buffers, each_buffer journal.spec.buffers (filled journal.spec.buffers sized device.0), refl, device.1, device.2, device.3, stands.0),
+      (map buffer_words journal.spec.buffers, each_buffer journal.spec.buffers (filled journal.spec.buffers sized device.0), refl, device.1, entities_fit (length journal.spec.rings) journal.spec.entities (rings_listed journal.spec stands.0) device.2, device.3, stands.0),
       stands,
       jobs,
       filled journal.finals (as_sized journal.finals journal.spec.buffers stands.2 sized) finals,

@@ -7,5 +7,6 @@ pub mod HeaderReaders
 pub mod JobReaders
 pub mod PacketReaders
 pub mod Records
+pub mod RingLists
 pub mod ScriptReaders
 pub mod CoreJournal

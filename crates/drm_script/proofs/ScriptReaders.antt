@@ -22,12 +22,13 @@ use Rattle.drm_text.proofs.Spelled.{is_graphic, decimal_graphic, bytes_graphic}
 use Rattle.drm_text.proofs.WordReaders.{bind_ok, ok_is}
 use Rattle.drm_script.specs.declared.script.Script.{Script}
 use Rattle.drm_script.specs.Commands.{events_of}
-use Rattle.drm_script.specs.Grammar.{IsNumber, Line, Each, SpellsBuffer, ring_words, RingFits, entity_words, opening, SpellsHeader, command_words, SpellsScript}
+use Rattle.drm_script.specs.Grammar.{IsNumber, Line, Each, SpellsBuffer, ring_words, RingFits, EntityFits, entity_words, opening, SpellsHeader, command_words, SpellsScript}
 use Rattle.drm_script.specs.Header.{header_at}
 use Rattle.drm_script.specs.Script.{script_of, judge_script}
 use Rattle.drm_script.proofs.CommandReaders.{Commands, events_take, events_in, events_again, command_graphic, some_lines}
 use Rattle.drm_script.proofs.HeaderReaders.{as_bytes, left_in, header_takes, header_again, priority_is_word}
 use Rattle.drm_script.proofs.JobReaders.{in_time}
+use Rattle.drm_script.proofs.RingLists.{rings_are_word}
 
 -- ---- lines and parts
 
@@ -81,9 +82,9 @@ rings_graphic [] fit = tt
 rings_graphic (r ∷ rs) fit =
     ((refl, (decimal_graphic r.credit_limit (let s : r.credit_limit ≤ 65535 = fit.0.0 in omega arith), (number_graphic r.timeout fit.0.1, (number_graphic r.hang_limit fit.0.2, tt)))), rings_graphic rs fit.1)
 
-entities_graphic : (es : List EntitySpec) → AllByRecursion (λ entity. IsNumber entity.ring) es → AreLines (map entity_words es)
+entities_graphic : (es : List EntitySpec) → AllByRecursion EntityFits es → AreLines (map entity_words es)
 entities_graphic [] fit = tt
-entities_graphic (e ∷ es) fit = ((refl, (number_graphic e.ring fit.0, ((priority_is_word e.priority).1, tt))), entities_graphic es fit.1)
+entities_graphic (e ∷ es) fit = ((refl, ((rings_are_word e.rings fit.0).1, ((priority_is_word e.priority).1, tt))), entities_graphic es fit.1)
 
 pub header_graphic : (lines : List Line) (spec : DeviceSpec) → SpellsHeader lines spec → AreLines lines
 header_graphic lines spec spells =

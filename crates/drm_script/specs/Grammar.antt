@@ -32,6 +32,8 @@ IsNumber n = n ≤ 2 ^ 32 - 1
 abbrev pub declaration_word : ℕ × Access → List ℕ
 declaration_word (buffer, access.Read) = codes "r" ++ decimal buffer
 declaration_word (buffer, access.Write) = codes "w" ++ decimal buffer
+declaration_word (buffer, access.Hold) = codes "h" ++ decimal buffer
+declaration_word (buffer, access.Move) = codes "m" ++ decimal buffer
 
 abbrev pub fence_word : ℕ → List ℕ
 fence_word fence = codes "a" ++ decimal fence
@@ -137,8 +139,12 @@ priority_word priority.High = codes "high"
 priority_word priority.Normal = codes "normal"
 priority_word priority.Low = codes "low"
 
+-- the rings of an entity are numbers with a comma between each two
+abbrev pub rings_word : List ℕ → List ℕ
+rings_word rings = join_with_byte 44 (map decimal rings)
+
 abbrev pub entity_words : EntitySpec → Line
-entity_words entity = codes "entity" ∷ decimal entity.ring ∷ priority_word entity.priority ∷ []
+entity_words entity = codes "entity" ∷ rings_word entity.rings ∷ priority_word entity.priority ∷ []
 
 -- the last lines of a header
 abbrev pub opening : ℕ → List Line
@@ -146,6 +152,10 @@ opening max_jobs = (codes "jobs" ∷ decimal max_jobs ∷ []) ∷ (codes "go" �
 
 abbrev pub RingFits : RingSpec → Type 0
 RingFits ring = (ring.credit_limit ≤ 65535) × IsNumber ring.timeout × IsNumber ring.hang_limit
+
+-- an entity lists one ring or more
+abbrev pub EntityFits : EntitySpec → Type 0
+EntityFits entity = (0 < length entity.rings) × AllByRecursion IsNumber entity.rings
 
 -- each line spells the element at its place
 abbrev pub Each : {A : Type 0} → (Line → A → Type 0) → List Line → List A → Type 0
@@ -159,7 +169,7 @@ abbrev pub SpellsHeader : List Line → DeviceSpec → Type 0
 SpellsHeader lines spec =
     (buffers : List Line) × Each SpellsBuffer buffers spec.buffers
     × (lines ≡ buffers ++ map ring_words spec.rings ++ map entity_words spec.entities ++ opening spec.max_jobs)
-    × AllByRecursion RingFits spec.rings × AllByRecursion (λ entity. IsNumber entity.ring) spec.entities × IsNumber spec.max_jobs
+    × AllByRecursion RingFits spec.rings × AllByRecursion EntityFits spec.entities × IsNumber spec.max_jobs
     × (spec_fault spec ≡ None)
 
 -- ---- scripts

@@ -13,10 +13,11 @@ use Rattle.drm_script.specs.declared.header.Section.{Section}
 use Rattle.drm_script.specs.declared.header.Section.TheVariants as section
 use Rattle.drm_text.specs.declared.keywords.Keyword.{Keyword}
 use Rattle.drm_text.specs.declared.keywords.Keyword.TheVariants as line
-use Rattle.drm_text.specs.Cut.{Words, Left}
+use Rattle.drm_text.specs.Cut.{Words, Left, parts_of}
 use Rattle.drm_text.specs.Reading.{◌>>=◌, ◌>>+◌, or_fault, or_bad_device}
 use Rattle.drm_text.specs.Hexadecimal.{last_bytes_at}
 use Rattle.drm_text.specs.Lines.{start_at, last_line, out_of_order}
+use Rattle.drm_text.specs.Number.{number_up_to}
 use Rattle.drm_text.specs.Words.{word_at, number_at, last_number_at, end_at, fault_here}
 
 abbrev pub priority_of : List ℕ → Option Priority
@@ -69,14 +70,30 @@ ring_at words = do
   hang_limit ← last_number_at (2 ^ 32 - 1) timeout.1
   Ok (record { credit_limit = credit_limit.0; timeout = timeout.0; hang_limit = hang_limit })
 
--- the entity of a ring's number and a priority
+-- these rings, and those whose numbers the pieces spell
+unfoldable pub with_rings : List ℕ → List (List ℕ) → Option (List ℕ)
+with_rings rings [] = Some rings
+with_rings rings (piece ∷ rest) = number_up_to (2 ^ 32 - 1) piece >>+ λ ring. with_rings (rings ++ ring ∷ []) rest
+
+-- the rings that a word lists: between its commas each part is a number
+abbrev pub rings_of : List ℕ → Option (List ℕ)
+rings_of word = with_rings [] (parts_of 44 word)
+
+-- the rings of the next word. A part that is no number is a fault of the whole word
+unfoldable pub rings_at : Words → Result (List ℕ × Words) Fault
+rings_at words =
+    word_at words >>= λ word.
+    or_fault (rings_of word.0) (fault_here words what.Number) >>= λ rings.
+    Ok (rings, word.1)
+
+-- the entity of a list of rings and a priority
 unfoldable pub entity_at : Words → Result EntitySpec Fault
 entity_at words = do
-  ring ← number_at (2 ^ 32 - 1) words
-  word ← word_at ring.1
-  priority ← or_fault (priority_of word.0) (fault_here ring.1 what.Word)
+  rings ← rings_at words
+  word ← word_at rings.1
+  priority ← or_fault (priority_of word.0) (fault_here rings.1 what.Word)
   _ ← end_at word.1
-  Ok (record { ring = ring.0; priority = priority })
+  Ok (record { rings = rings.0; priority = priority })
 
 -- the device has to be within its limits
 unfoldable pub checked_device : DeviceSpec → Result (Unit {0}) Fault

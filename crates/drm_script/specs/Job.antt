@@ -25,6 +25,8 @@ kind_by_first [] = None
 kind_by_first (byte ∷ rest) =
     if byte == 114 then Some (kind.Declared access.Read)
     else if byte == 119 then Some (kind.Declared access.Write)
+    else if byte == 104 then Some (kind.Declared access.Hold)
+    else if byte == 109 then Some (kind.Declared access.Move)
     else if byte == 97 then Some kind.After
     else None
 

@@ -45,7 +45,7 @@ HasBytes bytes = AllByRecursion (λ byte. byte < 256) bytes
 -- the numbers and bytes of a device are in the ranges of texts
 abbrev pub DeviceFits : DeviceSpec → Type 0
 DeviceFits spec =
-    AllByRecursion HasBytes spec.buffers × AllByRecursion RingFits spec.rings × AllByRecursion (λ entity. IsNumber entity.ring) spec.entities
+    AllByRecursion HasBytes spec.buffers × AllByRecursion RingFits spec.rings × AllByRecursion (λ entity. AllByRecursion IsNumber entity.rings) spec.entities
     × IsNumber spec.max_jobs
 
 -- a text that is no longer than texts are spells the journal

@@ -31,8 +31,13 @@ text_of_priority priority.Low = codes " low"
 abbrev pub line_of_ring : RingSpec → List ℕ
 line_of_ring ring = codes "ring" ++ numbers (ring.credit_limit ∷ ring.timeout ∷ ring.hang_limit ∷ []) ++ 10 ∷ []
 
+-- the rings of an entity: each but the first after a comma
+abbrev pub text_of_rings : List ℕ → List ℕ
+text_of_rings [] = []
+text_of_rings (ring ∷ rings) = decimal ring ++ separated 44 rings
+
 abbrev pub line_of_entity : EntitySpec → List ℕ
-line_of_entity entity = codes "entity" ++ numbers (entity.ring ∷ []) ++ text_of_priority entity.priority ++ 10 ∷ []
+line_of_entity entity = codes "entity " ++ text_of_rings entity.rings ++ text_of_priority entity.priority ++ 10 ∷ []
 
 unfoldable pub text_of_header : DeviceSpec → List ℕ
 text_of_header spec =
@@ -45,6 +50,8 @@ text_of_header spec =
 abbrev pub word_of_declaration : ℕ × Access → List ℕ
 word_of_declaration (buffer, access.Read) = codes " r" ++ decimal buffer
 word_of_declaration (buffer, access.Write) = codes " w" ++ decimal buffer
+word_of_declaration (buffer, access.Hold) = codes " h" ++ decimal buffer
+word_of_declaration (buffer, access.Move) = codes " m" ++ decimal buffer
 
 abbrev pub word_of_fence : ℕ → List ℕ
 word_of_fence fence = codes " a" ++ decimal fence

@@ -10,7 +10,7 @@ use drm_types::Outcome;
 use std::alloc::{AllocError, Global};
 
 /// A number. Most are short, so their digits are put one by one.
-fn put_decimal(out: &mut Vec<u8>, value: u64) -> Result<(), AllocError>
+pub fn put_decimal(out: &mut Vec<u8>, value: u64) -> Result<(), AllocError>
     ensures { OnOk result (out.new.items ≡ out.old.items ++ decimal value) }
 {
     let mut buffer = itoa::Buffer::new();
@@ -81,7 +81,9 @@ fn put_job_fault(out: &mut Vec<u8>, fault: JobFault) -> Result<(), AllocError>
         JobFault::TooMany { what } => put_refused(out, &[13, number_of(what)]),
         JobFault::NoBuffer { buffer } => put_refused(out, &[14, u64::from(buffer.number())]),
         JobFault::DeclaredTwice { buffer } => put_refused(out, &[15, u64::from(buffer.number())]),
+        JobFault::MoveNotKernel { buffer } => put_refused(out, &[19, u64::from(buffer.number())]),
         JobFault::PacketUndeclared { packet } => put_refused(out, &[16, u64::from(packet)]),
+        JobFault::PacketOnHold { packet } => put_refused(out, &[21, u64::from(packet)]),
         JobFault::PacketReadOnly { packet } => put_refused(out, &[17, u64::from(packet)]),
         JobFault::PacketRange { packet } => put_refused(out, &[18, u64::from(packet)]),
     }
@@ -105,6 +107,7 @@ fn put_refusal(out: &mut Vec<u8>, refusal: Refusal) -> Result<(), AllocError>
         Refusal::Waits => put_refused(out, &[44]),
         Refusal::Nothing => put_refused(out, &[45]),
         Refusal::Busy { fence } => put_refused(out, &[46, u64::from(fence)]),
+        Refusal::PacketOut => put_refused(out, &[47]),
         Refusal::CtxBusy => put_refused(out, &[50]),
         Refusal::CtxIdle => put_refused(out, &[51]),
         Refusal::NotHeld { buffer } => put_refused(out, &[52, u64::from(buffer.number())]),

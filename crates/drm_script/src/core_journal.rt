@@ -1,12 +1,14 @@
 //! The journal of what a core did.
 
-ghost use Rattle.std.specs.Prelude.{◌≡◌, IfOk, map};
+ghost use Rattle.std.specs.Prelude.{◌≡◌, IfOk, length, map};
+ghost use Rattle.drm_buffer.specs.Stored.{AreIn};
 ghost use Rattle.drm_fence.specs.Phases.{outcome_of as outcome_in};
 ghost use Rattle.drm_script.specs.Leaving.{left_by, told_of, journal_left};
 
 use crate::journal::{Journal, JournalJob};
+use drm_buffer::Store;
 use drm_core::{Closed, Core, JobRecord, Phase};
-use drm_types::{Outcome, Sequence};
+use drm_types::{BufferId, Outcome, Sequence};
 use std::alloc::{AllocError, Global};
 
 /// How a job of this phase ended, if it has.
@@ -52,6 +54,24 @@ fn tell_records(
     Ok(Sequence::from_vec(jobs))
 }
 
+/// Copies of the bytes of so many buffers, which are all that the store has.
+fn tell_buffers(
+    alloc: Global,
+    store: &Store,
+    count: u32,
+) -> Result<Sequence<Sequence<u8>>, AllocError>
+    requires all { count ≡ length store.now.bytes }
+    requires inside { AreIn count store.now.out }
+    ensures { IfOk result (λ finals. finals ≡ store.now.bytes) }
+{
+    let mut finals = Vec::with_capacity(alloc, count as usize)?;
+    for number in 0..count {
+        let bytes = store.bytes(BufferId::new(number));
+        finals.push(Sequence::from_vec(Vec::from_slice(alloc, bytes)?))?;
+    }
+    Ok(Sequence::from_vec(finals))
+}
+
 impl Journal {
     /// The journal of what the core did, whatever that was. The machine that runs its jobs one after another leaves
     /// its last bytes, so a check of it finds no difference.
@@ -65,6 +85,7 @@ impl Journal {
             buffers,
         } = core.close();
         let jobs = tell_records(alloc, records)?;
-        Ok(Journal::new(spec, jobs, buffers))
+        let finals = tell_buffers(alloc, &buffers, spec.buffers.len() as u32)?;
+        Ok(Journal::new(spec, jobs, finals))
     }
 }

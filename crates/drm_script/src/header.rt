@@ -2,13 +2,15 @@
 
 ghost use Rattle.std.specs.Prelude.{◌≡◌, ◌≤◌, None, Ok, length, replicate, IfOk};
 ghost use Rattle.drm_types.specs.Limits.{spec_fault};
-ghost use Rattle.drm_text.specs.Reading.{Reads, Gives};
-ghost use Rattle.drm_script.specs.Header.{priority_of, section_of, follows, section_after, is_open, ring_at, entity_at, checked_device, with_header_words, header_line, header_at};
+ghost use Rattle.drm_text.specs.Reading.{Reads, Gives, or_fault};
+ghost use Rattle.drm_text.specs.Words.{fault_here};
+ghost use Rattle.drm_script.specs.Header.{priority_of, section_of, follows, section_after, is_open, ring_at, rings_of, rings_at, entity_at, checked_device, with_header_words, header_line, header_at};
 
 use drm_text::{
-    Fault, Keyword, Lines, ReadError, TextFault, Words, order_fault, read_last_bytes, read_start,
+    Fault, Keyword, Lines, Parts, ReadError, TextFault, Words, order_fault, read_last_bytes,
+    read_number, read_start,
 };
-use drm_types::{DeviceSpec, EntitySpec, Priority, RingSpec, Sequence};
+use drm_types::{DeviceSpec, EntitySpec, Priority, RingId, RingSpec, Sequence};
 use std::alloc::Global;
 
 /// The parts of a header, in their order.
@@ -91,18 +93,44 @@ fn read_ring(words: &mut Words) -> Result<RingSpec, Fault>
     })
 }
 
-#[tactic(auto, unfolding(crate::specs::Header::entity_at))]
-fn read_entity(words: &mut Words) -> Result<EntitySpec, Fault>
-    ensures { Reads (λ entity. entity) result (entity_at words.old) }
+/// The rings that a word lists, a comma between each two, or this fault where a part is no number.
+#[tactic(auto, unfolding(crate::specs::Header::with_rings))]
+fn read_ring_list(
+    alloc: Global,
+    word: &[u8],
+    fault: Fault,
+) -> Result<Sequence<RingId>, ReadError>
+    requires { length word.now ≤ 1048576 }
+    ensures { Gives (λ rings. rings) result (or_fault (rings_of word.now) fault) }
 {
-    let ring = words.number(u64::from(u32::MAX))?;
+    let mut rings = Sequence::new(alloc);
+    let mut pieces = Parts::new(word, b',');
+    while let Some(piece) = pieces.next() {
+        let ring = read_number(piece, u64::from(u32::MAX)).ok_or(fault)?;
+        rings.push(ring as u32)?;
+    }
+    Ok(rings)
+}
+
+/// The rings that the next word lists. A part of it that is no number is a fault of the whole word.
+#[tactic(auto, unfolding(crate::specs::Header::rings_at))]
+fn read_rings(alloc: Global, words: &mut Words) -> Result<Sequence<RingId>, ReadError>
+    ensures value { Gives (λ rings. (rings, words.new)) result (rings_at words.old) }
+{
+    let fault = words.fault(TextFault::Number);
+    let word = words.word()?;
+    read_ring_list(alloc, word, fault)
+}
+
+#[tactic(auto, unfolding(crate::specs::Header::entity_at))]
+fn read_entity(alloc: Global, words: &mut Words) -> Result<EntitySpec, ReadError>
+    ensures { Gives (λ entity. entity) result (entity_at words.old) }
+{
+    let rings = read_rings(alloc, words)?;
     let fault = words.fault(TextFault::Word);
     let priority = read_priority(words.word()?).ok_or(fault)?;
     words.end()?;
-    Ok(EntitySpec {
-        ring: ring as u32,
-        priority,
-    })
+    Ok(EntitySpec { rings, priority })
 }
 
 /// That the device is within its limits.
@@ -140,7 +168,7 @@ fn add_header_words(
             spec.buffers.push(zeros(alloc, size)?)?;
         }
         Keyword::Ring => spec.rings.push(read_ring(words)?)?,
-        Keyword::Entity => spec.entities.push(read_entity(words)?)?,
+        Keyword::Entity => spec.entities.push(read_entity(alloc, words)?)?,
         Keyword::Jobs => spec.max_jobs = words.last_number(u64::from(u32::MAX))? as u32,
         _ => words.end()?,
     }

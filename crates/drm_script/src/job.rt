@@ -35,6 +35,8 @@ fn read_kind(word: &[u8]) -> Option<Kind>
     match word {
         [b'r', ..] => Some(Kind::Declared(Access::Read)),
         [b'w', ..] => Some(Kind::Declared(Access::Write)),
+        [b'h', ..] => Some(Kind::Declared(Access::Hold)),
+        [b'm', ..] => Some(Kind::Declared(Access::Move)),
         [b'a', ..] => Some(Kind::After),
         _ => None,
     }

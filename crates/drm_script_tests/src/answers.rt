@@ -95,9 +95,14 @@ fn refusals_of_jobs(rt: HostRuntime) -> Result<(), Fail> {
             buffer: BufferId::new(3),
         })),
         Answer::Refused(Refusal::Faulty(JobFault::PacketRange { packet: 1 })),
+        Answer::Refused(Refusal::Faulty(JobFault::MoveNotKernel {
+            buffer: BufferId::new(2),
+        })),
+        Answer::Refused(Refusal::Faulty(JobFault::PacketOnHold { packet: 4 })),
     ];
     let text = write_answers(rt.alloc(), &answers)?;
-    let want: &[u8] = b"refused 10\nrefused 13 2\nrefused 15 3\nrefused 18 1\n";
+    let want: &[u8] =
+        b"refused 10\nrefused 13 2\nrefused 15 3\nrefused 18 1\nrefused 19 2\nrefused 21 4\n";
     assert!(rt; text.as_slice() == want);
     Ok(())
 }
@@ -112,11 +117,12 @@ fn refusals_of_events(rt: HostRuntime) -> Result<(), Fail> {
         Answer::Refused(Refusal::StillHolds {
             buffer: BufferId::new(0),
         }),
+        Answer::Refused(Refusal::PacketOut),
         Answer::Refused(Refusal::Already),
     ];
     let text = write_answers(rt.alloc(), &answers)?;
-    let want: &[u8] =
-        b"refused 12\nrefused 20 7\nrefused 41 2 1\nrefused 46 0\nrefused 56 0\nrefused 114\n";
+    let want: &[u8] = b"refused 12\nrefused 20 7\nrefused 41 2 1\nrefused 46 0\nrefused 56 0\nrefused 47\n\
+refused 114\n";
     assert!(rt; text.as_slice() == want);
     Ok(())
 }

@@ -57,8 +57,10 @@ fn faults_of_commands(rt: HostRuntime) -> Result<(), Fail> {
 
 #[test]
 fn faults_of_jobs(rt: HostRuntime) -> Result<(), Fail> {
-    let table: [(&[u8], u32, u32); 5] = [
+    let table: [(&[u8], u32, u32); 7] = [
         (b"submit 0 1 a0 w9x\n", 15, 70),
+        (b"submit 0 1 a0 h9x\n", 15, 70),
+        (b"submit 0 1 h0 m\n", 15, 71),
         (b"submit 0 65536\n", 10, 71),
         (b"submit 0 1 w0 fill:0:0:4\n", 15, 70),
         (b"submit 0 1 w0 fill:0:0:4:0G\n", 15, 71),
@@ -164,6 +166,23 @@ fn words_of_a_job(rt: HostRuntime) -> Result<(), Fail> {
     assert_eq!(rt; draft.declared.len(), 2);
     assert!(rt; draft.declared.as_slice().first() == Some(&(BufferId::new(0), Access::Write)));
     assert!(rt; draft.after.as_slice().first() == Some(&7));
+    Ok(())
+}
+
+#[test]
+fn declarations_of_a_job(rt: HostRuntime) -> Result<(), Fail> {
+    let text = joined(rt.alloc(), DEVICE, b"submit 0 1 m0 h1 w2 r3\n")?;
+    let Ok(script) = read_script(rt.alloc(), &text) else {
+        panic!(rt; "refused");
+    };
+    let Some(Event::Submit { draft }) = script.lines.as_slice().first() else {
+        panic!(rt; "no job");
+    };
+    let want = [Access::Move, Access::Hold, Access::Write, Access::Read];
+    assert_eq!(rt; draft.declared.len(), want.len());
+    for (declared, want) in draft.declared.as_slice().iter().zip(&want) {
+        assert_eq!(rt; declared.1, *want);
+    }
     Ok(())
 }
 

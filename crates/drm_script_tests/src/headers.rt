@@ -31,6 +31,48 @@ fn faults_of_headers(rt: HostRuntime) {
     }
 }
 
+/// A part of a list of rings that is no number is told at the list, whatever stands behind it.
+#[test]
+fn faults_of_ring_lists(rt: HostRuntime) {
+    let table: [(&[u8], u32, u32); 8] = [
+        (b"entity  normal\n", 8, 70),
+        (b"entity 0, normal\n", 8, 71),
+        (b"entity ,0 normal\n", 8, 71),
+        (b"entity 0,,1 normal\n", 8, 71),
+        (b"entity 0,01 normal\n", 8, 71),
+        (b"entity 10,4294967296 normal\n", 8, 71),
+        (b"entity 0,x middle\n", 8, 71),
+        (b"entity 0,1 middle\n", 12, 70),
+    ];
+    for (text, column, number) in table {
+        assert_eq!(rt; fault_of(rt.alloc(), text), Some((1, column, number)));
+    }
+}
+
+#[test]
+fn rings_are_listed_in_their_order(rt: HostRuntime) {
+    let text = b"buffer 00\nring 4 10 0\nring 4 10 0\nentity 1,0 low\nentity 1 low\njobs 8\ngo\n";
+    let Ok(script) = read_script(rt.alloc(), text) else {
+        panic!(rt; "refused");
+    };
+    let lists: [&[u32]; 2] = [&[1, 0], &[1]];
+    for (entity, rings) in script.spec.entities.as_slice().iter().zip(&lists) {
+        assert!(rt; entity.rings.as_slice() == *rings);
+    }
+}
+
+#[test]
+fn faults_of_listed_rings(rt: HostRuntime) {
+    let table: [&[u8]; 3] = [
+        b"buffer 00\nring 4 10 0\nentity 0 low\nentity 0,0 low\njobs 8\ngo\n",
+        b"buffer 00\nring 4 10 0\nentity 0 low\nentity 0,1 low\njobs 8\ngo\n",
+        b"buffer 00\nring 4 10 0\nentity 0 low\nentity 0,1,2,3,4,5,6,7,8 low\njobs 8\ngo\n",
+    ];
+    for text in table {
+        assert_eq!(rt; fault_of(rt.alloc(), text), Some((7, 1, 1)));
+    }
+}
+
 #[test]
 fn faults_of_devices(rt: HostRuntime) {
     let no_credits = b"buffer 00\nring 0 10 0\nentity 0 low\njobs 8\ngo\n";

@@ -36,6 +36,20 @@ fn a_journal_is_written_as_it_was_read(rt: HostRuntime) -> Result<(), Fail> {
     Ok(())
 }
 
+/// An entity with two rings, a hold and a move.
+const MOVES: &[u8] = b"buffer 00\nring 4 10 1\nring 4 10 1\nentity 1,0 kernel\njobs 8\ngo\n\
+job 0 0 0 1 h0\njob 1 1 0 1 m0 fill:0:0:1:07\nfinal 07\nend\n";
+
+#[test]
+fn a_journal_of_moves_is_written_as_it_was_read(rt: HostRuntime) -> Result<(), Fail> {
+    let Some(journal) = read_example(rt.alloc(), MOVES) else {
+        panic!(rt; "refused");
+    };
+    let written = write_journal(rt.alloc(), &journal)?;
+    assert!(rt; written.as_slice() == MOVES);
+    Ok(())
+}
+
 #[test]
 fn a_journal_is_read_from_a_reader(rt: HostRuntime) -> Result<(), Fail> {
     let text = example(rt.alloc())?;
@@ -66,12 +80,14 @@ fn fault_of(
 
 #[test]
 fn faults_of_journals_jobs(rt: HostRuntime) -> Result<(), Fail> {
-    let table: [(&[u8], u32, u32); 6] = [
+    let table: [(&[u8], u32, u32); 8] = [
         (b"job 4 -125 0 1\n", 1, 77),
         (b"job 1 -3 0 1 w0 fill:0:0:1:01\n", 1, 77),
         (b"job 1 1 0 1\n", 1, 77),
         (b"job 0 0 0 1 a0\n", 1, 77),
         (b"job 0 0 1 1\n", 1, 77),
+        (b"job 0 0 0 1 m0\n", 1, 77),
+        (b"job 0 0 0 1 h0 fill:0:0:1:01\n", 1, 77),
         (b"job 0 2 0 1\n", 7, 70),
     ];
     for (job, column, number) in table {

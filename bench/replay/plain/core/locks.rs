@@ -2,6 +2,7 @@
 use super::submission::checked;
 use super::Refusal::{Plain, With};
 use super::{Context, Core, Refusal, Use};
+use crate::job::Usage;
 use crate::output::Output;
 use crate::script::Checked;
 
@@ -114,7 +115,7 @@ impl Core<'_> {
 
     pub(super) fn read(&mut self, context: u8, buffer: u8, out: &mut Output) -> Result<(), Refusal> {
         self.holding(context, buffer)?;
-        let active = |entry: &&Use| entry.writes && !self.phases[entry.fence as usize].has_ended();
+        let active = |entry: &&Use| entry.usage <= Usage::Write && !self.phases[entry.fence as usize].has_ended();
         let uses = &self.reservations[usize::from(buffer)];
         if let Some(least) = uses.iter().filter(active).map(|entry| entry.fence).min() {
             return Err(With(46, least));

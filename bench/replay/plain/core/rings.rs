@@ -122,7 +122,9 @@ impl Core<'_> {
             true => Phase::Cancelled,
             false => Phase::Good,
         };
+        self.entities[usize::from(job.entity)].left -= 1;
         let ring = &mut self.rings[usize::from(number)];
+        ring.left -= 1;
         ring.counted -= job.credits;
         ring.pending.pop(&self.armed);
         if ring.current == head {
@@ -200,6 +202,9 @@ impl Core<'_> {
             return Err(Plain(44));
         }
         self.leave_queue(number);
+        let entity = &mut self.entities[usize::from(number)];
+        entity.left -= 1;
+        self.rings[usize::from(entity.ring)].left -= 1;
         self.phases[head as usize] = Phase::Stopped;
         self.wake(same_ring);
         self.wake(other_rings);

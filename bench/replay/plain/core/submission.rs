@@ -13,7 +13,9 @@ pub(super) fn checked(job: Checked) -> Result<u32, Refusal> {
         JobFault::TooMany(what) => With(13, u32::from(what)),
         JobFault::NoBuffer(buffer) => With(14, buffer),
         JobFault::DeclaredTwice(buffer) => With(15, u32::from(buffer)),
+        JobFault::MoveNotKernel(buffer) => With(19, u32::from(buffer)),
         JobFault::Undeclared(packet) => With(16, packet),
+        JobFault::OnHold(packet) => With(21, packet),
         JobFault::ReadOnly(packet) => With(17, packet),
         JobFault::OutOfRange(packet) => With(18, packet),
     })
@@ -51,9 +53,7 @@ impl<'s> Core<'s> {
     /// The job gets its fence and joins its entity's queue.
     pub(super) fn arm(&mut self, job: &'s Job, out: &mut Output) -> Result<(), Refusal> {
         let fence = self.armed.len() as u32;
-        let entity = &self.entities[usize::from(job.entity)];
-        let ring = entity.ring;
-        if entity.is_stopped {
+        if self.entities[usize::from(job.entity)].is_stopped {
             return Err(Plain(30));
         }
         if fence >= self.script.device.jobs {
@@ -63,11 +63,16 @@ impl<'s> Core<'s> {
         if let Some(unknown) = after.iter().find(|after| **after >= fence) {
             return Err(With(20, *unknown));
         }
+        let ring = self.ring_for(job.entity);
+        let entity = &mut self.entities[usize::from(job.entity)];
+        entity.ring = ring;
+        entity.left += 1;
+        self.rings[usize::from(ring)].left += 1;
         self.armed.push(Armed::new(job, self.rings[usize::from(ring)].limit, self.dependencies.len()));
         self.phases.push(Phase::Queued);
         self.link(job, fence, ring);
         for declared in self.script.jobs.declarations_of(job) {
-            self.add_use(declared.buffer, Use { fence, entity: job.entity, writes: declared.writes });
+            self.add_use(declared.buffer, Use { fence, entity: job.entity, usage: declared.access.adds() });
         }
         let queue = &mut self.entities[usize::from(job.entity)].queue;
         queue.push(&mut self.armed, fence);
@@ -76,6 +81,17 @@ impl<'s> Core<'s> {
         }
         out.line(b"armed ", u64::from(fence), b"\n");
         Ok(())
+    }
+
+    /// The ring of the entity's next job: an entity with no job left moves to the ring of its list with the fewest jobs
+    /// left, of equal ones to the first.
+    fn ring_for(&self, number: u8) -> u8 {
+        let entity = &self.entities[usize::from(number)];
+        if entity.left > 0 {
+            return entity.ring;
+        }
+        let listed = self.script.device.entities[usize::from(number)].rings.iter();
+        listed.min_by_key(|ring| self.rings[**ring as usize].left).map_or(entity.ring, |ring| *ring as u8)
     }
 
     /// Finds the jobs that the new one waits for: for each other entity the latest that has not ended. Those of its own
@@ -92,7 +108,7 @@ impl<'s> Core<'s> {
         };
         for declared in self.script.jobs.declarations_of(job) {
             for entry in &self.reservations[usize::from(declared.buffer)] {
-                if declared.writes || entry.writes {
+                if entry.usage <= declared.access.wanted() {
                     note(entry.entity, entry.fence, &self.phases);
                 }
             }
@@ -127,7 +143,7 @@ impl<'s> Core<'s> {
         let phases = &self.phases;
         let uses = &mut self.reservations[usize::from(buffer)];
         let replaced = uses.iter_mut().find(|old| {
-            old.entity == new.entity && (new.writes || !old.writes) || phases[old.fence as usize].has_ended()
+            old.entity == new.entity && new.usage <= old.usage || phases[old.fence as usize].has_ended()
         });
         match replaced {
             Some(old) => *old = new,

@@ -47,7 +47,7 @@ fn failed_writes(rt: HostRuntime) {
 fn faults(rt: HostRuntime) -> Result<(), Fail> {
     let mut late = Vec::from_slice(rt.alloc(), FIRST_FILL)?;
     late.extend_from_slice(b"dump 9\n")?;
-    let table: [(&[u8], &str); 4] = [
+    let table: [(&[u8], &str); 6] = [
         (b"", "line 1 column 1: fault 73"),
         (late.as_slice(), "line 14 column 6: fault 72"),
         (
@@ -55,6 +55,14 @@ fn faults(rt: HostRuntime) -> Result<(), Fail> {
             "refused 1 3 0",
         ),
         (b"buffer 00\nring 4 10 0\njobs 8\ngo\n", "refused 1 6 0"),
+        (
+            b"buffer 00\nring 4 10 0\nentity 0,0 low\njobs 8\ngo\n",
+            "refused 1 7 0",
+        ),
+        (
+            b"buffer 00\nring 4 10 0\nentity 0,x low\njobs 8\ngo\n",
+            "line 3 column 8: fault 71",
+        ),
     ];
     for (text, told) in table {
         try_run(&rt, rt.alloc(), Engine::Replay, text, b"", 2, told)?;
@@ -73,6 +81,15 @@ fn every_command(rt: HostRuntime) -> Result<(), Fail> {
         0,
         "done",
     )
+}
+
+/// An entity with two rings is on the first of its list, and only one with kernel priority moves a buffer.
+#[test]
+fn holds_and_moves(rt: HostRuntime) -> Result<(), Fail> {
+    let text = b"buffer 0000\nring 4 10 0\nring 4 10 0\nentity 1,0 normal\njobs 8\ngo\n\
+submit 0 1 h0\nsubmit 0 1 m0\nsubmit 0 1 h0 fill:0:0:1:01\npick 0 0\npick 1 0\n";
+    let answers = b"armed 0\nrefused 19 0\nrefused 21 0\nrefused 40\npicked 0 run\n";
+    try_run(&rt, rt.alloc(), Engine::Replay, text, answers, 0, "done")
 }
 
 /// A front of the script is a script exactly where it ends with a line behind the header.
