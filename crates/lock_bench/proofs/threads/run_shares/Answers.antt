@@ -14,7 +14,6 @@ use Rattle.lock_bench.proofs.threads.run_shares.Lts.{arg-1-4}
 use Rattle.ww_lock.specs.Begun.{IsIdle}
 use Rattle.ww_lock.specs.Boards.{table_of}
 use Rattle.ww_lock.specs.contracts.board.Board as Board
-use Rattle.ww_lock.specs.contracts.lifetime.Seat as Seat
 use Rattle.lock_bench.proofs.threads.run_shares.Goals as goal
 
 pub map_vec-requires-send-J : goal.map_vec-requires-send-J
