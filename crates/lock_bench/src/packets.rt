@@ -117,6 +117,7 @@ fn run_shares<R: Threads + Wait + Sync>(
 ) -> Result<(), AllocError>
     requires { All (λ s. IsIdle (table_of board.now) s.seat) shares.items }
 {
+    board.crosses_threads();
     thread::map_vec(
         rt,
         shares,

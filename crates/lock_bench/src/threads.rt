@@ -59,6 +59,7 @@ fn run_shares<R: Threads + Wait + Clock + Sync>(
     requires seats { All (λ s. IsIdle (table_of board.now) s.seat) shares.items }
     requires locks { kind.locks ≤ board.now.buffers }
 {
+    board.crosses_threads();
     let made = thread::map_vec(
         rt,
         shares,

@@ -1,16 +1,16 @@
-pub mod Lists
-pub mod LocksKept
-pub mod PivotsKept
-pub mod LooksKept
-pub mod TasksKept
-pub mod Kept
-pub mod Trying
-pub mod Opening
-pub mod Waiting
-pub mod Turning
-pub mod Finding
-pub mod Closing
-pub mod Releasing
-pub mod Crosses
-pub mod Sharing
-pub mod Ready
+mod Lists
+mod LocksKept
+mod PivotsKept
+mod LooksKept
+mod TasksKept
+mod Kept
+mod Trying
+mod Opening
+mod Waiting
+mod Turning
+mod Finding
+mod Closing
+mod Releasing
+mod Crosses
+mod Sharing
+mod Ready

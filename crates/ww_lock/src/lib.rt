@@ -11,6 +11,7 @@
 mod acquire;
 mod begin;
 mod board;
+mod crossing;
 mod inside;
 mod lifetime;
 mod locks;

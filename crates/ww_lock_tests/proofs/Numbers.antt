@@ -10,7 +10,7 @@ use Rattle.ww_lock.specs.Rule.{In}
 use Rattle.ww_lock.specs.Steps.{number_of}
 use Rattle.ww_lock.specs.Held.{IsApart, IsSameKeys}
 use Rattle.ww_lock_tests.specs.Numbers.{Counts, count_of}
-use Rattle.ww_lock.proofs.Lists.{at_in}
+use Rattle.ww_lock_tests.proofs.Held.{at_in}
 
 pub count_most : (b : ℕ) (ns : List ℕ) → count_of b ns ≤ length ns
 count_most b [] = omega arith

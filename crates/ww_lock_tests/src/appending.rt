@@ -150,6 +150,7 @@ fn append_in_threads<R: Threads + Wait + Sync>(
     ensures { IsIdle (table_of board.now) result }
 {
     let (one, other) = board.split(seat);
+    board.crosses_threads();
     let (one, other) = thread::join(
         rt,
         move ||

@@ -119,6 +119,7 @@ fn count_in_threads<R: Threads + Wait + Sync>(
 ) -> bool
     requires { All (λ j. IsIdle (table_of board.now) j.seat) jobs.items }
 {
+    board.crosses_threads();
     thread::map_vec(
         rt,
         jobs,

@@ -1,4 +1,4 @@
-use Rattle.std.proofs.Common.{rules, ◌≡◌, ◌<◌, refl, true, false, Some, length, slice_get, ap, ◌∙◌, arith}
+use Rattle.std.proofs.Common.{rules, ◌≡◌, ◌<◌, refl, true, false, Some, length, slice_get, ap, ◌∙◌}
 use Rattle.std.proofs.lemmas.Option.{slice_get_within}
 use Rattle.lock_bench.proofs.Flags.{set_here, set_more}
 use Rattle.lock_bench.proofs.packets.begin_packet.Goals as goal

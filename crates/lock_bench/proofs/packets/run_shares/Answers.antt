@@ -13,10 +13,10 @@ use Rattle.lock_bench.specs.contracts.packets.Packets as Packets
 use Rattle.lock_bench.specs.contracts.packets.PacketsWard.TheImpl.{ghosts as ward}
 use Rattle.lock_bench.specs.contracts.packets.run_shares.{R-row}
 use Rattle.lock_bench.proofs.packets.run_shares.Given.{Over}
-use Rattle.lock_bench.proofs.packets.run_shares.Lts.{arg-0-4}
+use Rattle.lock_bench.proofs.packets.run_shares.Lts.{arg-1-4}
 use Rattle.ww_lock.specs.Begun.{IsIdle}
 use Rattle.ww_lock.specs.Boards.{table_of}
-use Rattle.ww_lock.proofs.Crosses.{seat_send, board_sync}
+use Rattle.ww_lock.specs.contracts.board.Board as Board
 use Rattle.lock_bench.proofs.packets.run_shares.Goals as goal
 
 flags_send : IsSend (Vec.the_row bool Global.the_row ghosts)
@@ -25,17 +25,17 @@ flags_send = heap.Vec-send bool (search sendable depth 20)
 engines_send : IsSend Engines.the_row
 engines_send = let f = flags_send in search sendable depth 20
 
-share_send : IsSend (Share.the_row Engines.the_row u64 u32)
-share_send = let s = seat_send Engines.the_row u64 u32 engines_send (search sendable) in search sendable depth 20
-
 pub map_vec-requires-send-J : goal.map_vec-requires-send-J
-map_vec-requires-send-J g c κs within = let s = share_send in search sendable depth 20
+map_vec-requires-send-J g c κs within =
+    let s = c.crosses_threads.ensures.seats in
+    let e = engines_send in
+    let h : IsSend (Share.the_row Engines.the_row u64 u32) = search sendable depth 20 in search sendable depth 20
 
-crossing : (g : Over) → IsSync (R-row g.row.R) → (κs : Lfts 9) → IsSync (param 4 (arg-0-4 g.row.R g.R.laws g.R.Threads-dict g.R.Wait-dict κs))
-crossing g y κs = let b = board_sync Engines.the_row u64 u32 engines_send (search sendable) Packets.the_row ward in search sendable depth 20
+crossing : (g : Over) → IsSync (R-row g.row.R) → IsSync (Board.the_field Packets.the_row Engines.the_row u64 u32 ward).row → (κs : Lfts 9) → IsSync (param 4 (arg-1-4 g.row.R g.R.laws g.R.Threads-dict g.R.Wait-dict κs))
+crossing g y b κs = search sendable depth 20
 
 pub map_vec-requires-sync-F : goal.map_vec-requires-sync-F
-map_vec-requires-sync-F g c κs within = crossing g c.type_bounds.sync-R κs
+map_vec-requires-sync-F g c κs within = let b = c.crosses_threads.ensures.board in crossing g c.type_bounds.sync-R (record { shared = λ x o p κ. b.shared x o p κ }) κs
 
 pub map_vec-requires-after_bounds : goal.map_vec-requires-after_bounds
 map_vec-requires-after_bounds g c κs within i x l e = subst (λ s. IsIdle (table_of c.args.board.now) s.seat) (sym e) (c.requires i x l)

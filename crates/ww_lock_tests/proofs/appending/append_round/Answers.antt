@@ -1,8 +1,7 @@
 use Rattle.std.proofs.Common.{refl, sym, subst, ap, ◌∙◌, true}
 use Rattle.ww_lock.specs.Held.{Lacks}
 use Rattle.ww_lock.specs.Rule.{In}
-use Rattle.ww_lock.proofs.Lists.{key_in}
-use Rattle.ww_lock.proofs.Trying.{lacks_same}
+use Rattle.ww_lock_tests.proofs.Held.{key_in, lacks_same}
 use Rattle.ww_lock_tests.proofs.appending.append_round.Goals as goal
 
 pub returns-in-Err-Memory : goal.returns-in-Err-Memory
