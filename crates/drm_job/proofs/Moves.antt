@@ -1,5 +1,5 @@
 -- Only an entity of KERNEL priority moves.
-use Rattle.std.proofs.Common.{◌≡◌, ◌⊎◌, inl, inr, ℕ, Bool, true, false, cond, List, None, refl, ap}
+use Rattle.std.proofs.Common.{◌≡◌, ◌⊎◌, inl, inr, true, false, cond, None, refl, ap}
 use Rattle.std.specs.Prelude.{All, IsTrue, find, option_map}
 use Rattle.std.proofs.lemmas.List.Elements.{All-from_recursion, recursion_from_All}
 use Rattle.drm_types.specs.declared.spec.DeviceSpec.{DeviceSpec}
