@@ -3,7 +3,7 @@ ghost use Rattle.std.specs.Prelude.{IfOk};
 ghost use Rattle.drm_job.specs.Ranges.{RunsIn};
 
 use crate::{add, buffers_of, device};
-use drm_job::{Draft, Job, check};
+use drm_job::{Draft, Job, check, jobs_run_in_their_device};
 use drm_serial::{Serial, Turn};
 use drm_types::{Access, BufferId, DeviceSpec, Sequence};
 use std::alloc::Global;
@@ -31,7 +31,10 @@ fn adding_job(
         packets: Sequence::from_vec(vec![in alloc; add((source, 0), (target, 0), 1); times]?),
     };
     match check(draft, spec) {
-        Ok(job) => Ok(job),
+        Ok(job) => {
+            jobs_run_in_their_device();
+            Ok(job)
+        }
         Err((_draft, fault)) => Err(Fail::from(fault)),
     }
 }
