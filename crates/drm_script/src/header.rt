@@ -95,11 +95,7 @@ fn read_ring(words: &mut Words) -> Result<RingSpec, Fault>
 
 /// The rings that a word lists, a comma between each two, or this fault where a part is no number.
 #[tactic(auto, unfolding(crate::specs::Header::with_rings))]
-fn read_ring_list(
-    alloc: Global,
-    word: &[u8],
-    fault: Fault,
-) -> Result<Sequence<RingId>, ReadError>
+fn read_ring_list(alloc: Global, word: &[u8], fault: Fault) -> Result<Sequence<RingId>, ReadError>
     requires { length word.now ≤ 1048576 }
     ensures { Gives (λ rings. rings) result (or_fault (rings_of word.now) fault) }
 {
