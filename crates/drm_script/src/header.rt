@@ -3,7 +3,6 @@
 ghost use Rattle.std.specs.Prelude.{◌≡◌, ◌≤◌, None, Ok, length, replicate, IfOk};
 ghost use Rattle.drm_types.specs.Limits.{spec_fault};
 ghost use Rattle.drm_text.specs.Reading.{Reads, Gives, or_fault};
-ghost use Rattle.drm_text.specs.Words.{fault_here};
 ghost use Rattle.drm_script.specs.Header.{priority_of, section_of, follows, section_after, is_open, ring_at, rings_of, rings_at, entity_at, checked_device, with_header_words, header_line, header_at};
 
 use drm_text::{
