@@ -6,11 +6,10 @@ use Rattle.std.proofs.lemmas.Bool.Decides.{nat_tests}
 use Rattle.std.proofs.lemmas.Fmt.{decimal_nonempty}
 use Rattle.std.proofs.lemmas.List.{append-nil}
 use Rattle.std.proofs.lemmas.List.Splits.{join_with_byte-slice_split}
-use Rattle.drm_types.specs.declared.spec.EntitySpec.{EntitySpec}
 use Rattle.drm_text.specs.Cut.{parts_of, Words}
 use Rattle.drm_text.specs.declared.fault.TextFault.TheVariants as what
 use Rattle.drm_text.specs.Number.{number_up_to}
-use Rattle.drm_text.specs.Reading.{◌>>=◌, ◌>>+◌, or_fault}
+use Rattle.drm_text.specs.Reading.{◌>>=◌, or_fault}
 use Rattle.drm_text.specs.Words.{word_at, fault_here}
 use Rattle.drm_text.proofs.PartsJoined.{joined_cut}
 use Rattle.drm_text.proofs.Spelled.{is_graphic, decimal_graphic, passes-decimal, passes-joined, all_free}

@@ -3,7 +3,6 @@
 ghost use Rattle.std.specs.Prelude.{◌≡◌, ◌≤◌, None, Ok, length, replicate, IfOk};
 ghost use Rattle.drm_types.specs.Limits.{spec_fault};
 ghost use Rattle.drm_text.specs.Reading.{Reads, Gives, or_fault};
-ghost use Rattle.drm_text.specs.Words.{fault_here};
 ghost use Rattle.drm_script.specs.Header.{priority_of, section_of, follows, section_after, is_open, ring_at, rings_of, rings_at, entity_at, checked_device, with_header_words, header_line, header_at};
 
 use drm_text::{
@@ -95,11 +94,7 @@ fn read_ring(words: &mut Words) -> Result<RingSpec, Fault>
 
 /// The rings that a word lists, a comma between each two, or this fault where a part is no number.
 #[tactic(auto, unfolding(crate::specs::Header::with_rings))]
-fn read_ring_list(
-    alloc: Global,
-    word: &[u8],
-    fault: Fault,
-) -> Result<Sequence<RingId>, ReadError>
+fn read_ring_list(alloc: Global, word: &[u8], fault: Fault) -> Result<Sequence<RingId>, ReadError>
     requires { length word.now ≤ 1048576 }
     ensures { Gives (λ rings. rings) result (or_fault (rings_of word.now) fault) }
 {

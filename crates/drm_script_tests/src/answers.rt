@@ -121,7 +121,8 @@ fn refusals_of_events(rt: HostRuntime) -> Result<(), Fail> {
         Answer::Refused(Refusal::Already),
     ];
     let text = write_answers(rt.alloc(), &answers)?;
-    let want: &[u8] = b"refused 12\nrefused 20 7\nrefused 41 2 1\nrefused 46 0\nrefused 56 0\nrefused 47\n\
+    let want: &[u8] =
+        b"refused 12\nrefused 20 7\nrefused 41 2 1\nrefused 46 0\nrefused 56 0\nrefused 47\n\
 refused 114\n";
     assert!(rt; text.as_slice() == want);
     Ok(())

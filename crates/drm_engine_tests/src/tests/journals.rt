@@ -54,7 +54,8 @@ fn buffers_and_comparisons(rt: HostRuntime) -> Result<(), Fail> {
 /// The job of a journal is one that the device's check takes: here one of an entity that may not move a buffer.
 #[test]
 fn a_move_of_another_priority(rt: HostRuntime) -> Result<(), Fail> {
-    let text = b"buffer 00\nring 4 10 0\nentity 0 high\njobs 8\ngo\njob 0 0 0 1 m0\nfinal 00\nend\n";
+    let text =
+        b"buffer 00\nring 4 10 0\nentity 0 high\njobs 8\ngo\njob 0 0 0 1 m0\nfinal 00\nend\n";
     let told = "line 6 column 1: fault 77";
     try_run(&rt, rt.alloc(), Engine::Serial, text, b"", 2, told)?;
     try_run(&rt, rt.alloc(), Engine::Check, text, b"", 2, told)
