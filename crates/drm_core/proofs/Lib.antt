@@ -74,3 +74,4 @@ pub mod MarkedReported
 pub mod MarkedBegun
 pub mod MarkedBlanks
 pub mod MarkedGrows
+pub mod MarkedTasks

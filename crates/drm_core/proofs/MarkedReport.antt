@@ -1,4 +1,4 @@
--- A report of a device: what it asks is there, and it leaves the tables whole.
+-- A report of a device: what comes back is what went out, and it is the step of the ring.
 use Rattle.std.proofs.Common.{◌≡◌, ℕ, ◌<◌, List, set, map, length, Some, None, Option, refl, sym, ap, subst, ◌∙◌, slice_get, get_or}
 use Rattle.std.specs.Option.{option_map_or}
 use Rattle.std.specs.Prelude.{option_map, Contains}

@@ -23,6 +23,7 @@ use Rattle.drm_core.proofs.MarksOther.{mark_there}
 use Rattle.drm_core.proofs.MarkedBuffers.{set_both, set_touched, set_untouched}
 use Rattle.drm_core.proofs.MarkedOut.{any_there}
 
+-- what is out of the memory after it is what the other marks keep out
 reported_out : (d : MarkedDevice) (ring : ℕ) (m : Mark) (o : IsOut d.state ring m) (out : List Bool) → HasOut d out → IsSteadyMarked d → ring < length d.marks
     → mark_of d ring ≡ Some m → HasOut (reported_device d ring m o.packet) (set_both out o.packet false)
 reported_out d ring m o out has steady here busy =
@@ -67,6 +68,7 @@ reported_out d ring m o out has steady here busy =
           ] refl;
     }
 
+-- the tables after it
 pub report_marked : (d : MarkedTable) (ring : ℕ) (row : OutMark) (n : Table) (new : MarkedTable) → IsWholeMarked d
     → mark_of (marked_of d) ring ≡ Some (mark_of_row row) → IsBack d.table row.fence n → IsWhole n → new.table ≡ n → new.marks.items ≡ set d.marks.items ring None
     → IsWholeMarked new

@@ -1,4 +1,4 @@
--- A plain step beside packets that are out: they stay out, since it takes none of their buffers.
+-- A step beside packets that are out: they stay out, since it takes none of their buffers.
 use Rattle.std.proofs.Common.{◌≡◌, ℕ, ◌<◌, true, false, cond, List, [], length, Some, None, Option, Result, Ok, Err, refl, sym, ap, subst, ◌∙◌, slice_get}
 use Rattle.std.specs.Option.{option_map_or}
 use Rattle.std.specs.Prelude.{IfOk, IfErr, Contains}

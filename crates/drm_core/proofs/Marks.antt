@@ -57,16 +57,6 @@ report_is_step d ring m out = (
   ran : ℕ → Left
   ran k = (answer.Ran m.fence k, ran_device d m.fence out.packet)
 
--- the memory after a report has the bytes that were brought back, and else what it showed
-pub report_puts : (d : DeviceState) (ring : ℕ) (m : Mark) (out : IsOut d ring m) (target : ℕ) (write : List ℕ) → target_of out.packet ≡ Some target
-    → m.write ≡ Some write → effect out.packet d.memory ≡ set d.memory target (part_effect out.packet write m.read)
-report_puts d ring m out target write target_is write_is =
-    let own : Some write ≡ Some (bytes_of d.memory target) = sym write_is ∙ (out.write ∙ ap (option_map (bytes_of d.memory)) target_is) in
-    let same : write ≡ bytes_of d.memory target = cc (own) in
-    parts_make_the_effect out.packet target d.memory target_is
-    ∙ (ap (λ w. set d.memory target (part_effect out.packet w (other_bytes out.packet d.memory))) (sym same)
-    ∙ ap (λ o. set d.memory target (part_effect out.packet write o)) (sym out.read))
-
 -- a report keeps the device steady
 pub report_steady : (d : DeviceState) (ring : ℕ) (m : Mark) (out : IsOut d ring m) → IsSteady d → ring < length d.spec.rings
     → IsSteady (ran_device d m.fence out.packet)
@@ -75,8 +65,6 @@ report_steady d ring m out steady here =
     let same : c.0 ≡ out.job = cc (c.1.at, out.at) in
     let now = subst (IsCurrent d ring m.fence) same c.1 in
     ran_steady d ring m.fence out.job out.packet steady here now (ap (λ k. slice_get out.job.job.packets k) out.count ∙ out.next)
-
--- ---- what other rings do
 
 -- a search by tests that agree on the list
 pub find_agree : {X : Type 0} (p q : X → Bool) (xs : List X) → ((k : ℕ) (x : X) → slice_get xs k ≡ Some x → p x ≡ q x) → find p xs ≡ find q xs
@@ -94,14 +82,7 @@ leaves_bytes p memory b apart =
           ap (λ (n : List (List ℕ)). bytes_of n b) (w.is memory) ∙ get_or-set_other memory w.target b _ [] other
     ]
 
--- a packet touches its target and its source
-pub target_touched : (p : Packet) (t : ℕ) → target_of p ≡ Some t → Contains (touches p) t
-target_touched (Fill buffer offset len byte) t is = (0, omega arith, let same : buffer ≡ t = cc (is) in same)
-target_touched (Copy source from target to len) t is = (1, omega arith, let same : target ≡ t = cc (is) in same)
-target_touched (Add source from target to len) t is = (1, omega arith, let same : target ≡ t = cc (is) in same)
-target_touched (Stall resets) t is = absurd (cc (is))
-
--- the bytes of a buffer that may not be named
+-- a packet finds the same bytes where its buffers have them
 pub same_bytes : (p : Packet) (old new : List (List ℕ)) → ((b : ℕ) → Contains (touches p) b → bytes_of new b ≡ bytes_of old b)
     → (option_map (bytes_of new) (target_of p) ≡ option_map (bytes_of old) (target_of p)) × (other_bytes p new ≡ other_bytes p old)
 same_bytes (Fill buffer offset len byte) old new same = (ap (λ x. Some x) (same buffer (0, omega arith, refl)), refl)
@@ -153,13 +134,7 @@ ran_leaves_out d ring other f r q m out steady here now apart_rings apart =
       read = out.read ∙ sym bytes.1;
     }
 
--- the device stays busy with each other task, whatever ring begins or reports
-pub still_busy : (d : MarkedDevice) (ring : ℕ) (change : Option Mark) (task : Task) → task.ring ≢ ring → IsBusy d task
-    → IsBusy (record d { marks = set d.marks ring change }) task
-still_busy d ring change task other busy =
-    ap (λ (o : Option (Option Mark)). option_map_or (λ m. m) o None) (get_set_other d.marks ring task.ring change other) ∙ busy
-
--- a packet that goes out is one
+-- a packet that goes out is out
 pub begun_is_out : (d : DeviceState) (ring f : ℕ) (r : JobRecord) (p : Packet) → current_of d ring ≡ Some f → slice_get d.journal f ≡ Some r
     → slice_get r.job.packets r.ran ≡ Some p → must_stall p r.karma.resets ≡ false → IsOut d ring (mark_for d f r p)
 begun_is_out d ring f r p current at next runs = record {
@@ -172,23 +147,4 @@ begun_is_out d ring f r p current at next runs = record {
   runs = runs;
   write = refl;
   read = refl;
-}
-
--- an arming leaves what is out
-pub armed_leaves_out : (d : DeviceState) (ring : ℕ) (job : Draft) (m : Mark) → IsOut d ring m → IsSteady d → ring < length d.spec.rings
-    → IsOut (armed_device d job) ring m
-armed_leaves_out d ring job m out steady here = record {
-  current = find_agree (is_going (armed_device d job).journal) (is_going d.journal) (pending_of d ring)
-      (λ k g at_k.
-      let x = ((steady.lawful.rings ring here).pending g).0 (contains_at (pending_of d ring) k g at_k) in
-      ap (λ (o : Option JobRecord). option_map_or (λ r. not (is_complete r)) o false)
-      (get_before_push d.journal (new_record d job) g x.0 x.1 ∙ sym x.1)) ∙ out.current;
-  job = out.job;
-  at = get_before_push d.journal (new_record d job) m.fence out.job out.at;
-  count = out.count;
-  packet = out.packet;
-  next = out.next;
-  runs = out.runs;
-  write = out.write;
-  read = out.read;
 }

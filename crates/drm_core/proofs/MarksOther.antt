@@ -1,5 +1,4 @@
--- What picks, finishes, timeouts, cancels and reaps leave of a packet that is out: all, where they are of another ring; a pick and
--- a reap also on its own.
+-- What other calls leave of a packet that is out: all of it.
 use Rattle.std.proofs.Common.{◌≡◌, ◌≢◌, ℕ, ◌-◌, ◌<◌, Bool, true, false, not, cond, ◌||◌, List, [], ◌∷◌, ◌++◌, length, Some, None, Option, refl, sym, ap, subst, ◌∙◌, inl, inr, slice_get}
 use Rattle.std.specs.Option.{option_map_or}
 use Rattle.std.specs.Prelude.{◌&&◌, ◌==◌, is_none, nat_lt, find, Contains, option_map}

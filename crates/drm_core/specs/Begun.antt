@@ -8,7 +8,7 @@ use Rattle.drm_core.specs.declared.event.Refusal.TheVariants.{PacketOut}
 use Rattle.drm_core.specs.declared.journal.JobRecord.{JobRecord}
 use Rattle.drm_core.specs.declared.marked.Begun.{Begun}
 use Rattle.drm_core.specs.declared.marked.Begun.TheVariants.{Work, Stalled}
-use Rattle.drm_core.specs.Marks.{Mark, MarkedDevice, mark_of, mark_for, packet_at, begun_device, reported_device}
+use Rattle.drm_core.specs.Marks.{Mark, MarkedDevice, Task, IsBusy, mark_of, mark_for, packet_at, begun_device, reported_device}
 use Rattle.drm_core.specs.Outcomes.{must_stall, step_outcome}
 use Rattle.drm_core.specs.Refusals.{step_refusal}
 use Rattle.drm_core.specs.Ring.{current_of}
@@ -38,3 +38,7 @@ HasReported d ring ran new =
     (m : Mark) × (packet : Packet) × (mark_of d ring ≡ Some m) × (packet_at d.state.journal m.fence m.packet ≡ Some packet)
     × (ran ≡ (m.fence, m.packet)) × (new ≡ reported_device d ring m packet)
     × (step_refusal d.state ring ≡ None) × (step_outcome d.state ring ≡ (answer.Ran m.fence m.packet, new.state))
+
+-- the device is still busy with each task of another ring
+abbrev pub KeepsTasks : MarkedDevice → ℕ → MarkedDevice → Type 0
+KeepsTasks d ring new = (task : Task) → (task.ring ≡ ring → ⊥) → IsBusy d task → IsBusy new task

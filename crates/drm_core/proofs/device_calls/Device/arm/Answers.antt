@@ -1,4 +1,4 @@
-use Rattle.std.proofs.Common.{◌≡◌, ◌∙◌, ap, sym, subst, length}
+use Rattle.std.proofs.Common.{rules, ◌≡◌, ◌∙◌, ap, sym, subst, length}
 use Rattle.std.specs.Vec.{with_items}
 use Rattle.drm_fence.specs.Fences.{has_ended_at}
 use Rattle.drm_core.specs.Arming.{armed_device}
@@ -35,3 +35,6 @@ returns-clause-fit c =
 pub returns-clause-grows : goal.returns-clause-grows
 returns-clause-grows c =
     subst (Grows c.args.self.now.state) (sym (c.arm.ensures.armed ∙ ap (λ (d : MarkedDevice). armed_device d.state c.args.plan.job) c.self.view_is)) (arm_grows c.args.self.now.state c.args.plan.job)
+
+pub returns-clause-armed : goal.returns-clause-armed
+returns-clause-armed c = search rules

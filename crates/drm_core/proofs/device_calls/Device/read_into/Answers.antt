@@ -1,4 +1,4 @@
-use Rattle.std.proofs.Common.{◌≡◌, ◌∙◌, ◌<◌, true, false, length, refl, ap, sym, subst, Some, None}
+use Rattle.std.proofs.Common.{rules, ◌≡◌, ◌∙◌, ◌<◌, true, false, length, refl, ap, sym, subst, Some, None}
 use Rattle.std.specs.Prelude.{option_map}
 use Rattle.drm_core.specs.declared.event.Refusal.TheVariants as refusal
 use Rattle.drm_core.specs.Begun.{out_or}
@@ -67,4 +67,4 @@ returns-in-None-clause-read c =
     ∙ (sym (says_out c.self.inside.parts c.args.buffer c.self.invariant there) ∙ (sym c.is_out.ensures ∙ c.if-is_out.false)) in
     let free : busy_fence c.args.self.now.state.journal c.args.resv.now.kept ≡ None =
     ap (λ (d : MarkedDevice). busy_fence d.state.journal c.args.resv.now.kept) (sym c.self.view_is) ∙ (sym c.busy_fence.ensures ∙ c.in-None.is) in
-    (inside, free, c.copy_from_slice.ensures.after ∙ c.bytes.ensures)
+    (inside, free, search rules)

@@ -13,3 +13,6 @@ returns-clause-grows c =
 
 pub returns-clause-refused : goal.returns-clause-refused
 returns-clause-refused c = search rules
+
+pub returns-clause-expired : goal.returns-clause-expired
+returns-clause-expired c = search rules

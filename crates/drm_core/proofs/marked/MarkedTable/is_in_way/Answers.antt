@@ -1,4 +1,4 @@
-use Rattle.std.proofs.Common.{◌∙◌, sym, ap}
+use Rattle.std.proofs.Common.{rules, ◌∙◌, sym, ap}
 use Rattle.std.specs.Prelude.{◌||◌}
 use Rattle.drm_core.specs.Marks.{buffer_out}
 use Rattle.drm_core.specs.MarkedTables.{marked_of}
@@ -11,3 +11,6 @@ returns c =
     c.next_is_out.ensures
     ∙ (asks_is d c.args.ring c.requires.whole c.requires.there
     ∙ ap (λ b. b || buffer_out (marked_of d) c.args.ring) (sym (sym c.has_out.ensures ∙ c.if-has_out.false)))
+
+pub returns-then-has_out : goal.returns-then-has_out
+returns-then-has_out c = search rules

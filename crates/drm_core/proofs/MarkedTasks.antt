@@ -1,0 +1,34 @@
+-- A device stays busy with the tasks of other rings when a ring begins a packet and when it reports one.
+use Rattle.std.proofs.Common.{◌≡◌, ℕ, ◌∙◌, set, Some, None, Option, Result, Ok, Err, sym, ap, subst, slice_get}
+use Rattle.std.specs.Option.{option_map_or}
+use Rattle.std.specs.Prelude.{IfOk, IfErr}
+use Rattle.drm_core.specs.declared.event.Refusal.{Refusal}
+use Rattle.drm_core.specs.declared.marked.Begun.{Begun}
+use Rattle.drm_core.specs.declared.marked.Begun.TheVariants.{Work, Stalled}
+use Rattle.drm_core.specs.declared.marked.MarkedTable.{MarkedTable}
+use Rattle.drm_core.specs.Begun.{HasBegun, HasReported, KeepsTasks, out_or}
+use Rattle.drm_core.specs.Marks.{Mark, MarkedDevice, Task, IsBusy, is_in_way}
+use Rattle.drm_core.specs.MarkedTables.{marked_of}
+use Rattle.drm_core.specs.Refusals.{step_refusal}
+use Rattle.drm_core.specs.Tables.{state_of}
+use Rattle.drm_core.proofs.Pairs.{get_set_other}
+
+-- whatever the mark of the ring becomes
+still_busy : (d new : MarkedDevice) (ring : ℕ) (change : Option Mark) → new.marks ≡ set d.marks ring change → KeepsTasks d ring new
+still_busy d new ring change marks task other busy =
+    ap (λ ms. option_map_or (λ (m : Option Mark). m) (slice_get ms task.ring) None) marks
+    ∙ (ap (λ (o : Option (Option Mark)). option_map_or (λ m. m) o None) (get_set_other d.marks ring task.ring change other) ∙ busy)
+
+pub begun_keeps : (d new : MarkedDevice) (ring : ℕ) (b : Begun) → HasBegun d ring b new → KeepsTasks d ring new
+begun_keeps d new ring (Work fence packet copy write read) (job, at, current, count, next, runs, write_is, read_is, new_is) =
+    still_busy d new ring (Some _) (ap (λ (n : MarkedDevice). n.marks) new_is)
+begun_keeps d new ring (Stalled fence) (stepped, same) = λ task other busy. subst (λ n. IsBusy n task) (sym same) busy
+
+pub begin_keeps : (d new : MarkedTable) (ring : ℕ) (r : Result Begun Refusal)
+    → IfOk r (λ b. (out_or (is_in_way (marked_of d) ring) (step_refusal (state_of d.table) ring) ≡ None) × HasBegun (marked_of d) ring b (marked_of new))
+    → IfErr r (λ e. (out_or (is_in_way (marked_of d) ring) (step_refusal (state_of d.table) ring) ≡ Some e) × (new ≡ d)) → KeepsTasks (marked_of d) ring (marked_of new)
+begin_keeps d new ring (Ok b) ok err = begun_keeps (marked_of d) (marked_of new) ring b ok.1
+begin_keeps d new ring (Err e) ok err = λ task other busy. subst (λ n. IsBusy (marked_of n) task) (sym err.1) busy
+
+pub report_keeps : (d new : MarkedDevice) (ring : ℕ) (ran : ℕ × ℕ) → HasReported d ring ran new → KeepsTasks d ring new
+report_keeps d new ring ran (m, packet, is, at, ran_is, new_is, may, stepped) = still_busy d new ring None (ap (λ (n : MarkedDevice). n.marks) new_is)

@@ -1,0 +1,14 @@
+use Rattle.std.proofs.Common.{rules, subst}
+use Rattle.drm_core.specs.Begun.{KeepsTasks}
+use Rattle.drm_core.specs.MarkedTables.{marked_of}
+use Rattle.drm_core.specs.Marks.{MarkedDevice}
+use Rattle.drm_core.proofs.MarkedTasks.{begin_keeps}
+use Rattle.drm_core.proofs.device_calls.Device.begin_step.Goals as goal
+
+pub returns-clause-tasks : goal.returns-clause-tasks
+returns-clause-tasks c =
+    subst (λ (d : MarkedDevice). KeepsTasks d c.args.ring (marked_of c.begin_step.new.self)) c.self.view_is
+    (begin_keeps c.self.inside.parts c.begin_step.new.self c.args.ring c.begin_step.result c.begin_step.ensures.begun c.begin_step.ensures.refused)
+
+pub returns-clause-refused : goal.returns-clause-refused
+returns-clause-refused c = search rules
