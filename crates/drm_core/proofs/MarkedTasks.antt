@@ -7,7 +7,7 @@ use Rattle.drm_core.specs.declared.marked.Begun.{Begun}
 use Rattle.drm_core.specs.declared.marked.Begun.TheVariants.{Work, Stalled}
 use Rattle.drm_core.specs.declared.marked.MarkedTable.{MarkedTable}
 use Rattle.drm_core.specs.Begun.{HasBegun, HasReported, KeepsTasks, out_or}
-use Rattle.drm_core.specs.Marks.{Mark, MarkedDevice, Task, IsBusy, is_in_way}
+use Rattle.drm_core.specs.Marks.{Mark, MarkedDevice, IsBusy, is_in_way}
 use Rattle.drm_core.specs.MarkedTables.{marked_of}
 use Rattle.drm_core.specs.Refusals.{step_refusal}
 use Rattle.drm_core.specs.Tables.{state_of}

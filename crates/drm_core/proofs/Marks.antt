@@ -1,17 +1,15 @@
 -- A packet that is reported is a step of the device, and what other rings do leaves it out.
-use Rattle.std.proofs.Common.{◌≡◌, ◌≢◌, ℕ, suc, ◌<◌, Bool, true, false, cond, not, ◌==◌, List, [], ◌∷◌, set, length, Some, None, Option, refl, sym, ap, subst, ◌∙◌, inl, inr, arith, slice_get}
+use Rattle.std.proofs.Common.{◌≡◌, ◌≢◌, ℕ, suc, ◌<◌, Bool, true, false, cond, not, ◌==◌, List, [], ◌∷◌, length, Some, None, Option, refl, sym, ap, subst, ◌∙◌, inl, inr, arith, slice_get}
 use Rattle.std.specs.Prelude.{Contains, find, is_none, option_map}
 use Rattle.std.specs.Option.{option_map_or}
 use Rattle.std.proofs.lemmas.List.{get_or-set_other}
 use Rattle.drm_types.specs.Firsts.{when}
 use Rattle.drm_buffer.specs.Memory.{bytes_of}
-use Rattle.drm_job.specs.declared.Draft.{Draft}
 use Rattle.drm_packet.specs.declared.Packet.{Packet}
 use Rattle.drm_packet.specs.declared.Packet.TheVariants.{Fill, Copy, Add, Stall}
 use Rattle.drm_packet.specs.Effect.{effect}
 use Rattle.drm_packet.specs.Touches.{touches}
-use Rattle.drm_packet.specs.Parts.{target_of, part_effect, other_bytes}
-use Rattle.drm_packet.proofs.PartEffects.{parts_make_the_effect}
+use Rattle.drm_packet.specs.Parts.{target_of, other_bytes}
 use Rattle.drm_packet.proofs.Commute.{cases_packet}
 use Rattle.drm_core.specs.declared.event.Answer.{Answer}
 use Rattle.drm_core.specs.declared.event.Answer.TheVariants as answer
@@ -23,12 +21,10 @@ use Rattle.drm_core.specs.Ring.{pending_of, current_of}
 use Rattle.drm_core.specs.Refusals.{step_refusal}
 use Rattle.drm_core.specs.Outcomes.{must_stall, ran_device, stepped_by, step_outcome, at_record}
 use Rattle.drm_core.specs.Steady.{IsSteady}
-use Rattle.drm_core.specs.Arming.{new_record, armed_device}
-use Rattle.drm_core.specs.Marks.{Mark, MarkedDevice, mark_for, IsOut, Task, IsBusy}
+use Rattle.drm_core.specs.Marks.{Mark, mark_for, IsOut}
 use Rattle.drm_core.proofs.Records.{at_test, changed_is}
 use Rattle.drm_core.proofs.Pairs.{get_set_other}
 use Rattle.drm_core.proofs.Pending.{contains_at}
-use Rattle.drm_core.proofs.ArmLawful.{get_before_push}
 use Rattle.drm_core.proofs.RanLawful.{IsCurrent, current_is, ran_steady, one_more_ran, is_going}
 
 -- the device's answer and the state that it leaves
