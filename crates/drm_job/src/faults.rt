@@ -1,8 +1,9 @@
-ghost use Rattle.std.specs.Prelude.{◌≡◌, ◌≤◌, ◌==◌, [], option_map, length, map, find, nat_le, Some, MatchResult};
+ghost use Rattle.std.specs.Prelude.{◌≡◌, ◌≤◌, ◌==◌, if◌then◌else◌, [], option_map, length, map, find, nat_le, Some, MatchResult};
 ghost use Rattle.std.specs.List.{enumerate_from, list_any};
 ghost use Rattle.drm_types.specs.Firsts.{first_of};
-ghost use Rattle.drm_job.specs.Fault.{IsJob, job_fault, packet_fault as fault_of_packet, repeat_after, is_kernel as is_kernel_of, wrongly_moved as wrongly_moved_by};
+ghost use Rattle.drm_job.specs.Fault.{IsJob, job_fault, packet_fault as fault_of_packet, repeat_after, is_kernel as is_kernel_of, is_undeclared, wrongly_moved as wrongly_moved_by};
 ghost use Rattle.drm_job.specs.Uses.{is_move};
+ghost use Rattle.drm_job.specs.declared.JobFault.TheVariants.{PacketUndeclared, PacketOnHold};
 
 use crate::job::Job;
 use crate::{Draft, DraftList, JobFault};
@@ -155,15 +156,23 @@ fn first_packet_fault(draft: &Draft, spec: &DeviceSpec) -> Option<JobFault>
     None
 }
 
+// The fault of a packet that may not touch all that it touches: the job does not declare it, or for holding alone.
+fn touch_fault(draft: &Draft, place: u32, packet: &Packet) -> JobFault
+    ensures { result ≡ if is_undeclared draft.now packet.now then PacketUndeclared place else PacketOnHold place }
+{
+    if draft.declares(packet) {
+        JobFault::PacketOnHold { packet: place }
+    } else {
+        JobFault::PacketUndeclared { packet: place }
+    }
+}
+
 // The fault of one packet.
 fn packet_fault(draft: &Draft, spec: &DeviceSpec, place: u32, packet: &Packet) -> Option<JobFault>
     ensures { result ≡ fault_of_packet spec.now draft.now place packet.now }
 {
-    if !draft.declares(packet) {
-        return Some(JobFault::PacketUndeclared { packet: place });
-    }
     if !draft.lets_touch(packet) {
-        return Some(JobFault::PacketOnHold { packet: place });
+        return Some(touch_fault(draft, place, packet));
     }
     if !draft.lets_write(packet) {
         return Some(JobFault::PacketReadOnly { packet: place });

@@ -4,9 +4,6 @@ use Rattle.drm_job.proofs.faults.packet_fault.Goals as goal
 pub returns : goal.returns
 returns c = search rules
 
-pub returns-then-not-declares : goal.returns-then-not-declares
-returns-then-not-declares c = search rules
-
 pub returns-then-not-lets_touch : goal.returns-then-not-lets_touch
 returns-then-not-lets_touch c = search rules
 
