@@ -201,9 +201,9 @@ pub arm_done : (t : Table) (job : Draft) (deps : List (ℕ × ℕ)) (ring : ℕ)
     → fences.list ≡ t.fences.list ++ record { phase = Queued; ran = 0 } ∷ [] → vec_capacity journal ≡ vec_capacity t.journal → vec_capacity waits ≡ vec_capacity t.waits
     → fences.places ≡ t.fences.places → entities ≡ pushed t.entities job.entity (length t.journal.items)
     → ((n : ℕ) → slice_get t.loads.live.items ring ≡ Some n → loads.live.items ≡ set t.loads.live.items ring (n + 1))
-    → loads.last.items ≡ set t.loads.last.items job.entity (Some (length t.journal.items))
+    → loads.last.items ≡ set t.loads.last.items job.entity (Some (length t.journal.items)) → loads.ended ≡ t.loads.ended
     → (state_of (armed_tables t journal waits fences entities loads) ≡ armed_device (state_of t) job) × IsWhole (armed_tables t journal waits fences entities loads)
-arm_done t job deps ring journal waits fences entities loads w is_job cover may ring_is items waits_are list room waits_room places queued live last =
+arm_done t job deps ring journal waits fences entities loads w is_job cover may ring_is items waits_are list room waits_room places queued live last ended_same =
     let d = state_of t in
     let new = new_record d job in
     let arms = may_arm d job may in
@@ -227,7 +227,7 @@ arm_done t job deps ring journal waits fences entities loads w is_job cover may 
             (stands_pushed t.journal.items new t.entities job.entity row.0 row.1 refl refl w.queues));
         loads = subst (λ js. LoadsOf t.spec js loads) (sym items_are)
             (loads_armed t.spec t.journal.items new t.loads loads w.loads refl (arming_ring_there t job.entity w (few_entities t.spec job w.limits is_job).0)
-            (subst (λ k. (n : ℕ) → slice_get t.loads.live.items k ≡ Some n → loads.live.items ≡ set t.loads.live.items k (n + 1)) ring_is live) last
+            (subst (λ k. (n : ℕ) → slice_get t.loads.live.items k ≡ Some n → loads.live.items ≡ set t.loads.live.items k (n + 1)) ring_is live) last ended_same
             (few_entities t.spec job w.limits is_job).0);
         sizes = w.sizes;
         rooms = record {

@@ -21,7 +21,7 @@ use Rattle.drm_core.proofs.Pending.{contains_at}
 use Rattle.drm_core.proofs.PickDone.{spec_tests}
 use Rattle.drm_core.proofs.ArmDone.{ring_of_entity_there}
 use Rattle.drm_core.proofs.Homes.{one_ring, none_passes}
-use Rattle.drm_core.proofs.LoadsKept.{load_is, few_live}
+use Rattle.drm_core.proofs.LoadsKept.{load_is, few_live, few_ended}
 
 -- the jobs of a device can be counted in 16 bits
 few_jobs : (spec : DeviceSpec) → spec_fault spec ≡ None → spec.max_jobs ≤ 65535
@@ -38,6 +38,14 @@ little_load t ring n w at =
     let live = few_live t.spec t.journal.items t.loads ring n w.loads at in
     let count = w.count in
     omega (arith, few, live, count)
+
+-- and those that have outcomes
+pub few_outcomes : (t : Table) → IsWhole t → t.loads.ended < 65536
+few_outcomes t w =
+    let few = few_jobs t.spec w.limits in
+    let ended = few_ended t.spec t.journal.items t.loads w.loads in
+    let count = w.count in
+    omega (arith, few, ended, count)
 
 -- a load that is kept is that of the journal
 pub load_kept : (t : Table) (ring n : ℕ) → IsWhole t → slice_get t.loads.live.items ring ≡ Some n → n ≡ load t.journal.items ring

@@ -85,8 +85,8 @@ no_waits journal waits no_jobs none = subst (λ ws. WaitsStand journal ws) (sym 
 }))
 
 pub blank_whole : (t : Table) → state_of t ≡ opened_device t.spec → spec_fault t.spec ≡ None → t.fences.list ≡ [] → t.waits.items ≡ [] → t.entities ≡ blank_entities t.spec
-    → t.loads.live.items ≡ replicate (length t.spec.rings) 0 → t.loads.last.items ≡ replicate (length t.spec.entities) None → HasRooms t → IsWhole t
-blank_whole t opened limits fences waits entities live last rooms =
+    → t.loads.live.items ≡ replicate (length t.spec.rings) 0 → t.loads.last.items ≡ replicate (length t.spec.entities) None → t.loads.ended ≡ 0 → HasRooms t → IsWhole t
+blank_whole t opened limits fences waits entities live last ended rooms =
     let no_jobs : t.journal.items ≡ [] = ap (λ (d : DeviceState). d.journal) opened in
     record {
       steady = subst IsSteady (sym opened) (opened_steady t.spec);
@@ -95,7 +95,7 @@ blank_whole t opened limits fences waits entities live last rooms =
       fences = fences ∙ ap (map fence_state_of) (sym no_jobs);
       waits = no_waits t.journal.items t.waits.items no_jobs waits;
       queues = subst (QueuesStand t.journal.items) (sym entities) (subst (λ js. QueuesStand js (blank_entities t.spec)) (sym no_jobs) (no_queues t.spec));
-      loads = subst (λ js. LoadsOf t.spec js t.loads) (sym no_jobs) (loads_blank t.spec t.loads live last);
+      loads = subst (λ js. LoadsOf t.spec js t.loads) (sym no_jobs) (loads_blank t.spec t.loads live last ended);
       sizes = ap (λ (d : DeviceState). sizes_of d.memory) opened;
       rooms = rooms;
     }

@@ -83,11 +83,11 @@ pub finish_done : (t : Table) (ring now f : ℕ) (outcome : Outcome) (r : JobRec
     → ring < length t.spec.rings → head_of (state_of t) ring ≡ Some f → MayEnd t ring f outcome r → journal.items ≡ ended_at t.journal.items f outcome
     → fences.list ≡ map fence_state_of journal.items → vec_capacity journal ≡ vec_capacity t.journal → fences.places ≡ t.fences.places
     → slice_get t.rings.items ring ≡ Some row → ring_state_of new ≡ popped_at now (ring_state_of row) → vec_capacity new.pending ≡ vec_capacity row.pending
-    → ((n : ℕ) → slice_get t.loads.live.items ring ≡ Some (n + 1) → loads.live.items ≡ set t.loads.live.items ring n) → loads.last ≡ t.loads.last
+    → ((n : ℕ) → slice_get t.loads.live.items ring ≡ Some (n + 1) → loads.live.items ≡ set t.loads.live.items ring n) → loads.last ≡ t.loads.last → loads.ended ≡ t.loads.ended + 1
     → (finish_refusal (state_of t) ring ≡ None)
     × (finish_outcome (state_of t) ring now ≡ (answer.Finished f outcome, state_of (finished_tables t ring journal fences new loads)))
     × IsWhole (finished_tables t ring journal fences new loads)
-finish_done t ring now f outcome r journal fences row new loads w there is may items tied room places at row_is row_room live last =
+finish_done t ring now f outcome r journal fences row new loads w there is may items tied room places at row_is row_room live last one_more =
     let d = state_of t in
     let rings = rings_tie t.rings.items ring row new (popped_at now) at row_is in
     let left : Left = (answer.Finished f outcome, state_of (finished_tables t ring journal fences new loads)) in
@@ -99,7 +99,7 @@ finish_done t ring now f outcome r journal fences row new loads w there is may i
     subst (λ js. LoadsOf t.spec js loads) (sym (items ∙ changed_is t.journal.items f r (λ r. record r { phase = Ended outcome }) may.head.at))
     (loads_ended t.spec t.journal.items f r ended t.loads loads w.loads may.head.at (ap has_ended may.head.phase) refl refl refl
     (subst (λ k. k < length t.spec.rings) (sym may.head.on_ring) there)
-    (subst (λ k. (n : ℕ) → slice_get t.loads.live.items k ≡ Some (n + 1) → loads.live.items ≡ set t.loads.live.items k n) (sym may.head.on_ring) live) last) in
+    (subst (λ k. (n : ℕ) → slice_get t.loads.live.items k ≡ Some (n + 1) → loads.live.items ≡ set t.loads.live.items k n) (sym may.head.on_ring) live) last one_more) in
     let ends : finish_outcome d ring now ≡ left =
     finish_ends d ring now f r is may.head.at
     ∙ (ap (λ o. let q : Left = (answer.Finished f o, finished_device d ring now f o) in q) (sym may.ends)

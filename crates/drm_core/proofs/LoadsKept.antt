@@ -76,6 +76,13 @@ load_is (r ∷ rs) ring =
     counts_first (λ (x : JobRecord). (x.ring == ring) && not (has_ended x.phase)) r rs
     ∙ (ap (λ n. one_if ((r.ring == ring) && not (has_ended r.phase)) + n) (load_is rs ring) ∙ sym (counts_first (is_live_on ring) (standing_of r) (map standing_of rs)))
 
+-- and the number of those that have an outcome
+pub ended_is : (journal : List JobRecord) → length (filter (λ (r : JobRecord). has_ended r.phase) journal) ≡ length (filter (λ (s : Standing). s.ended) (map standing_of journal))
+ended_is [] = refl
+ended_is (r ∷ rs) =
+    counts_first (λ (x : JobRecord). has_ended x.phase) r rs
+    ∙ (ap (λ n. one_if (has_ended r.phase) + n) (ended_is rs) ∙ sym (counts_first (λ (s : Standing). s.ended) (standing_of r) (map standing_of rs)))
+
 -- they stay where no job changes its ring, its entity or whether it has an outcome
 pub loads_same : (spec : DeviceSpec) (old new : List JobRecord) (loads : Loads) → LoadsOf spec old loads
     → map standing_of new ≡ map standing_of old → map owner_of new ≡ map owner_of old → LoadsOf spec new loads
@@ -126,9 +133,9 @@ newest owners entity = (
 pub loads_armed : (spec : DeviceSpec) (journal : List JobRecord) (new : JobRecord) (loads after : Loads) → LoadsOf spec journal loads → has_ended new.phase ≡ false
     → new.ring < length spec.rings
     → ((n : ℕ) → slice_get loads.live.items new.ring ≡ Some n → after.live.items ≡ set loads.live.items new.ring (n + 1))
-    → after.last.items ≡ set loads.last.items new.job.entity (Some (length journal)) → new.job.entity < length spec.entities
+    → after.last.items ≡ set loads.last.items new.job.entity (Some (length journal)) → after.ended ≡ loads.ended → new.job.entity < length spec.entities
     → LoadsOf spec (journal ++ new ∷ []) after
-loads_armed spec journal new loads after stand going ring_there live_is last_is entity_there =
+loads_armed spec journal new loads after stand going ring_there live_is last_is ended_same entity_there =
     subst (λ os. LoadsStand spec (map standing_of (journal ++ new ∷ [])) os after) (sym (map-append owner_of journal (new ∷ [])))
     (subst (λ ss. LoadsStand spec ss (owners ++ new.job.entity ∷ []) after) (sym (map-append standing_of journal (new ∷ []))) (record {
       rings = ap length live_set ∙ (length-set loads.live.items new.ring (was.0 + 1) ∙ stand.rings);
@@ -155,6 +162,11 @@ loads_armed spec journal new loads after stand going ring_there live_is last_is 
                 (subst (λ n. IsLastOf (owners ++ new.job.entity ∷ []) new.job.entity (Some n)) (length-map journal owner_of) (newest owners new.job.entity)))
             | inr there ↦ last_pushed owners new.job.entity entity o (stand.last entity o there.1) there.0
           ];
+      ended =
+          let count = counts_push (λ (s : Standing). s.ended) standings (standing_of new) in
+          let none = ap one_if going in
+          let old = stand.ended in
+          omega (arith, count, none, old, ended_same);
     }))
   where
     standings : List Standing
@@ -181,6 +193,14 @@ few_live spec journal loads ring n stand at =
     let count = length-map journal standing_of in
     omega (arith, is, most, count)
 
+-- so do those that have an outcome
+pub few_ended : (spec : DeviceSpec) (journal : List JobRecord) (loads : Loads) → LoadsOf spec journal loads → loads.ended ≤ length journal
+few_ended spec journal loads stand =
+    let is = stand.ended in
+    let most = counts_most (λ (s : Standing). s.ended) (map standing_of journal) in
+    let count = length-map journal standing_of in
+    omega (arith, is, most, count)
+
 -- a ring with a job that has no outcome has one at least
 pub some_live : (spec : DeviceSpec) (journal : List JobRecord) (loads : Loads) (f n : ℕ) (r : JobRecord) → LoadsOf spec journal loads → slice_get journal f ≡ Some r
     → has_ended r.phase ≡ false → slice_get loads.live.items r.ring ≡ Some n → 0 < n
@@ -195,9 +215,9 @@ some_live spec journal loads f n r stand at going at_n =
 -- a job that ends
 pub loads_ended : (spec : DeviceSpec) (journal : List JobRecord) (f : ℕ) (r new : JobRecord) (loads after : Loads) → LoadsOf spec journal loads → slice_get journal f ≡ Some r
     → has_ended r.phase ≡ false → has_ended new.phase ≡ true → new.ring ≡ r.ring → owner_of new ≡ owner_of r → r.ring < length spec.rings
-    → ((n : ℕ) → slice_get loads.live.items r.ring ≡ Some (n + 1) → after.live.items ≡ set loads.live.items r.ring n) → after.last ≡ loads.last
+    → ((n : ℕ) → slice_get loads.live.items r.ring ≡ Some (n + 1) → after.live.items ≡ set loads.live.items r.ring n) → after.last ≡ loads.last → after.ended ≡ loads.ended + 1
     → LoadsOf spec (set journal f new) after
-loads_ended spec journal f r new loads after stand at going gone same_ring owner ring_there live_is last_is =
+loads_ended spec journal f r new loads after stand at going gone same_ring owner ring_there live_is last_is one_more =
     subst (λ os. LoadsStand spec (map standing_of (set journal f new)) os after) (sym (map_set_same owner_of journal f r new at owner))
     (subst (λ ss. LoadsStand spec ss (map owner_of journal) after) (sym (map-set standing_of journal f new)) (record {
       rings = ap length live_set ∙ (length-set loads.live.items r.ring left ∙ stand.rings);
@@ -217,6 +237,12 @@ loads_ended spec journal f r new loads after stand at going gone same_ring owner
                 omega (arith, count, over, old, none)
           ];
       last = λ entity o at_o. stand.last entity o (ap (λ (v : _). slice_get v.items entity) (sym last_is) ∙ at_o);
+      ended =
+          let count = counts_set (λ (s : Standing). s.ended) standings f (standing_of r) (standing_of new) there in
+          let was_going = ap one_if going in
+          let is_gone = ap one_if gone in
+          let old = stand.ended in
+          omega (arith, count, was_going, is_gone, old, one_more);
     }))
   where
     standings : List Standing
@@ -244,15 +270,16 @@ loads_ended spec journal f r new loads after stand at going gone same_ring owner
     live_set = live_is left was
 
 -- before the first job
-pub loads_blank : (spec : DeviceSpec) (loads : Loads) → loads.live.items ≡ replicate (length spec.rings) 0 → loads.last.items ≡ replicate (length spec.entities) None
+pub loads_blank : (spec : DeviceSpec) (loads : Loads) → loads.live.items ≡ replicate (length spec.rings) 0 → loads.last.items ≡ replicate (length spec.entities) None → loads.ended ≡ 0
     → LoadsOf spec [] loads
-loads_blank spec loads live last = record {
+loads_blank spec loads live last ended = record {
   rings = ap length live ∙ length_same (length spec.rings) 0;
   entities = ap length last ∙ length_same (length spec.entities) None;
   live = λ ring n at. all_alike (length spec.rings) ring 0 n (ap (λ xs. slice_get xs ring) (sym live) ∙ at);
   last = λ entity o at.
       let none = all_alike (length spec.entities) entity None o (ap (λ xs. slice_get xs entity) (sym last) ∙ at) in
       subst (IsLastOf [] entity) (sym none) (λ i found. absurd (cc (found)));
+  ended = ended;
 }
   where
     length_same : {X : Type 0} (n : ℕ) (x : X) → length (replicate n x) ≡ n

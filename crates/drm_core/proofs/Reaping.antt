@@ -229,11 +229,12 @@ front_popped t entity number items new result w there is ended some none =
 -- the loads after it
 pub front_unloaded : (t : Table) (entity number : ℕ) (r : JobRecord) (items : List JobRecord) (loads : Loads) → IsWhole t → head_number t.journal.items entity ≡ Some number
     → slice_get t.journal.items number ≡ Some r → items ≡ ended_at t.journal.items number outcome.Stopped
-    → ((n : ℕ) → slice_get t.loads.live.items r.ring ≡ Some (n + 1) → loads.live.items ≡ set t.loads.live.items r.ring n) → loads.last ≡ t.loads.last → LoadsOf t.spec items loads
-front_unloaded t entity number r items loads w is at ended live last =
+    → ((n : ℕ) → slice_get t.loads.live.items r.ring ≡ Some (n + 1) → loads.live.items ≡ set t.loads.live.items r.ring n) → loads.last ≡ t.loads.last → loads.ended ≡ t.loads.ended + 1
+    → LoadsOf t.spec items loads
+front_unloaded t entity number r items loads w is at ended live last one_more =
     let end : JobRecord → JobRecord = λ x. record x { phase = Ended outcome.Stopped } in
     subst (λ js. LoadsOf t.spec js loads) (sym (ended ∙ changed_is t.journal.items number r end at))
-    (loads_ended t.spec t.journal.items number r (end r) t.loads loads w.loads at (front_going t entity number r is at) refl refl refl (job_ring_there t number r w at) live last)
+    (loads_ended t.spec t.journal.items number r (end r) t.loads loads w.loads at (front_going t entity number r is at) refl refl refl (job_ring_there t number r w at) live last one_more)
 
 -- a reap that is not refused
 pub reap_done : (t : Table) (entity number : ℕ) (journal : Vec JobRecord Global) (fences : Fences) (entities : EntityRows) (loads : Loads) → IsWhole t

@@ -33,6 +33,7 @@ pub record LoadsStand (spec : DeviceSpec) (jobs : List Standing) (owners : List 
   pub entities : length loads.last.items ≡ length spec.entities
   pub live : (ring n : ℕ) → slice_get loads.live.items ring ≡ Some n → n ≡ length (filter (is_live_on ring) jobs)
   pub last : (entity : ℕ) (o : Option ℕ) → slice_get loads.last.items entity ≡ Some o → IsLastOf owners entity o
+  pub ended : loads.ended ≡ length (filter (λ s. s.ended) jobs)
 
 -- and so of the jobs of a journal
 abbrev pub LoadsOf : DeviceSpec → List JobRecord → Loads → Type 0

@@ -293,12 +293,7 @@ impl Device {
     pub fn ended(&self) -> u32
         ensures { result ≡ length (filter (λ r. has_ended r.phase) self.now.state.journal) }
     {
-        self.parts
-            .table
-            .journal
-            .iter()
-            .filter(|record| record.phase.is_ended())
-            .count() as u32
+        self.parts.table.loads.ended
     }
 
     /// What holds of every device at every moment, for a caller that keeps more over it and has changed it. The call does

@@ -4,7 +4,7 @@ use Rattle.drm_fence.specs.Phases.{has_ended}
 use Rattle.drm_core.specs.Tables.{ending}
 use Rattle.drm_core.proofs.FinishDone.{may_end, not_ended_yet, row_has_head, finish_done}
 use Rattle.drm_core.proofs.LoadsKept.{some_live}
-use Rattle.drm_core.proofs.Balancing.{load_there}
+use Rattle.drm_core.proofs.Balancing.{few_outcomes, load_there}
 use Rattle.drm_core.proofs.TableFacts.{row_found}
 use Rattle.drm_core.proofs.table.Table.finish.Goals as goal
 
@@ -26,6 +26,9 @@ end-requires-clause-ring c =
     let t = c.args.self.now in
     subst (λ n. c.args.ring < n) (sym t.loads.live.ok.0) (load_there t c.args.ring c.requires.whole c.requires.there)
 
+pub end-requires-clause-few : goal.end-requires-clause-few
+end-requires-clause-few c = few_outcomes c.args.self.now c.requires.whole
+
 pub end-requires-clause-some : goal.end-requires-clause-some
 end-requires-clause-some c n at =
     let t = c.args.self.now in
@@ -41,7 +44,7 @@ returns-clause-finished c =
     let may = may_end t c.args.ring c.in-Some.number c.in-Some-final_outcome.outcome c.requires.whole c.requires.there is (ap (λ j. option_map_or ending (slice_get j c.in-Some.number) None) (sym c.deref.ensures.value) ∙ (sym c.final_outcome.ensures ∙ c.in-Some-final_outcome.is)) in
     let done = finish_done t c.args.ring c.args.now c.in-Some.number c.in-Some-final_outcome.outcome may.0 c.end_job.new.journal c.end_job.new.fences c.index_mut.result.now c.pop.new.self c.end.new.self
     c.requires.whole c.requires.there is may.1 c.end_job.ensures.journal c.end_job.ensures.tied c.end_job.ensures.room c.end_job.ensures.places
-    (row_found t c.args.ring c.index_mut.result.now c.requires.whole c.requires.there c.index_mut.ensures.value) c.pop.ensures.row c.pop.ensures.room c.end.ensures.live c.end.ensures.last in
+    (row_found t c.args.ring c.index_mut.result.now c.requires.whole c.requires.there c.index_mut.ensures.value) c.pop.ensures.row c.pop.ensures.room c.end.ensures.live c.end.ensures.last c.end.ensures.ended in
     (done.0, done.1)
 
 pub returns-clause-whole : goal.returns-clause-whole
@@ -51,5 +54,5 @@ returns-clause-whole c =
     let may = may_end t c.args.ring c.in-Some.number c.in-Some-final_outcome.outcome c.requires.whole c.requires.there is (ap (λ j. option_map_or ending (slice_get j c.in-Some.number) None) (sym c.deref.ensures.value) ∙ (sym c.final_outcome.ensures ∙ c.in-Some-final_outcome.is)) in
     let done = finish_done t c.args.ring c.args.now c.in-Some.number c.in-Some-final_outcome.outcome may.0 c.end_job.new.journal c.end_job.new.fences c.index_mut.result.now c.pop.new.self c.end.new.self
     c.requires.whole c.requires.there is may.1 c.end_job.ensures.journal c.end_job.ensures.tied c.end_job.ensures.room c.end_job.ensures.places
-    (row_found t c.args.ring c.index_mut.result.now c.requires.whole c.requires.there c.index_mut.ensures.value) c.pop.ensures.row c.pop.ensures.room c.end.ensures.live c.end.ensures.last in
+    (row_found t c.args.ring c.index_mut.result.now c.requires.whole c.requires.there c.index_mut.ensures.value) c.pop.ensures.row c.pop.ensures.room c.end.ensures.live c.end.ensures.last c.end.ensures.ended in
     done.2

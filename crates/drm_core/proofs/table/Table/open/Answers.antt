@@ -21,7 +21,7 @@ returns-clause-whole c =
     (c.in_ok-rings.ensures.rows ∙ ap (map (λ (ring : RingSpec). record { pending = []; since = 0 })) c.as_slice.ensures)
     c.in_ok-entities.ensures in
     blank_whole t opened c.requires.limits c.in_ok-fences.ensures.1 c.in_ok-waits.ensures.items c.in_ok-entities.ensures
-    (c.in_ok-loads.ensures.live ∙ ap (λ n. replicate n 0) c.len.ensures) (c.in_ok-loads.ensures.last ∙ ap (λ n. replicate n None) c.len-2.ensures) (record {
+    (c.in_ok-loads.ensures.live ∙ ap (λ n. replicate n 0) c.len.ensures) (c.in_ok-loads.ensures.last ∙ ap (λ n. replicate n None) c.len-2.ensures) c.in_ok-loads.ensures.ended (record {
       jobs = omega (arith, c.in_ok-journal.ensures.exact);
       waits = omega (arith, c.in_ok-waits.ensures.exact);
       places = c.in_ok-fences.ensures.0;

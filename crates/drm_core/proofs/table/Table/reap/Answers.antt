@@ -2,7 +2,7 @@ use Rattle.std.proofs.Common.{◌<◌, ◌∙◌, refl, sym, ap, subst}
 use Rattle.drm_core.specs.Stopping.{may_end_after}
 use Rattle.drm_core.proofs.Reaping.{job_ring_there, job_at, reap_refused, front_goes_on, front_popped, front_going, front_unloaded, reap_done}
 use Rattle.drm_core.proofs.LoadsKept.{some_live}
-use Rattle.drm_core.proofs.Balancing.{load_there}
+use Rattle.drm_core.proofs.Balancing.{few_outcomes, load_there}
 use Rattle.drm_core.proofs.Queues.{head_there}
 use Rattle.drm_core.proofs.TableFacts.{row_there, entity_row_there}
 use Rattle.drm_core.proofs.table.Table.reap.Goals as goal
@@ -55,6 +55,9 @@ end-requires-clause-ring c =
     let at = job_at t c.in-Some.number c.args.entity c.index.result.now head.0 c.index.ensures in
     subst (λ n. c.index.result.now.ring < n) (sym t.loads.live.ok.0) (load_there t c.index.result.now.ring w (job_ring_there t c.in-Some.number c.index.result.now w at))
 
+pub end-requires-clause-few : goal.end-requires-clause-few
+end-requires-clause-few c = few_outcomes c.args.self.now c.requires.whole
+
 pub end-requires-clause-some : goal.end-requires-clause-some
 end-requires-clause-some c n at_n =
     let t = c.args.self.now in
@@ -75,7 +78,7 @@ returns-clause-reaped c =
     let left = front_popped t c.args.entity c.in-Some.number c.end_job.new.journal.items c.pop.new.self c.pop.result w c.requires.there head.0 c.end_job.ensures.journal c.pop.ensures.some c.pop.ensures.none in
     let done = reap_done t c.args.entity c.in-Some.number c.end_job.new.journal c.end_job.new.fences c.pop.new.self c.end.new.self w head.0 may
     c.end_job.ensures.journal c.end_job.ensures.tied c.end_job.ensures.room c.end_job.ensures.places left
-    (front_unloaded t c.args.entity c.in-Some.number c.index.result.now c.end_job.new.journal.items c.end.new.self w head.0 at c.end_job.ensures.journal c.end.ensures.live c.end.ensures.last) in
+    (front_unloaded t c.args.entity c.in-Some.number c.index.result.now c.end_job.new.journal.items c.end.new.self w head.0 at c.end_job.ensures.journal c.end.ensures.live c.end.ensures.last c.end.ensures.ended) in
     (may, done.0)
 
 pub returns-clause-whole : goal.returns-clause-whole
@@ -90,5 +93,5 @@ returns-clause-whole c =
     let left = front_popped t c.args.entity c.in-Some.number c.end_job.new.journal.items c.pop.new.self c.pop.result w c.requires.there head.0 c.end_job.ensures.journal c.pop.ensures.some c.pop.ensures.none in
     let done = reap_done t c.args.entity c.in-Some.number c.end_job.new.journal c.end_job.new.fences c.pop.new.self c.end.new.self w head.0 may
     c.end_job.ensures.journal c.end_job.ensures.tied c.end_job.ensures.room c.end_job.ensures.places left
-    (front_unloaded t c.args.entity c.in-Some.number c.index.result.now c.end_job.new.journal.items c.end.new.self w head.0 at c.end_job.ensures.journal c.end.ensures.live c.end.ensures.last) in
+    (front_unloaded t c.args.entity c.in-Some.number c.index.result.now c.end_job.new.journal.items c.end.new.self w head.0 at c.end_job.ensures.journal c.end.ensures.live c.end.ensures.last c.end.ensures.ended) in
     done.1
