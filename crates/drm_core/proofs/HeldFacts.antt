@@ -16,7 +16,7 @@ use Rattle.drm_resv.specs.Reservation.{Reservation, WithRoom}
 use Rattle.drm_core.specs.declared.journal.JobRecord.{JobRecord}
 use Rattle.drm_core.specs.State.{DeviceState}
 use Rattle.drm_core.specs.Arming.{new_record, armed_device, armed_reservation}
-use Rattle.drm_core.specs.Held.{kept_of, armed_held, AllFit}
+use Rattle.drm_core.specs.Held.{buffers_of, kept_of, armed_held, AllFit}
 use Rattle.drm_core.specs.Lawful.{EachTwo, KeepsEntityOrder}
 use Rattle.drm_core.specs.Planning.{HasUse, HeldHaveUses}
 use Rattle.drm_core.specs.Reservation.{usage_at, is_signaled, Fits}
@@ -114,3 +114,17 @@ held_after d n fs job old new tie order armed uses =
           subst (λ (z : DeviceState). AllFit z.journal (kept_of new)) (sym armed)
           (subst (λ hs. AllFit (d.journal ++ new_record d job ∷ []) hs) (sym kept) (held_fit d job (kept_of old) order fit)),
     )
+
+-- the first of each pair, where what follows it is left out or changed
+kept_firsts : (held : List (ℕ × WithRoom)) → map (λ h. h.0) (kept_of held) ≡ buffers_of held
+kept_firsts [] = refl
+kept_firsts (h ∷ hs) = ap (λ bs. h.0 ∷ bs) (kept_firsts hs)
+
+armed_firsts : (js : List JobRecord) (job : Draft) (held : List (ℕ × Reservation)) → map (λ h. h.0) (armed_held js job held) ≡ map (λ h. h.0) held
+armed_firsts js job [] = refl
+armed_firsts js job (h ∷ hs) = ap (λ bs. h.0 ∷ bs) (armed_firsts js job hs)
+
+-- an arming leaves the buffers that are held, in order
+pub held_order : (js : List JobRecord) (job : Draft) (old new : List (ℕ × WithRoom)) → kept_of new ≡ armed_held js job (kept_of old) → buffers_of new ≡ buffers_of old
+held_order js job old new kept =
+    sym (kept_firsts new) ∙ (ap (λ (hs : List (ℕ × Reservation)). map (λ h. h.0) hs) kept ∙ (armed_firsts js job (kept_of old) ∙ kept_firsts old))

@@ -75,3 +75,5 @@ pub mod MarkedBegun
 pub mod MarkedBlanks
 pub mod MarkedGrows
 pub mod MarkedTasks
+pub mod Words
+pub mod MarkedKeeps

@@ -7,6 +7,10 @@ use Rattle.drm_core.specs.declared.journal.JobRecord.{JobRecord}
 use Rattle.drm_core.specs.Arming.{armed_reservation}
 use Rattle.drm_core.specs.Reservation.{usage_at, Fits}
 
+-- the buffers of which they are, in order
+abbrev pub buffers_of : List (ℕ × WithRoom) → List ℕ
+buffers_of held = map (λ h. h.0) held
+
 -- what they keep, without their room
 abbrev pub kept_of : List (ℕ × WithRoom) → List (ℕ × Reservation)
 kept_of held = map (λ h. (h.0, h.1.kept)) held

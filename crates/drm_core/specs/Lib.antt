@@ -35,3 +35,4 @@ pub mod Marks
 pub mod Watching
 pub mod MarkedTables
 pub mod Begun
+pub mod Keeps

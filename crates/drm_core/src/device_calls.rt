@@ -1,7 +1,9 @@
-ghost use Rattle.std.specs.Prelude.{◌≡◌, ◌<◌, length, Some, None, IfOk, IfErr, OnOk, MatchOption, option_map, slice_get, false};
+ghost use Rattle.std.specs.Prelude.{◌≡◌, ◌<◌, ℕ, length, Some, None, IfOk, IfErr, OnOk, MatchOption, MatchResult, option_map, slice_get, false};
 ghost use Rattle.std.specs.List.{filter};
 ghost use Rattle.drm_types.specs.Limits.{spec_fault};
 ghost use Rattle.drm_buffer.specs.Memory.{bytes_of, sizes_of};
+ghost use Rattle.drm_buffer.specs.Stored.{is_out_of};
+ghost use Rattle.drm_fence.specs.declared.phase.Phase.TheVariants.{Ended};
 ghost use Rattle.drm_fence.specs.Phases.{has_ended, status_of};
 ghost use Rattle.drm_core.specs.declared.event.Answer.TheVariants as answer;
 ghost use Rattle.drm_core.specs.Answers.{picked, stepped, finished, timed_out};
@@ -10,7 +12,8 @@ ghost use Rattle.drm_core.specs.Building.{RefusesToBuild};
 ghost use Rattle.drm_core.specs.Cores.{DepsCover};
 ghost use Rattle.drm_core.specs.Grows.{Grows};
 ghost use Rattle.drm_core.specs.Lawful.{IsLawfulDevice};
-ghost use Rattle.drm_core.specs.Held.{HaveRoom, kept_of, armed_held, AllFit};
+ghost use Rattle.drm_core.specs.Held.{HaveRoom, buffers_of, kept_of, armed_held, AllFit};
+ghost use Rattle.drm_core.specs.Keeps.{Keeps, KeepsBut, KeepsArmed, word_of};
 ghost use Rattle.drm_core.specs.Headline.{HaveEnded};
 ghost use Rattle.drm_core.specs.Reservation.{Fits};
 ghost use Rattle.drm_core.specs.declared.event.Refusal.TheVariants as refusal;
@@ -26,12 +29,13 @@ use crate::answer::{Expired, Finished, Picked, Stepped};
 use crate::cores::{Held, Plan};
 use crate::event::Refusal;
 use crate::journal::JobRecord;
-use crate::machine::BuildError;
+use crate::machine::{BuildError, Closed};
 use crate::marked::{Begun, MarkedTable};
 use crate::planning;
+use crate::table::Table;
 use drm_buffer::Buffer;
 use drm_resv::Resv;
-use drm_types::{BufferId, DeviceSpec, EntityId, FenceId, Moment, RingId};
+use drm_types::{BufferId, DeviceSpec, EntityId, FenceId, Moment, RingId, Sequence};
 use std::alloc::{AllocError, Global};
 use std::marker::Model;
 
@@ -66,6 +70,7 @@ impl Device {
     /// Where the description is out of its limits, or memory is refused.
     pub fn build(alloc: Global, spec: DeviceSpec) -> Result<Device, BuildError>
         ensures ok { IfOk result (λ device. (device ≡ unmarked (opened_device spec)) × (spec_fault spec ≡ None)) }
+        ensures lawful { IfOk result (λ device. IsLawfulDevice device.state) }
         ensures err { IfErr result (RefusesToBuild spec) }
     {
         if let Err(bad) = spec.check() {
@@ -85,6 +90,7 @@ impl Device {
         ensures marks { self.new.marks ≡ self.old.marks }
         ensures lawful { IsLawfulDevice self.new.state }
         ensures grows { Grows self.old.state self.new.state }
+        ensures keeps { Keeps self.old.state self.new.state }
     {
         self.parts.pick(ring, now)
     }
@@ -102,6 +108,7 @@ impl Device {
         ensures marks { self.new.marks ≡ self.old.marks }
         ensures lawful { IsLawfulDevice self.new.state }
         ensures grows { Grows self.old.state self.new.state }
+        ensures keeps { Keeps self.old.state self.new.state }
     {
         self.parts.step(ring)
     }
@@ -136,6 +143,7 @@ impl Device {
         ensures tasks { KeepsTasks self.old ring self.new }
         ensures lawful { IsLawfulDevice self.new.state }
         ensures grows { Grows self.old.state self.new.state }
+        ensures keeps { Keeps self.old.state self.new.state }
     {
         self.parts.report(ring, write, read)
     }
@@ -152,6 +160,7 @@ impl Device {
         ensures marks { self.new.marks ≡ self.old.marks }
         ensures lawful { IsLawfulDevice self.new.state }
         ensures grows { Grows self.old.state self.new.state }
+        ensures keeps { MatchResult result (λ f. KeepsBut f.fence (word_of (Ended f.outcome)) self.old.state self.new.state) (λ r. Keeps self.old.state self.new.state) }
     {
         self.parts.finish(ring, now)
     }
@@ -169,6 +178,7 @@ impl Device {
         ensures marks { self.new.marks ≡ self.old.marks }
         ensures lawful { IsLawfulDevice self.new.state }
         ensures grows { Grows self.old.state self.new.state }
+        ensures keeps { Keeps self.old.state self.new.state }
     {
         self.parts.timeout(ring, now)
     }
@@ -181,6 +191,7 @@ impl Device {
         ensures marks { self.new.marks ≡ self.old.marks }
         ensures lawful { IsLawfulDevice self.new.state }
         ensures grows { Grows self.old.state self.new.state }
+        ensures keeps { Keeps self.old.state self.new.state }
     {
         self.parts.cancel(entity)
     }
@@ -194,6 +205,7 @@ impl Device {
         ensures marks { self.new.marks ≡ self.old.marks }
         ensures lawful { IsLawfulDevice self.new.state }
         ensures grows { Grows self.old.state self.new.state }
+        ensures keeps { MatchResult result (λ f. KeepsBut f 4 self.old.state self.new.state) (λ r. Keeps self.old.state self.new.state) }
     {
         self.parts.reap(entity)
     }
@@ -212,11 +224,13 @@ impl Device {
         requires room { HaveRoom plan.job held.old.items }
         ensures armed { IfOk result (λ fence. (arm_refusal self.old.state plan.job ≡ None) × (fence ≡ length self.old.state.journal) × (self.new.state ≡ armed_device self.old.state plan.job)) }
         ensures held { OnOk result (kept_of held.new.items ≡ armed_held self.old.state.journal plan.job (kept_of held.old.items)) }
+        ensures order { buffers_of held.new.items ≡ buffers_of held.old.items }
         ensures fit { OnOk result (AllFit self.old.state.journal (kept_of held.old.items) → AllFit self.new.state.journal (kept_of held.new.items)) }
         ensures refused { IfErr result (λ back. (arm_refusal self.old.state plan.job ≡ Some back.1) × (back.0 ≡ plan) × (self.new ≡ self.old) × (held.new ≡ held.old)) }
         ensures marks { self.new.marks ≡ self.old.marks }
         ensures lawful { IsLawfulDevice self.new.state }
         ensures grows { Grows self.old.state self.new.state }
+        ensures keeps { IfOk result (λ fence. KeepsArmed plan.job fence self.old.state self.new.state) }
     {
         if let Some(refusal) = self.parts.table.arm_refusal(&plan.job) {
             return Err((plan, refusal));
@@ -321,5 +335,29 @@ impl Device {
         ensures { MatchOption result (slice_get self.now.state.journal fence ≡ None) (λ r. slice_get self.now.state.journal fence ≡ Some r.now) }
     {
         self.parts.table.journal.as_slice().get(fence as usize)
+    }
+
+    /// Takes the device apart (`drm_sched_fini`), and takes no memory. A buffer that is out is still with who runs its
+    /// packet: the bytes that are left show it as it went out.
+    pub fn close(self) -> Closed
+        ensures left { (result.spec ≡ self.state.spec) × (result.records ≡ self.state.journal) × (result.buffers.bytes ≡ self.state.memory) }
+        ensures out { (b : ℕ) → b < length self.state.memory → is_out_of result.buffers b ≡ is_out self b }
+        ensures lawful { IsLawfulDevice self.state }
+        ensures limits { spec_fault self.state.spec ≡ None }
+        ensures sizes { sizes_of self.state.memory ≡ sizes_of self.state.spec.buffers }
+    {
+        let Device { parts } = self;
+        let MarkedTable { table, .. } = parts;
+        let Table {
+            spec,
+            memory,
+            journal,
+            ..
+        } = table;
+        Closed {
+            spec,
+            records: Sequence::from_vec(journal),
+            buffers: memory,
+        }
     }
 }

@@ -1,10 +1,12 @@
 use Rattle.std.proofs.Common.{rules, subst}
 use Rattle.drm_core.specs.Begun.{KeepsTasks}
 use Rattle.drm_core.specs.Grows.{Grows}
+use Rattle.drm_core.specs.Keeps.{Keeps}
 use Rattle.drm_core.specs.MarkedTables.{marked_of}
 use Rattle.drm_core.specs.Marks.{MarkedDevice}
 use Rattle.drm_core.specs.Tables.{state_of}
 use Rattle.drm_core.proofs.MarkedGrows.{report_grows}
+use Rattle.drm_core.proofs.MarkedKeeps.{report_keeps_marked}
 use Rattle.drm_core.proofs.MarkedTasks.{report_keeps}
 use Rattle.drm_core.proofs.device_calls.Device.report.Goals as goal
 
@@ -12,6 +14,11 @@ pub returns-clause-grows : goal.returns-clause-grows
 returns-clause-grows c =
     subst (λ (d : MarkedDevice). Grows d.state (state_of c.report.new.self.table)) c.self.view_is
     (report_grows c.self.inside.parts c.report.new.self c.args.ring c.report.result c.self.invariant c.report.ensures.reported)
+
+pub returns-clause-keeps : goal.returns-clause-keeps
+returns-clause-keeps c =
+    subst (λ (d : MarkedDevice). Keeps d.state (state_of c.report.new.self.table)) c.self.view_is
+    (report_keeps_marked c.self.inside.parts c.report.new.self c.args.ring c.report.result c.self.invariant c.report.ensures.reported)
 
 pub returns-clause-tasks : goal.returns-clause-tasks
 returns-clause-tasks c =
