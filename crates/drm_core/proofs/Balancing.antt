@@ -1,5 +1,5 @@
 -- The ring of an entity's next job, by its last job and by the loads that are kept.
-use Rattle.std.proofs.Common.{◌≡◌, ℕ, ◌<◌, ◌≤◌, Bool, true, false, not, ◌&&◌, ◌==◌, ◌+◌, drop, slice_index_or, List, length, map, Some, None, Option, refl, sym, ap, subst, ◌∙◌, inl, inr, arith, slice_get}
+use Rattle.std.proofs.Common.{◌≡◌, ℕ, ◌<◌, ◌≤◌, Bool, true, false, not, ◌==◌, ◌+◌, drop, slice_index_or, List, length, map, Some, None, refl, sym, ap, subst, ◌∙◌, inl, inr, arith, slice_get}
 use Rattle.std.specs.Prelude.{find, fold, option_map, nat_le, Contains}
 use Rattle.std.proofs.lemmas.Option.{slice_get_within, slice_get-get_or}
 use Rattle.std.proofs.lemmas.List.{length-map, drop_more}
@@ -10,10 +10,8 @@ use Rattle.drm_types.proofs.Firsts.{none_at, none_when}
 use Rattle.drm_fence.specs.Phases.{has_ended}
 use Rattle.drm_core.specs.declared.journal.JobRecord.{JobRecord}
 use Rattle.drm_core.specs.declared.table.Table.{Table}
-use Rattle.drm_core.specs.State.{DeviceState}
 use Rattle.drm_core.specs.Arming.{load, is_live, less_loaded, live_ring, rings_of}
-use Rattle.drm_core.specs.Steady.{IsSteady}
-use Rattle.drm_core.specs.Loads.{owner_of, IsLastOf}
+use Rattle.drm_core.specs.Loads.{owner_of}
 use Rattle.drm_core.specs.Tables.{state_of, IsWhole}
 use Rattle.drm_core.proofs.Records.{to_map, stands_within}
 use Rattle.drm_core.proofs.Pairs.{find_first}

@@ -1,21 +1,18 @@
 -- On which rings the jobs of an entity stand: those without outcomes on one, and each on a listed one.
-use Rattle.std.proofs.Common.{◌≡◌, ℕ, zero, suc, ◌+◌, ◌<◌, Bool, true, false, cond, not, ◌&&◌, ◌==◌, List, [], ◌∷◌, length, Some, None, Option, refl, sym, ap, subst, ◌∙◌, inl, inr, ◌⊎◌, arith, slice_get}
-use Rattle.std.specs.Prelude.{IsTrue, Contains, option_map, find, fold, nat_lt, filter}
+use Rattle.std.proofs.Common.{◌≡◌, ℕ, zero, suc, ◌<◌, Bool, true, false, cond, not, ◌&&◌, ◌==◌, List, [], ◌∷◌, length, Some, None, refl, sym, ap, subst, ◌∙◌, inl, inr, ◌⊎◌, arith, slice_get}
+use Rattle.std.specs.Prelude.{IsTrue, Contains, option_map, find, fold, nat_lt}
 use Rattle.std.specs.Option.{option_map_or}
 use Rattle.std.specs.List.{list_all}
-use Rattle.std.proofs.lemmas.Bool.{both_ways, and_parts, and_from, cases_Bool, cases_eq, eqb-true, eq-eqb, ltb-true, ltb-false}
-use Rattle.std.proofs.lemmas.Option.{slice_get_within}
-use Rattle.drm_types.specs.declared.spec.EntitySpec.{EntitySpec}
-use Rattle.drm_types.specs.declared.spec.DeviceSpec.{DeviceSpec}
+use Rattle.std.proofs.lemmas.Bool.{both_ways, and_parts, and_from, cases_Bool, eqb-true, eq-eqb, ltb-true, ltb-false}
 use Rattle.drm_types.specs.Firsts.{first}
 use Rattle.drm_types.specs.Limits.{is_between, are_distinct, are_rings}
 use Rattle.drm_fence.specs.Phases.{has_ended}
 use Rattle.drm_core.specs.declared.journal.JobRecord.{JobRecord}
 use Rattle.drm_core.specs.State.{DeviceState}
 use Rattle.drm_core.specs.Arming.{rings_of, first_ring, load, less_loaded, least_loaded, is_live, arming_ring}
-use Rattle.drm_core.specs.Steady.{StaysHome, IsRingOf, IsSteady}
+use Rattle.drm_core.specs.Steady.{IsRingOf, IsSteady}
 use Rattle.drm_core.proofs.Pairs.{find_first}
-use Rattle.drm_core.proofs.Pending.{contains_at, place_of}
+use Rattle.drm_core.proofs.Pending.{place_of}
 use Rattle.drm_core.proofs.LatestStands.{all_at}
 
 -- of two jobs of an entity that have no outcome, each is on the other's ring

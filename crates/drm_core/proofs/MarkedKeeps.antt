@@ -1,5 +1,5 @@
 -- What each call of a device keeps while packets are out of it, whether the call is refused or not.
-use Rattle.std.proofs.Common.{◌≡◌, ℕ, ◌<◌, Bool, true, false, length, Some, None, Option, Result, Ok, Err, sym, subst}
+use Rattle.std.proofs.Common.{◌≡◌, ℕ, ◌<◌, length, Some, None, Result, Ok, Err, sym, subst}
 use Rattle.std.specs.Prelude.{IfOk, IfErr, OnOk, MatchResult}
 use Rattle.drm_fence.specs.declared.phase.Phase.TheVariants.{Ended}
 use Rattle.drm_core.specs.declared.answer.Expired.{Expired}

@@ -1,13 +1,12 @@
 -- A cancellation and a reap of the tables are those of their definitions, and keep the tables whole.
-use Rattle.std.proofs.Common.{◌≡◌, ℕ, ◌+◌, set, ◌<◌, ◌≤◌, Bool, true, false, not, ◌&&◌, ◌||◌, ◌==◌, List, [], ◌∷◌, take, length, map, get_or, Some, None, Option, refl, sym, ap, subst, ◌∙◌, inl, inr, ◌⊎◌, arith, slice_get}
+use Rattle.std.proofs.Common.{◌≡◌, ℕ, ◌+◌, set, ◌<◌, ◌≤◌, Bool, true, false, not, ◌&&◌, ◌||◌, ◌==◌, List, [], ◌∷◌, take, length, map, get_or, Some, None, Option, refl, sym, ap, subst, ◌∙◌, inl, inr, arith, slice_get}
 use Rattle.std.specs.declared.alloc.Global.{Global}
-use Rattle.std.specs.Prelude.{filter, is_none, nat_lt, vec_capacity, Vec, IfSome, IfNone, Contains}
+use Rattle.std.specs.Prelude.{filter, is_none, nat_lt, vec_capacity, Vec, IfSome, IfNone}
 use Rattle.std.specs.Option.{option_map_or}
 use Rattle.std.specs.List.{list_all}
 use Rattle.std.proofs.lemmas.Bool.{cases_Bool, cases_eq, both_ways, eqb-true, eq-eqb, ltb-true, ltb-false}
 use Rattle.std.proofs.lemmas.Option.{slice_get_within}
 use Rattle.std.proofs.lemmas.List.Folds.{list_all-append}
-use Rattle.drm_types.specs.declared.spec.EntitySpec.{EntitySpec}
 use Rattle.drm_types.specs.Firsts.{when, first, first_of}
 use Rattle.drm_types.specs.declared.outcome.Outcome.TheVariants as outcome
 use Rattle.drm_fence.specs.Fences.{Fences}
@@ -22,7 +21,6 @@ use Rattle.drm_core.specs.declared.table.RingJobs.{RingJobs}
 use Rattle.drm_core.specs.declared.loads.Loads.{Loads}
 use Rattle.drm_core.specs.declared.table.Table.{Table}
 use Rattle.drm_core.specs.State.{EntityState}
-use Rattle.drm_core.specs.Arming.{rings_of}
 use Rattle.drm_core.specs.Choice.{queue_of}
 use Rattle.drm_core.specs.Journal.{numbered, is_at}
 use Rattle.drm_core.specs.Order.{dependencies}
@@ -41,9 +39,8 @@ use Rattle.drm_core.proofs.DeviceSteps.{IsKept, cancel_kept, reap_kept}
 use Rattle.drm_core.proofs.LatestStands.{all_at, all_from, same_test, in_front, latest_stand, ended_goes_down}
 use Rattle.drm_core.proofs.Pending.{contains_at, place_of}
 use Rattle.drm_core.proofs.Records.{stands_within, at_test, changed_is, at_index}
-use Rattle.drm_core.proofs.PickDone.{rings_there}
 use Rattle.drm_core.proofs.ArmDone.{few_entities, ring_of_entity_there}
-use Rattle.drm_core.proofs.Homes.{one_ring, listed_there}
+use Rattle.drm_core.proofs.Homes.{one_ring}
 use Rattle.drm_core.proofs.LoadsKept.{loads_ended}
 use Rattle.drm_core.proofs.TableFacts.{entity_row_there, row_found, row_pending, whole_kept}
 use Rattle.drm_core.proofs.Queues.{IsFront, front_is, marks_changed, stands_marked, stands_popped, IsPopped}

@@ -1,5 +1,5 @@
 -- A step that ran its packet is the step of its definition, and keeps the tables whole.
-use Rattle.std.proofs.Common.{◌≡◌, ℕ, ◌+◌, ◌<◌, false, List, length, map, get_or, set, Some, refl, ap, subst, ◌∙◌, slice_get}
+use Rattle.std.proofs.Common.{◌≡◌, ℕ, ◌+◌, ◌<◌, false, length, map, get_or, set, Some, refl, ap, subst, ◌∙◌, slice_get}
 use Rattle.std.specs.Vec.{with_item}
 use Rattle.drm_buffer.specs.Memory.{sizes_of}
 use Rattle.drm_buffer.specs.Stored.{Stored}

@@ -1,11 +1,10 @@
 -- Which fences the heads of the queues wait for, while fences are scheduled and end.
-use Rattle.std.proofs.Common.{◌≡◌, ℕ, zero, suc, ◌+◌, Bool, true, false, cond, not, ◌&&◌, ◌==◌, List, [], ◌∷◌, length, map, refl, sym, ap, ◌∙◌, arith, Some, slice_get}
+use Rattle.std.proofs.Common.{◌≡◌, ℕ, ◌+◌, Bool, true, false, cond, ◌&&◌, ◌==◌, List, [], ◌∷◌, length, refl, sym, ap, ◌∙◌, arith}
 use Rattle.std.specs.List.{filter, count_by}
 use Rattle.std.proofs.lemmas.List.Sums.{sum_by-cons}
 use Rattle.drm_core.proofs.Pairs.{sum_by_agree}
 use Rattle.drm_fence.specs.declared.pair.Pair.{Pair}
-use Rattle.drm_fence.specs.Waiting.{unmet_in, without_early, without_fence}
-use Rattle.drm_core.specs.declared.journal.JobRecord.{JobRecord}
+use Rattle.drm_fence.specs.Waiting.{unmet_in}
 use Rattle.drm_core.specs.State.{DeviceState}
 use Rattle.drm_core.specs.Watching.{watched_of, WatchesStand}
 

@@ -1,5 +1,5 @@
 -- What the calls of a device leave of its fences' words.
-use Rattle.std.proofs.Common.{◌≡◌, ◌≢◌, ℕ, zero, suc, ◌+◌, ◌<◌, ◌≤◌, ◌-◌, Bool, true, false, not, cond, ◌||◌, List, [], ◌∷◌, ◌++◌, set, map, length, Some, None, Option, Result, Ok, Err, refl, sym, ap, subst, ◌∙◌, ◌⊎◌, inl, inr, arith, slice_get}
+use Rattle.std.proofs.Common.{◌≡◌, ◌≢◌, ℕ, zero, suc, ◌+◌, ◌<◌, ◌≤◌, ◌-◌, true, false, not, cond, ◌||◌, List, [], ◌∷◌, ◌++◌, set, map, length, Some, None, Option, Result, Ok, Err, refl, sym, ap, subst, ◌∙◌, ◌⊎◌, inl, inr, arith, slice_get}
 use Rattle.std.specs.Option.{option_map_or}
 use Rattle.std.specs.Prelude.{nat_lt, is_none, IfOk, IfErr, OnOk, MatchResult}
 use Rattle.std.proofs.lemmas.Bool.{not-false}
@@ -8,7 +8,6 @@ use Rattle.drm_types.specs.declared.outcome.Outcome.TheVariants as outcome
 use Rattle.drm_types.specs.Firsts.{first, when}
 use Rattle.drm_types.proofs.Firsts.{none_first}
 use Rattle.drm_job.specs.declared.Draft.{Draft}
-use Rattle.drm_packet.specs.declared.Packet.{Packet}
 use Rattle.drm_fence.specs.declared.phase.Phase.{Phase}
 use Rattle.drm_fence.specs.declared.phase.Phase.TheVariants.{Queued, Scheduled, Ended}
 use Rattle.drm_fence.specs.Phases.{is_queued}
@@ -38,7 +37,7 @@ use Rattle.drm_core.specs.Tables.{state_of, IsWhole}
 use Rattle.std.proofs.lemmas.Option.{slice_get_within}
 use Rattle.drm_core.proofs.ArmDone.{may_arm}
 use Rattle.drm_core.proofs.ChoiceIs.{choice_is}
-use Rattle.drm_core.proofs.DeviceSteps.{IsKept, kept_itself, not_when, pick_kept, step_kept, finish_kept, timeout_kept, cancel_kept, reap_kept}
+use Rattle.drm_core.proofs.DeviceSteps.{IsKept, not_when, pick_kept, step_kept, finish_kept, timeout_kept, cancel_kept, reap_kept}
 use Rattle.drm_core.proofs.FitsKept.{fits_kept, unused_fits, get_at_push}
 use Rattle.drm_core.proofs.Pairs.{get_set_same, get_set_other}
 use Rattle.drm_core.proofs.PickLawful.{given}
@@ -110,7 +109,7 @@ pick_words d ring now g = by_choice (choice d ring) refl
         elim (slice_get d.journal f) as (λ o. word_at (option_map_or {U = Answer × DeviceState} (λ r. (answer.Picked f (is_guilty d r.job.entity), picked_device d ring now f)) o (answer.Ok, d)).1.journal g ≡ word_at d.journal g) [
           | None ↦ refl
           | Some r ↦ word_changed d.journal f (given d)
-            (λ x at. let same : c.0 ≡ x = cc (c.1.at, at) in sym (word_queued x.phase (subst (λ (z : JobRecord). is_queued z.phase ≡ true) same c.1.queued))) g
+              (λ x at. let same : c.0 ≡ x = cc (c.1.at, at) in sym (word_queued x.phase (subst (λ (z : JobRecord). is_queued z.phase ≡ true) same c.1.queued))) g
         ]
 
 step_words : (d : DeviceState) (ring : ℕ) → SameWords d (step_outcome d ring).1
@@ -122,10 +121,10 @@ step_words d ring g =
         | Some r ↦ elim (slice_get r.job.packets r.ran) as (λ o. word_at (option_map_or {U = Answer × DeviceState} (stepped_by d f) o (answer.Ok, d)).1.journal g ≡ word_at d.journal g) [
           | None ↦ refl
           | Some p ↦ elim (is_at d.journal f (λ r. must_stall p r.karma.resets)) as (λ b.
-            word_at (cond {A = Answer × DeviceState} b (answer.Stalled f, d) (answer.Ran f (option_map_or (λ r. r.ran) (slice_get d.journal f) 0), ran_device d f p)).1.journal g ≡ word_at d.journal g) [
-            | true ↦ refl
-            | false ↦ word_changed d.journal f (λ r. record r { ran = r.ran + 1 }) (λ x at. refl) g
-          ]
+              word_at (cond {A = Answer × DeviceState} b (answer.Stalled f, d) (answer.Ran f (option_map_or (λ r. r.ran) (slice_get d.journal f) 0), ran_device d f p)).1.journal g ≡ word_at d.journal g) [
+                | true ↦ refl
+                | false ↦ word_changed d.journal f (λ r. record r { ran = r.ran + 1 }) (λ x at. refl) g
+              ]
         ]
       ]
     ]
@@ -137,19 +136,19 @@ timeout_words d ring now g =
       | Some f ↦ elim (slice_get d.journal f) as (λ o. word_at (option_map_or {U = Answer × DeviceState} (timeout_at d ring now f) o (answer.Empty, d)).1.journal g ≡ word_at d.journal g) [
         | None ↦ refl
         | Some r ↦ elim (nat_lt (age_of d ring now) (limit_of (λ l. l.timeout) d ring)) as (λ b.
-          word_at (cond {A = Answer × DeviceState} b (answer.NotYet (limit_of (λ l. l.timeout) d ring - age_of d ring now), d)
-          (cond {A = Answer × DeviceState} (is_complete r) (answer.Complete, d) (hang_outcome d ring now f r))).1.journal g ≡ word_at d.journal g) [
-          | true ↦ refl
-          | false ↦ elim (is_complete r) as (λ b. word_at (cond {A = Answer × DeviceState} b (answer.Complete, d) (hang_outcome d ring now f r)).1.journal g ≡ word_at d.journal g) [
-            | true ↦ refl
-            | false ↦ elim (is_too_much d ring r) as (λ b. word_at (cond {A = Answer × DeviceState} b
-              (answer.Guilty r.job.entity, condemned_device (hung_device d ring now f) ring r.job.entity)
-              (answer.Resumed, hung_device d ring now f)).1.journal g ≡ word_at d.journal g) [
-              | true ↦ word_map (condemned ring r.job.entity) (λ x. refl) (hung_device d ring now f).journal g ∙ word_changed d.journal f (hung d) (λ x at. refl) g
-              | false ↦ word_changed d.journal f (hung d) (λ x at. refl) g
+            word_at (cond {A = Answer × DeviceState} b (answer.NotYet (limit_of (λ l. l.timeout) d ring - age_of d ring now), d)
+            (cond {A = Answer × DeviceState} (is_complete r) (answer.Complete, d) (hang_outcome d ring now f r))).1.journal g ≡ word_at d.journal g) [
+              | true ↦ refl
+              | false ↦ elim (is_complete r) as (λ b. word_at (cond {A = Answer × DeviceState} b (answer.Complete, d) (hang_outcome d ring now f r)).1.journal g ≡ word_at d.journal g) [
+                | true ↦ refl
+                | false ↦ elim (is_too_much d ring r) as (λ b. word_at (cond {A = Answer × DeviceState} b
+                    (answer.Guilty r.job.entity, condemned_device (hung_device d ring now f) ring r.job.entity)
+                    (answer.Resumed, hung_device d ring now f)).1.journal g ≡ word_at d.journal g) [
+                      | true ↦ word_map (condemned ring r.job.entity) (λ x. refl) (hung_device d ring now f).journal g ∙ word_changed d.journal f (hung d) (λ x at. refl) g
+                      | false ↦ word_changed d.journal f (hung d) (λ x at. refl) g
+                    ]
+              ]
             ]
-          ]
-        ]
       ]
     ]
 
@@ -309,5 +308,5 @@ words_go_up p q g f =
     elim (slice_get p.journal f) as (λ o. slice_get p.journal f ≡ o → GoesUp (option_map_or (λ (z : JobRecord). word_of z.phase) o 0) (word_at q.journal f)) [
       | None ↦ λ at. from_zero (word_at q.journal f)
       | Some r ↦ λ at. let n = g.journal f r at in
-        subst (λ o. GoesUp (word_of r.phase) (option_map_or (λ (z : JobRecord). word_of z.phase) o 0)) (sym n.1) (phase_goes_up r.phase n.0.phase n.2.phase)
+          subst (λ o. GoesUp (word_of r.phase) (option_map_or (λ (z : JobRecord). word_of z.phase) o 0)) (sym n.1) (phase_goes_up r.phase n.0.phase n.2.phase)
     ] refl

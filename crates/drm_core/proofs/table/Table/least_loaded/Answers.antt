@@ -1,4 +1,4 @@
-use Rattle.std.proofs.Common.{◌≡◌, ◌<◌, ◌+◌, ◌∙◌, refl, sym, ap, subst, length, drop, slice_index_or, inl}
+use Rattle.std.proofs.Common.{◌+◌, ◌∙◌, refl, sym, ap, drop, inl}
 use Rattle.std.specs.Prelude.{fold}
 use Rattle.drm_core.specs.Arming.{less_loaded}
 use Rattle.drm_core.proofs.ArmDone.{ring_of_entity_there}

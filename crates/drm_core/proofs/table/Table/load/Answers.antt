@@ -1,4 +1,3 @@
-use Rattle.std.proofs.Common.{◌<◌, sym, subst}
 use Rattle.drm_core.proofs.Records.{at_index}
 use Rattle.drm_core.proofs.Balancing.{load_kept, load_there}
 use Rattle.drm_core.proofs.table.Table.load.Goals as goal
