@@ -1,6 +1,6 @@
 //! A device by itself, below the locks of a core.
 
-ghost use Rattle.std.specs.Prelude.{◌≡◌, [], ◌∷◌, IfSome, IsTrue};
+ghost use Rattle.std.specs.Prelude.{◌≡◌, [], ◌∷◌, None, IfSome, IsTrue};
 ghost use Rattle.drm_job.specs.Fault.{IsJob};
 ghost use Rattle.drm_resv.specs.Reservation.{WithRoom};
 
@@ -49,6 +49,7 @@ fn hold(alloc: Global) -> Option<Held>
 /// Whether the device arms the job as its first, and the reservation has its use then.
 fn arms(alloc: Global, device: &mut Device) -> bool
     requires { device.old.state.journal ≡ [] }
+    ensures { device.new.marks ≡ device.old.marks }
 {
     let Some(plan) = plan(alloc, device) else {
         return false;
@@ -61,7 +62,9 @@ fn arms(alloc: Global, device: &mut Device) -> bool
 }
 
 /// Whether the device gives the first ring the job, runs its packet and ends it.
-fn runs(device: &mut Device) -> bool {
+fn runs(device: &mut Device) -> bool
+    ensures { device.new.marks ≡ device.old.marks }
+{
     !device.spec().rings.is_empty()
         && matches!(
             device.pick(0, 0),
@@ -88,21 +91,26 @@ fn runs(device: &mut Device) -> bool {
 }
 
 /// Whether the device stops the first entity and ends its job, which has run nothing.
-fn stops(device: &mut Device) -> bool {
+fn stops(device: &mut Device) -> bool
+    ensures { device.new.marks ≡ device.old.marks }
+{
     !device.spec().entities.is_empty()
         && device.cancel(0).is_ok()
         && matches!(device.reap(0), Ok(0))
 }
 
 /// Whether all four bytes of buffer 0 are this one.
-fn shows(device: &Device, byte: u8) -> bool {
+fn shows(device: &Device, byte: u8) -> bool
+    requires { device.now.marks ≡ None ∷ [] }
+{
     let buffer = BufferId::new(0);
     !device.spec().buffers.is_empty() && device.bytes(buffer) == [byte; 4].as_slice()
 }
 
 /// Whether the bytes of buffer 0 can be read under an empty reservation.
 fn reads(alloc: Global, device: &Device) -> bool
-    requires { device.now.state.journal ≡ [] }
+    requires blank { device.now.state.journal ≡ [] }
+    requires marks { device.now.marks ≡ None ∷ [] }
 {
     let buffer = BufferId::new(0);
     if device.spec().buffers.is_empty() {

@@ -19,7 +19,7 @@ const HOLDS: Job = Job(0, 1, &[(0, Access::Hold)], &[], &[]);
 const WRITES: Job = Job(1, 1, &[(0, Access::Write)], &[], &[]);
 
 fn has_loads(device: &Device, first: u32, second: u32) -> bool {
-    device.load(0) == first && device.load(1) == second
+    device.spec().rings.len() == 2 && device.load(0) == first && device.load(1) == second
 }
 
 fn is_on(device: &Device, fence: u32, ring: u32) -> bool {

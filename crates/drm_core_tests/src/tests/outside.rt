@@ -270,7 +270,9 @@ fn is_stalled(device: &mut Device) -> bool {
         && matches!(device.begin_step(0), Ok(Begun::Stalled { fence: 0 }))
 }
 
-fn is_idle(device: &mut Device) -> bool {
+fn is_idle(device: &mut Device) -> bool
+    ensures { device.new.state ≡ device.old.state }
+{
     !device.spec().rings.is_empty() && matches!(device.begin_step(0), Err(Refusal::Idle))
 }
 

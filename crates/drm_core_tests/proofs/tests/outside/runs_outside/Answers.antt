@@ -9,6 +9,6 @@ report-requires c =
     let begun = subst (λ b. HasBegun c.args.device.now 0 b c.begin_step.new.self) out.field-0-is out.ensures.begun.1 in
     let both = c.in-Some-Some in record {
       busy =
-        both_come_back c.args.device.now c.begin_step.new.self None (None ∷ []) out.field-0-0 out.field-0-1 out.copy out.write out.read both.write both.read c.run_parts.new.write
-            c.requires begun both.is-0 both.is-1 c.run_parts.ensures;
+          both_come_back c.args.device.now c.begin_step.new.self None (None ∷ []) out.field-0-0 out.field-0-1 out.copy out.write out.read both.write both.read c.run_parts.new.write
+          c.requires begun both.is-0 both.is-1 c.run_parts.ensures;
     }
