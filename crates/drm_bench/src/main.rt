@@ -1,4 +1,4 @@
-//! drm_bench: what the parts of the device cost, at 64 entities and 65,535 jobs.
+//! drm_bench: what the parts of the device cost, at 64 entities and 65,535 jobs, and packets that go out of a device.
 //!
 //! Each word `KIND:ROUNDS` runs so many rounds over one part, and prints a sum of its answers. `bench/leaves/run` times
 //! it beside the same in plain Rust, whose sums are what the gate expects here.
@@ -6,6 +6,7 @@
 
 mod entities;
 mod fences;
+mod packets;
 mod queues;
 mod reservations;
 mod rings;
@@ -42,6 +43,10 @@ fn run_once(alloc: Global, kind: &str) -> Result<u64, AllocError> {
         Ok(rings::credits())
     } else if kind == "karma" {
         Ok(rings::karma())
+    } else if kind == "packets" {
+        packets::packets_out(alloc, 60)
+    } else if kind == "no_packets" {
+        packets::packets_out(alloc, 0)
     } else {
         Ok(0)
     }

@@ -32,6 +32,11 @@ IsReport d ring write read =
     (m : Mark) × (packet : Packet) × (mark_of d ring ≡ Some m) × (packet_at d.state.journal m.fence m.packet ≡ Some packet)
     × (write ≡ option_map (λ bytes. part_effect packet bytes m.read) m.write) × (read ≡ m.read)
 
+-- what went out may be reported once its packet has run on it
+abbrev pub MayComeBack : MarkedDevice → ℕ → Begun → Type 0
+MayComeBack d ring (Work fence packet copy write read) = IsReport d ring (option_map (λ bytes. part_effect copy bytes read) write) read
+MayComeBack d ring (Stalled fence) = Unit {0}
+
 -- the packet came back: it is the step of the ring
 abbrev pub HasReported : MarkedDevice → ℕ → ℕ × ℕ → MarkedDevice → Type 0
 HasReported d ring ran new =

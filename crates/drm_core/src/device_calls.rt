@@ -21,7 +21,7 @@ ghost use Rattle.drm_job.specs.Fault.{IsJob};
 ghost use Rattle.drm_core.specs.Outcomes.{pick_outcome, step_outcome, finish_outcome, timeout_outcome, cancelled_device, reap_outcome};
 ghost use Rattle.drm_core.specs.Refusals.{arm_refusal, busy_fence, pick_refusal, step_refusal, finish_refusal, cancel_refusal, reap_refusal};
 ghost use Rattle.drm_core.specs.State.{opened_device};
-ghost use Rattle.drm_core.specs.Begun.{HasBegun, IsReport, HasReported, KeepsTasks, out_or};
+ghost use Rattle.drm_core.specs.Begun.{HasBegun, IsReport, HasReported, KeepsTasks, out_or, MayComeBack};
 ghost use Rattle.drm_core.specs.Marks.{is_in_way, is_out, ring_out, unmarked, IsSteadyMarked};
 ghost use Rattle.drm_core.specs.Steady.{IsSteady};
 
@@ -123,6 +123,7 @@ impl Device {
         requires there { ring < length self.old.state.spec.rings }
         ensures begun { IfOk result (λ b. (out_or (is_in_way self.old ring) (step_refusal self.old.state ring) ≡ None) × HasBegun self.old ring b self.new) }
         ensures state { self.new.state ≡ self.old.state }
+        ensures back { IfOk result (MayComeBack self.new ring) }
         ensures tasks { KeepsTasks self.old ring self.new }
         ensures refused { IfErr result (λ r. (out_or (is_in_way self.old ring) (step_refusal self.old.state ring) ≡ Some r) × (self.new ≡ self.old)) }
     {

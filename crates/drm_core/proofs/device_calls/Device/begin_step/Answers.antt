@@ -1,9 +1,14 @@
-use Rattle.std.proofs.Common.{rules, subst}
+use Rattle.std.proofs.Common.{rules, ◌<◌, length, sym, subst}
 use Rattle.drm_core.specs.Begun.{KeepsTasks}
 use Rattle.drm_core.specs.MarkedTables.{marked_of}
 use Rattle.drm_core.specs.Marks.{MarkedDevice}
-use Rattle.drm_core.proofs.MarkedTasks.{begin_keeps}
+use Rattle.drm_core.proofs.MarkedTasks.{begin_keeps, begin_back}
 use Rattle.drm_core.proofs.device_calls.Device.begin_step.Goals as goal
+
+pub returns-clause-back : goal.returns-clause-back
+returns-clause-back c =
+    begin_back c.self.inside.parts c.begin_step.new.self c.args.ring c.begin_step.result c.self.invariant
+    (subst (λ (d : MarkedDevice). c.args.ring < length d.state.spec.rings) (sym c.self.view_is) c.requires.there) c.begin_step.ensures.begun
 
 pub returns-clause-tasks : goal.returns-clause-tasks
 returns-clause-tasks c =

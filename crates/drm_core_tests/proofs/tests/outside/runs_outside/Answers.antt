@@ -1,14 +1,18 @@
-use Rattle.std.proofs.Common.{[], ◌∷◌, None, subst}
-use Rattle.drm_core.specs.Begun.{HasBegun}
-use Rattle.drm_core_tests.proofs.ComesBack.{both_come_back}
+use Rattle.std.proofs.Common.{◌∙◌, Some, sym, ap, subst}
+use Rattle.std.specs.Prelude.{option_map}
+use Rattle.drm_packet.specs.Parts.{part_effect}
+use Rattle.drm_core.specs.Begun.{IsReport, MayComeBack}
 use Rattle.drm_core_tests.proofs.tests.outside.runs_outside.Goals as goal
 
 pub report-requires : goal.report-requires
 report-requires c =
     let out = c.in-Ok-Work in
-    let begun = subst (λ b. HasBegun c.args.device.now 0 b c.begin_step.new.self) out.field-0-is out.ensures.begun.1 in
-    let both = c.in-Some-Some in record {
+    let both = c.in-Some-Some in
+    let back = subst (MayComeBack c.begin_step.new.self 0) out.field-0-is out.ensures.back in
+    let written =
+    ap (option_map (λ bytes. part_effect out.copy bytes out.read)) both.is-0
+    ∙ (ap (λ r. Some (part_effect out.copy both.write r)) both.is-1 ∙ ap (λ l. Some l) (sym c.run_parts.ensures)) in record {
       busy =
-          both_come_back c.args.device.now c.begin_step.new.self None (None ∷ []) out.field-0-0 out.field-0-1 out.copy out.write out.read both.write both.read c.run_parts.new.write
-          c.requires begun both.is-0 both.is-1 c.run_parts.ensures;
+        subst (λ r. IsReport c.begin_step.new.self 0 (Some c.run_parts.new.write) r) both.is-1
+        (subst (λ w. IsReport c.begin_step.new.self 0 w out.read) written back);
     }
