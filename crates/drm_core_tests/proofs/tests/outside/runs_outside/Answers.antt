@@ -13,6 +13,6 @@ report-requires c =
     ap (option_map (λ bytes. part_effect out.copy bytes out.read)) both.is-0
     ∙ (ap (λ r. Some (part_effect out.copy both.write r)) both.is-1 ∙ ap (λ l. Some l) (sym c.run_parts.ensures)) in record {
       busy =
-        subst (λ r. IsReport c.begin_step.new.self 0 (Some c.run_parts.new.write) r) both.is-1
-        (subst (λ w. IsReport c.begin_step.new.self 0 w out.read) written back);
+          subst (λ r. IsReport c.begin_step.new.self 0 (Some c.run_parts.new.write) r) both.is-1
+          (subst (λ w. IsReport c.begin_step.new.self 0 w out.read) written back);
     }
