@@ -1,112 +1,28 @@
 -- Lists of blank rows, and the tables that are made of them.
-use Rattle.std.proofs.Common.{◌≡◌, ℕ, zero, suc, ◌+◌, ◌≤◌, false, List, [], ◌∷◌, ◌++◌, map, length, replicate, Some, None, refl, sym, ap, subst, ◌∙◌, inl, inr, arith, slice_get}
-use Rattle.std.specs.Prelude.{option_map, vec_capacity}
+use Rattle.std.proofs.Common.{◌≡◌, ℕ, zero, suc, List, [], ◌∷◌, map, length, replicate, Option, Some, None, refl, sym, ap, subst, ◌∙◌, arith, slice_get}
+use Rattle.std.specs.Prelude.{option_map}
 use Rattle.std.specs.Option.{option_map_or}
-use Rattle.std.proofs.lemmas.List.{length-map, map-append, replicate_more}
-use Rattle.drm_types.specs.Limits.{spec_fault}
-use Rattle.drm_types.specs.declared.spec.RingSpec.{RingSpec}
-use Rattle.drm_types.specs.declared.spec.DeviceSpec.{DeviceSpec}
-use Rattle.drm_entity.specs.Rows.{EntityRow, EntityRows}
-use Rattle.drm_buffer.specs.Memory.{sizes_of}
-use Rattle.drm_buffer.specs.Stored.{Stored, all_in}
+use Rattle.std.proofs.lemmas.List.{length-map}
 use Rattle.drm_resv.specs.Reservation.{WithRoom}
-use Rattle.drm_core.specs.declared.journal.JobRecord.{JobRecord}
-use Rattle.drm_core.specs.declared.table.RingJobs.{RingJobs}
-use Rattle.drm_core.specs.declared.table.Table.{Table}
 use Rattle.drm_core.specs.declared.cores.ContextRow.{ContextRow}
 use Rattle.drm_core.specs.declared.cores.CoreTable.{CoreTable}
-use Rattle.drm_core.specs.State.{DeviceState, CoreState, opened_device, opened}
-use Rattle.drm_core.specs.Steady.{IsSteady, IsSteadyCore}
-use Rattle.drm_core.specs.Plain.{marks_of, marks, WaitsStand, QueuesStand}
-use Rattle.drm_core.specs.Loads.{LoadsOf}
-use Rattle.drm_core.specs.Tables.{state_of, ring_state_of, fence_state_of, HasRooms, IsWhole, AllIn}
-use Rattle.drm_core.specs.Cores.{core_state, context_of_row, planned_by, IsCore}
-use Rattle.drm_core.specs.Building.{HaveRoomFor}
-use Rattle.drm_core.proofs.LoadsKept.{loads_blank}
-use Rattle.drm_core.proofs.Opening.{opened_steady, opened_core_steady}
-use Rattle.drm_core.proofs.PickLawful.{get_push_cases}
-
--- the same for each element
-pub map_to_same : {X Y : Type 0} (y : Y) (xs : List X) → map (λ x. y) xs ≡ replicate (length xs) y
-map_to_same y [] = refl
-map_to_same y (x ∷ xs) = ap (λ ys. y ∷ ys) (map_to_same y xs)
-
-pub map_same : {X Y : Type 0} (f : X → Y) (n : ℕ) (x : X) → map f (replicate n x) ≡ replicate n (f x)
-map_same f zero x = refl
-map_same f (suc n) x = ap (λ ys. f x ∷ ys) (map_same f n x)
-
--- one row more
-pub map_push_same : {X Y : Type 0} (f : X → Y) (xs : List X) (x : X) (n : ℕ) (y : Y) → map f xs ≡ replicate n y → f x ≡ y → map f (xs ++ x ∷ []) ≡ replicate (n + 1) y
-map_push_same f xs x n y so_far is = map-append f xs (x ∷ []) ∙ (ap (λ ys. ys ++ f x ∷ []) so_far ∙ (ap (λ z. replicate n y ++ z ∷ []) is ∙ replicate_more n y))
-
-pub room_push : (specs : List RingSpec) (rows : List RingJobs) (row : RingJobs) → HaveRoomFor specs rows
-    → option_map_or (λ (s : RingSpec). s.credit_limit) (slice_get specs (length rows)) 0 ≤ vec_capacity row.pending → HaveRoomFor specs (rows ++ row ∷ [])
-room_push specs rows row have room k found is =
-    elim (get_push_cases rows row k found is) [
-      | inl old ↦ have k found old
-      | inr new ↦
-          subst (λ n. option_map_or (λ (s : RingSpec). s.credit_limit) (slice_get specs n) 0 ≤ vec_capacity found.pending) (sym new.0)
-          (subst (λ (r : RingJobs). option_map_or (λ (s : RingSpec). s.credit_limit) (slice_get specs (length rows)) 0 ≤ vec_capacity r.pending) (sym new.1) room)
-    ]
-
--- entities with nothing queued and no marks
-abbrev pub blank_entities : DeviceSpec → EntityRows
-blank_entities spec = record {
-  places = spec.max_jobs;
-  rows = replicate (length spec.entities) (record { queue = []; is_stopped = false; is_guilty = false });
-}
-
--- their queues are those of no jobs
-no_queues : (spec : DeviceSpec) → QueuesStand [] (blank_entities spec)
-no_queues spec entity lt = by_row (length spec.entities) entity
-  where
-    by_row : (n entity : ℕ) → option_map_or (λ (r : EntityRow). r.queue) (slice_get (replicate n (record { queue = []; is_stopped = false; is_guilty = false })) entity) [] ≡ []
-    by_row zero entity = refl
-    by_row (suc n) zero = refl
-    by_row (suc n) (suc entity) = by_row n entity
-
--- the tables of a device on which no job was armed
-pub blank_device : (t : Table) → t.memory ≡ all_in t.spec.buffers → t.journal.items ≡ []
-    → map ring_state_of t.rings.items ≡ map (λ (ring : RingSpec). record { pending = []; since = 0 }) t.spec.rings
-    → t.entities ≡ blank_entities t.spec → state_of t ≡ opened_device t.spec
-blank_device t memory journal rings entities =
-    ap (λ m. let d : DeviceState = record { spec = t.spec; memory = m; journal = t.journal.items; rings = map ring_state_of t.rings.items; entities = marks t.entities } in d) (ap (λ (s : Stored). s.bytes) memory)
-    ∙ (ap (λ j. let d : DeviceState = record { spec = t.spec; memory = t.spec.buffers; journal = j; rings = map ring_state_of t.rings.items; entities = marks t.entities } in d) journal
-    ∙ (ap (λ rs. let d : DeviceState = record { spec = t.spec; memory = t.spec.buffers; journal = []; rings = rs; entities = marks t.entities } in d) rings
-    ∙ ap (λ es. record (opened_device t.spec) { entities = es })
-    (ap marks entities ∙ (map_same marks_of (length t.spec.entities) (record { queue = []; is_stopped = false; is_guilty = false })
-    ∙ sym (map_to_same (record { is_stopped = false; is_guilty = false }) t.spec.entities)))))
-
--- no job waits for anything
-pub no_waits : (journal : List JobRecord) (waits : List (List (ℕ × ℕ))) → journal ≡ [] → waits ≡ [] → WaitsStand journal waits
-no_waits journal waits no_jobs none = subst (λ ws. WaitsStand journal ws) (sym none) (subst (λ j. WaitsStand j []) (sym no_jobs) (record {
-  count = refl;
-  stand = λ j r deps at going found. absurd (cc (at));
-}))
-
-pub blank_whole : (t : Table) → state_of t ≡ opened_device t.spec → spec_fault t.spec ≡ None → t.fences.list ≡ [] → t.waits.items ≡ [] → t.entities ≡ blank_entities t.spec
-    → t.loads.live.items ≡ replicate (length t.spec.rings) 0 → t.loads.last.items ≡ replicate (length t.spec.entities) None → t.loads.ended ≡ 0 → HasRooms t → IsWhole t
-blank_whole t opened limits fences waits entities live last ended rooms =
-    let no_jobs : t.journal.items ≡ [] = ap (λ (d : DeviceState). d.journal) opened in
-    record {
-      steady = subst IsSteady (sym opened) (opened_steady t.spec);
-      limits = limits;
-      count = let none : length t.journal.items ≡ 0 = ap length no_jobs in omega (arith, none);
-      fences = fences ∙ ap (map fence_state_of) (sym no_jobs);
-      waits = no_waits t.journal.items t.waits.items no_jobs waits;
-      queues = subst (QueuesStand t.journal.items) (sym entities) (subst (λ js. QueuesStand js (blank_entities t.spec)) (sym no_jobs) (no_queues t.spec));
-      loads = subst (λ js. LoadsOf t.spec js t.loads) (sym no_jobs) (loads_blank t.spec t.loads live last ended);
-      sizes = ap (λ (d : DeviceState). sizes_of d.memory) opened;
-      rooms = rooms;
-    }
+use Rattle.drm_types.specs.Limits.{spec_fault}
+use Rattle.drm_sched.specs.Marks.{Mark, MarkedDevice, unmarked}
+use Rattle.drm_sched.specs.State.{RingState, opened_device}
+use Rattle.drm_core.specs.State.{CoreState, opened}
+use Rattle.drm_core.specs.Steady.{IsSteadyCore}
+use Rattle.drm_core.specs.Cores.{core_state, context_of_row, planned_by, IsCore, NothingOut}
+use Rattle.drm_core.specs.Laws.{DeviceLaws}
+use Rattle.drm_core.proofs.Opening.{opened_core_steady}
+use Rattle.drm_core.proofs.Lists.{map_to_same}
 
 -- the tables of a core to which nothing has happened
-pub blank_core : (c : CoreTable) → state_of c.table ≡ opened_device c.table.spec
-    → map (λ (r : WithRoom). r.kept) c.reservations.items ≡ replicate (length c.table.spec.buffers) (record { entries = []; history = [] })
-    → c.holders.items ≡ replicate (length c.table.spec.buffers) None → c.contexts.items ≡ replicate 64 None → c.next_ticket ≡ 1
-    → core_state c ≡ opened c.table.spec
+pub blank_core : (c : CoreTable) → c.device.state ≡ opened_device c.device.state.spec
+    → map (λ (r : WithRoom). r.kept) c.reservations.items ≡ replicate (length c.device.state.spec.buffers) (record { entries = []; history = [] })
+    → c.holders.items ≡ replicate (length c.device.state.spec.buffers) None → c.contexts.items ≡ replicate 64 None → c.next_ticket ≡ 1
+    → core_state c ≡ opened c.device.state.spec
 blank_core c device reservations holders contexts tickets =
-    let spec = c.table.spec in
+    let spec = c.device.state.spec in
     let rs = reservations ∙ sym (map_to_same (record { entries = []; history = [] }) spec.buffers) in
     let hs = holders ∙ sym (map_to_same None spec.buffers) in
     let cs : map (option_map context_of_row) c.contexts.items ≡ replicate 64 None = ap (map (option_map context_of_row)) contexts in
@@ -122,18 +38,28 @@ no_plan zero ctx = refl
 no_plan (suc n) zero = refl
 no_plan (suc n) (suc ctx) = no_plan n ctx
 
-pub blank_is_core : (c : CoreTable) → core_state c ≡ opened c.table.spec → IsWhole c.table → AllIn c.table → c.contexts.items ≡ replicate 64 None → IsCore c
-blank_is_core c is whole inside contexts = record {
-  steady = subst IsSteadyCore (sym is) (opened_core_steady c.table.spec);
-  whole = whole;
+-- nothing is out of a device that was opened
+pub opened_inside : (d : MarkedDevice) → d ≡ unmarked (opened_device d.state.spec) → NothingOut d
+opened_inside d is = subst NothingOut (sym is) (in_rings (opened_device d.state.spec).rings)
+  where
+    in_rings : (rings : List RingState) (k : ℕ) → option_map_or (λ (m : Option Mark). m) (slice_get (map (λ (ring : RingState). None) rings) k) None ≡ None
+    in_rings [] k = refl
+    in_rings (r ∷ rings) zero = refl
+    in_rings (r ∷ rings) (suc k) = in_rings rings k
+
+pub blank_is_core : (laws : DeviceLaws) (c : CoreTable) → core_state c ≡ opened c.device.state.spec → spec_fault c.device.state.spec ≡ None → NothingOut c.device
+    → c.contexts.items ≡ replicate 64 None → IsCore c
+blank_is_core laws c is limits inside contexts = record {
+  steady = subst IsSteadyCore (sym is) (opened_core_steady laws c.device.state.spec);
+  limits = limits;
   inside = inside;
   plans = λ ctx plan found.
       let none : planned_by c ctx ≡ None = ap (λ rows. option_map_or (λ o. option_map_or (λ (row : ContextRow). row.plan) o None) (slice_get rows ctx) None) contexts ∙ no_plan 64 ctx in
       let clash : None ≡ Some plan = sym none ∙ found in absurd (cc (clash));
   reservation_count =
       sym (length-map c.reservations.items (λ (r : WithRoom). r.kept))
-      ∙ (ap (λ (s : CoreState). length s.reservations) is ∙ length-map c.table.spec.buffers (λ bytes. record { entries = []; history = [] }));
-  holder_count = ap (λ (s : CoreState). length s.holders) is ∙ length-map c.table.spec.buffers (λ bytes. None);
+      ∙ (ap (λ (s : CoreState). length s.reservations) is ∙ length-map c.device.state.spec.buffers (λ bytes. record { entries = []; history = [] }));
+  holder_count = ap (λ (s : CoreState). length s.holders) is ∙ length-map c.device.state.spec.buffers (λ bytes. None);
   context_count = ap length contexts;
   tickets = let first : c.next_ticket ≡ 1 = ap (λ (s : CoreState). s.next_ticket) is in omega (arith, first);
 }

@@ -26,19 +26,19 @@ use Rattle.drm_resv.specs.declared.entry.Entry.{Entry}
 use Rattle.drm_resv.specs.Entries.{entries_of}
 use Rattle.drm_resv.specs.Noting.{all_noted}
 use Rattle.drm_resv.specs.Reservation.{WithRoom}
-use Rattle.drm_core.specs.declared.journal.JobRecord.{JobRecord}
-use Rattle.drm_core.specs.State.{DeviceState}
-use Rattle.drm_core.specs.Steady.{IsSteady}
-use Rattle.drm_core.specs.Reservation.{usage_at, stands_for, IsOfJob, Fits}
+use Rattle.drm_sched.specs.declared.journal.JobRecord.{JobRecord}
+use Rattle.drm_sched.specs.State.{DeviceState}
+use Rattle.drm_sched.specs.Steady.{IsSteady}
+use Rattle.drm_sched.specs.Reservation.{usage_at, stands_for, IsOfJob, Fits}
 use Rattle.drm_core.specs.Planning.{collected, all_collected}
-use Rattle.drm_core.specs.Cores.{MeetsPlan, DepsCover}
-use Rattle.drm_core.proofs.ChoiceIs.{in_filter}
-use Rattle.drm_core.proofs.DeviceSteps.{not_when}
-use Rattle.drm_core.proofs.FitsKept.{usage_trans}
+use Rattle.drm_sched.specs.Plans.{MeetsPlan, DepsCover}
+use Rattle.drm_core.proofs.Lists.{in_filter}
+use Rattle.drm_core.proofs.Lists.{not_when}
+use Rattle.drm_core.proofs.DeviceFacts.{usage_trans}
 use Rattle.drm_core.proofs.Notes.{Reaches, each_keeps, each_reaches, each_all}
-use Rattle.drm_core.proofs.Pending.{contains_at, place_of}
-use Rattle.drm_core.proofs.Records.{to_map}
-use Rattle.drm_core.proofs.TableFacts.{neither}
+use Rattle.drm_core.proofs.Lists.{contains_at, place_of}
+use Rattle.drm_core.proofs.Lists.{to_map}
+use Rattle.drm_core.proofs.Lists.{neither}
 
 -- ---- what a job declares
 

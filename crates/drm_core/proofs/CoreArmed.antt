@@ -1,10 +1,10 @@
 -- An arming of a job by its core: the reservations of its buffers gain its uses, and the plans of other contexts stand.
-use Rattle.std.proofs.Common.{◌≡◌, ℕ, zero, suc, ◌+◌, ◌<◌, Bool, true, false, ◌&&◌, ◌||◌, ◌==◌, List, [], ◌∷◌, ◌++◌, length, map, Some, None, Option, refl, sym, ap, subst, ◌∙◌, inl, inr, arith, slice_get, get_or}
+use Rattle.std.proofs.Common.{◌≡◌, ℕ, suc, ◌+◌, ◌<◌, Bool, true, false, ◌&&◌, ◌==◌, List, [], ◌∷◌, ◌++◌, length, map, Some, None, Option, refl, sym, ap, subst, ◌∙◌, inl, inr, arith, slice_get, get_or}
 use Rattle.std.specs.declared.alloc.Global.{Global}
 use Rattle.std.specs.Prelude.{Vec, vec_len, IsTrue, option_map, option_and_then, find}
 use Rattle.std.specs.Option.{option_map_or}
 use Rattle.std.specs.List.{list_any, list_all, enumerate_from}
-use Rattle.std.proofs.lemmas.Bool.{cases_Bool, and_parts, eqb-true}
+use Rattle.std.proofs.lemmas.Bool.{and_parts, eqb-true}
 use Rattle.std.proofs.lemmas.Option.{slice_get_within, slice_get-get_or}
 use Rattle.std.specs.Vec.{with_items}
 use Rattle.std.proofs.lemmas.List.{length-map, with_items_is}
@@ -19,53 +19,32 @@ use Rattle.drm_fence.specs.declared.timeline.FenceState.{FenceState}
 use Rattle.drm_fence.specs.Fences.{has_ended_at}
 use Rattle.drm_resv.specs.Entries.{added_to}
 use Rattle.drm_resv.specs.Reservation.{Reservation, WithRoom}
-use Rattle.drm_core.specs.declared.journal.JobRecord.{JobRecord}
-use Rattle.drm_core.specs.declared.table.Table.{Table}
-use Rattle.drm_core.specs.declared.cores.Plan.{Plan}
+use Rattle.drm_sched.specs.declared.journal.JobRecord.{JobRecord}
+use Rattle.drm_types.specs.Limits.{spec_fault}
+use Rattle.drm_sched.specs.Marks.{MarkedDevice}
+use Rattle.drm_sched.specs.declared.plans.Plan.{Plan}
 use Rattle.drm_core.specs.declared.cores.CoreTable.{CoreTable}
-use Rattle.drm_core.specs.State.{DeviceState, CoreState}
-use Rattle.drm_core.specs.Arming.{new_record, armed_device, armed_reservation, armed_reservations}
+use Rattle.drm_sched.specs.State.{DeviceState}
+use Rattle.drm_core.specs.State.{CoreState}
+use Rattle.drm_sched.specs.Arming.{new_record, armed_device, armed_reservation, armed_reservations}
 use Rattle.drm_core.specs.Outcomes.{armed_core}
-use Rattle.drm_core.specs.Reservation.{usage_at, is_signaled}
+use Rattle.drm_sched.specs.Reservation.{usage_at, is_signaled}
 use Rattle.drm_core.specs.Steady.{IsSteadyCore}
-use Rattle.drm_core.specs.Tables.{state_of, fence_state_of, IsWhole}
-use Rattle.drm_core.specs.Cores.{core_state, MeetsPlan, DepsCover, planned_by, PlanStands, IsCore}
-use Rattle.drm_core.specs.Planning.{HasUse, HaveUses, ShareNoBuffer}
-use Rattle.drm_core.proofs.Records.{to_map, from_map}
-use Rattle.drm_core.proofs.Pairs.{find_first}
-use Rattle.drm_core.proofs.ChoiceIs.{get_numbered}
-use Rattle.drm_core.proofs.PickLawful.{get_push_cases}
-use Rattle.drm_core.proofs.ArmLawful.{get_before_push}
+use Rattle.drm_sched.specs.Tables.{fence_state_of}
+use Rattle.drm_core.specs.Cores.{core_state, planned_by, PlanStands, IsCore}
+use Rattle.drm_sched.specs.Plans.{MeetsPlan, DepsCover}
+use Rattle.drm_sched.specs.Uses.{HasUse}
+use Rattle.drm_core.specs.Planning.{HaveUses, ShareNoBuffer}
+use Rattle.drm_core.proofs.Lists.{to_map, from_map}
+use Rattle.drm_core.proofs.Lists.{find_first}
+use Rattle.drm_core.proofs.Lists.{get_numbered}
+use Rattle.drm_core.proofs.Lists.{get_push_cases}
+use Rattle.drm_core.proofs.Lists.{get_before_push}
 use Rattle.drm_core.proofs.CoreSteps.{arm_kept}
-use Rattle.drm_core.proofs.Stored.{all_in_kept}
-
--- two lists that have the same at each place are one
-pub list_ext : {X : Type 0} (xs ys : List X) → length xs ≡ length ys → ((k : ℕ) (x : X) → slice_get xs k ≡ Some x → slice_get ys k ≡ Some x) → xs ≡ ys
-list_ext [] [] count each = refl
-list_ext [] (y ∷ ys) count each = absurd (omega (arith, count))
-list_ext (x ∷ xs) [] count each = absurd (omega (arith, count))
-list_ext (x ∷ xs) (y ∷ ys) count each =
-    let first : y ≡ x = (let at = each 0 x refl in cc (at)) in
-    let rest : xs ≡ ys = list_ext xs ys (omega (arith, count)) (λ k z at. each (suc k) z at) in
-    ap (λ z. z ∷ xs) (sym first) ∙ ap (λ zs. y ∷ zs) rest
-
--- whether a fence has an outcome, by the timeline and by the journal
-pub ended_alike : (js : List JobRecord) (fs : List FenceState) → fs ≡ map fence_state_of js → has_ended_at fs ≡ is_signaled js
-ended_alike js fs tie = ap has_ended_at tie ∙ (λ i f. by_map js f i)
-  where
-    by_map : (js : List JobRecord) (f : ℕ) → has_ended_at (map fence_state_of js) f ≡ is_signaled js f
-    by_map [] f = refl
-    by_map (r ∷ js) zero = refl
-    by_map (r ∷ js) (suc f) = by_map js f
-
--- a test that some element passes
-pub any_at : {X : Type 0} (p : X → Bool) (xs : List X) → list_any p xs ≡ true → (k : ℕ) × (x : X) × (slice_get xs k ≡ Some x) × (p x ≡ true)
-any_at p [] is = absurd (let never : false ≡ true = is in cc (never))
-any_at p (x ∷ xs) is =
-    elim (cases_Bool (p x)) [
-      | inl here ↦ (0, x, refl, here)
-      | inr no_more ↦ let there = any_at p xs (sym (ap (λ b. b || list_any p xs) no_more) ∙ is) in (suc there.0, there.1, there.2, there.3)
-    ]
+use Rattle.drm_core.proofs.CoreFacts.{nothing_out_kept}
+use Rattle.drm_core.proofs.Lists.{list_ext, any_at}
+use Rattle.drm_core.proofs.DeviceFacts.{ended_alike}
+use Rattle.drm_core.specs.Laws.{DeviceLaws}
 
 length-enumerate : {X : Type 0} (n : ℕ) (xs : List X) → length (enumerate_from n xs) ≡ length xs
 length-enumerate n [] = refl
@@ -129,17 +108,17 @@ apart_conflicts job other apart meets =
     apart first.0 second.0 first.1 second.1 first.2 second.2 (eqb-true first.1.0 second.1.0 (and_parts (first.1.0 == second.1.0) (must_wait first.1.1 second.1.1) second.3).0)
 
 -- the plan of another context stands after the arming
-pub plan_stands_on : (c n : CoreTable) (ctx : ℕ) (plan : Plan) (job : Draft) (ended : ℕ → Bool) → state_of n.table ≡ armed_device (state_of c.table) job → n.holders.items ≡ c.holders.items
-    → HaveUses ended (length c.table.journal.items) job c.reservations.items n.reservations.items → ShareNoBuffer job plan.job → PlanStands c ctx plan → PlanStands n ctx plan
+pub plan_stands_on : (c n : CoreTable) (ctx : ℕ) (plan : Plan) (job : Draft) (ended : ℕ → Bool) → n.device.state ≡ armed_device c.device.state job → n.holders.items ≡ c.holders.items
+    → HaveUses ended (length c.device.state.journal) job c.reservations.items n.reservations.items → ShareNoBuffer job plan.job → PlanStands c ctx plan → PlanStands n ctx plan
 plan_stands_on c n ctx plan job ended armed holders uses apart stands = record {
   covers = subst (λ d. DepsCover d plan.job plan.deps) (sym armed) (record {
     covers = λ i x at meets going.
-        elim (get_push_cases c.table.journal.items (new_record (state_of c.table) job) i x at) [
+        elim (get_push_cases c.device.state.journal (new_record c.device.state job) i x at) [
           | inl old ↦ stands.covers.covers i x old meets going
           | inr it ↦ absurd (apart_conflicts job plan.job apart (subst (λ (z : JobRecord). conflicts z.job plan.job ≡ true) it.1 meets))
         ];
-    of_jobs = All-weaker (MeetsPlan c.table.journal.items plan.job) (MeetsPlan (c.table.journal.items ++ new_record (state_of c.table) job ∷ []) plan.job)
-        (λ e is. (is.0, get_before_push c.table.journal.items (new_record (state_of c.table) job) e.1 is.0 is.1, is.2, is.3)) plan.deps stands.covers.of_jobs;
+    of_jobs = All-weaker (MeetsPlan c.device.state.journal plan.job) (MeetsPlan (c.device.state.journal ++ new_record c.device.state job ∷ []) plan.job)
+        (λ e is. (is.0, get_before_push c.device.state.journal (new_record c.device.state job) e.1 is.0 is.1, is.2, is.3)) plan.deps stands.covers.of_jobs;
   });
   holds = subst (λ hs. list_all (λ b. option_map_or (λ h. h == ctx) (option_and_then (λ o. o) (slice_get hs b)) false) (buffers_of plan.job) ≡ true) (sym holders) stands.holds;
   room = λ b r at used. room_of b r at used;
@@ -166,33 +145,34 @@ plan_stands_on c n ctx plan job ended armed holders uses apart stands = record {
         subst (λ (z : WithRoom). IsTrue z.has_room) (sym is_old) (stands.room b old at_old used)
 
 -- the uses that were added to the vector's items
-pub uses_in_vector : (c : CoreTable) (ended : ℕ → Bool) (fence : ℕ) (job : Draft) (old new : List WithRoom) → fence ≡ vec_len c.table.journal → old ≡ c.reservations.items
-    → HaveUses ended fence job old new → HaveUses ended (length c.table.journal.items) job c.reservations.items (with_items c.reservations new).items
+pub uses_in_vector : (c : CoreTable) (ended : ℕ → Bool) (fence : ℕ) (job : Draft) (old new : List WithRoom) → fence ≡ length c.device.state.journal → old ≡ c.reservations.items
+    → HaveUses ended fence job old new → HaveUses ended (length c.device.state.journal) job c.reservations.items (with_items c.reservations new).items
 uses_in_vector c ended fence job old new fence_is old_is uses =
     let count : length new ≡ vec_len c.reservations = uses.count ∙ (ap length old_is ∙ sym c.reservations.ok.0) in
-    subst (λ xs. HaveUses ended (length c.table.journal.items) job c.reservations.items xs) (sym (with_items_is c.reservations new count))
-    (subst (λ n. HaveUses ended n job c.reservations.items new) (fence_is ∙ c.table.journal.ok.0)
+    subst (λ xs. HaveUses ended (length c.device.state.journal) job c.reservations.items xs) (sym (with_items_is c.reservations new count))
+    (subst (λ n. HaveUses ended n job c.reservations.items new) fence_is
     (subst (λ xs. HaveUses ended fence job xs new) old_is uses))
 
 -- the core after the arming
-abbrev pub armed_parts : CoreTable → Table → Vec WithRoom Global → CoreTable
-armed_parts c u rs = record c { table = u; reservations = rs }
+abbrev pub armed_parts : CoreTable → MarkedDevice → Vec WithRoom Global → CoreTable
+armed_parts c u rs = record c { device = u; reservations = rs }
 
-pub core_armed : (c : CoreTable) (u : Table) (rs : Vec WithRoom Global) (job : Draft) → IsCore c → IsJob c.table.spec job
-    → HaveUses (has_ended_at c.table.fences.list) (length c.table.journal.items) job c.reservations.items rs.items → state_of u ≡ armed_device (state_of c.table) job → IsWhole u → u.memory.out ≡ c.table.memory.out
+pub core_armed : (laws : DeviceLaws) (c : CoreTable) (u : MarkedDevice) (rs : Vec WithRoom Global) (job : Draft) (fs : List FenceState) → IsCore c → IsJob c.device.state.spec job
+    → fs ≡ map fence_state_of c.device.state.journal → HaveUses (has_ended_at fs) (length c.device.state.journal) job c.reservations.items rs.items
+    → u.state ≡ armed_device c.device.state job → u.marks ≡ c.device.marks
     → ((ctx : ℕ) (other : Plan) → planned_by c ctx ≡ Some other → ShareNoBuffer job other.job)
     → (core_state (armed_parts c u rs) ≡ armed_core (core_state c) job) × IsCore (armed_parts c u rs)
-core_armed c u rs job core is_job uses armed whole out apart =
+core_armed laws c u rs job fs core is_job tie uses armed marks apart =
     let state : core_state (armed_parts c u rs) ≡ armed_core (core_state c) job =
     ap (λ d. let s : CoreState = record (core_state c) { device = d; reservations = map (λ r. r.kept) rs.items } in s) armed
-    ∙ ap (λ xs. let s : CoreState = record (core_state c) { device = armed_device (state_of c.table) job; reservations = xs } in s)
-    (reservations_armed c.table.journal.items c.table.fences.list job c.reservations.items rs.items core.whole.fences uses) in (
+    ∙ ap (λ xs. let s : CoreState = record (core_state c) { device = armed_device c.device.state job; reservations = xs } in s)
+    (reservations_armed c.device.state.journal fs job c.reservations.items rs.items tie uses) in (
       state,
       record {
-        steady = subst IsSteadyCore (sym state) (arm_kept (core_state c) job core.steady is_job).steady;
-        whole = whole;
-        inside = all_in_kept c.table u core.inside (ap (λ (d : DeviceState). d.spec) armed) out;
-        plans = λ ctx plan is. plan_stands_on c (armed_parts c u rs) ctx plan job (has_ended_at c.table.fences.list) armed refl uses (apart ctx plan is) (core.plans ctx plan is);
+        steady = subst IsSteadyCore (sym state) (arm_kept laws (core_state c) job core.steady is_job).steady;
+        limits = ap (λ (d : DeviceState). spec_fault d.spec) armed ∙ core.limits;
+        inside = nothing_out_kept c.device u core.inside marks;
+        plans = λ ctx plan is. plan_stands_on c (armed_parts c u rs) ctx plan job (has_ended_at fs) armed refl uses (apart ctx plan is) (core.plans ctx plan is);
         reservation_count = uses.count ∙ (core.reservation_count ∙ ap (λ (d : DeviceState). length d.spec.buffers) (sym armed));
         holder_count = core.holder_count ∙ ap (λ (d : DeviceState). length d.spec.buffers) (sym armed);
         context_count = core.context_count;

@@ -8,23 +8,24 @@ use Rattle.drm_types.specs.Firsts.{when, first_of}
 use Rattle.drm_types.specs.declared.spec.DeviceSpec.{DeviceSpec}
 use Rattle.drm_buffer.specs.Memory.{bytes_of}
 use Rattle.drm_types.proofs.Firsts.{none_first}
-use Rattle.drm_core.specs.declared.event.Answer.{Answer}
-use Rattle.drm_core.specs.declared.event.Answer.TheVariants as answer
+use Rattle.drm_sched.specs.declared.answer.Answer.{Answer}
+use Rattle.drm_sched.specs.declared.answer.Answer.TheVariants as answer
 use Rattle.drm_core.specs.declared.event.Event.{Event}
 use Rattle.drm_core.specs.declared.event.Event.TheVariants as event
-use Rattle.drm_core.specs.declared.event.Refusal.TheVariants.{Busy, CtxIdle, Memory, NotHeld, StillHolds}
+use Rattle.drm_sched.specs.declared.answer.Refusal.TheVariants.{Busy, CtxIdle, Memory, NotHeld, StillHolds}
 use Rattle.drm_core.specs.State.{Context, CoreState, opened}
 use Rattle.drm_core.specs.Context.{context_of, holder_of, holds, least_held, ticket_of, with_holder}
-use Rattle.drm_core.specs.Refusals.{plan_of, idle_refusal, not_held_refusal, read_refusal, early_refusal}
+use Rattle.drm_core.specs.Refusals.{plan_of, idle_refusal, not_held_refusal, early_refusal}
+use Rattle.drm_sched.specs.Refusals.{read_refusal}
 use Rattle.drm_core.specs.Outcomes.{armed_core, context_changed, outcome_of_event}
 use Rattle.drm_core.specs.Run.{Run}
-use Rattle.drm_core.proofs.Readback.{writers_free}
 use Rattle.drm_core.specs.Step.{unless_refused, Step}
 use Rattle.drm_core.specs.Steady.{IsSteadyCore, begun_in, HoldersBegun}
 use Rattle.drm_core.specs.Headline.{MayRead}
-use Rattle.drm_core.proofs.Pairs.{get_set_other}
+use Rattle.drm_core.proofs.Lists.{get_set_other}
 use Rattle.drm_core.proofs.HeadlineSteps.{cases_step, at_cond, at_option}
 use Rattle.drm_core.proofs.HeadlineReads.{holds_in, get_set_here}
+use Rattle.drm_core.specs.Laws.{DeviceLaws}
 
 -- ---- who holds a buffer has begun
 
@@ -150,17 +151,17 @@ opened_holders_begun spec k b held = absurd (nothing_held spec.buffers k b held)
 -- ---- a read that is not refused
 
 -- no fence of a writer is busy where all have ended
-pub read_not_busy : (s : CoreState) (ctx b : ℕ) → IsSteadyCore s → b < length s.device.spec.buffers → MayRead s ctx b
+pub read_not_busy : (laws : DeviceLaws) → (s : CoreState) (ctx b : ℕ) → IsSteadyCore s → b < length s.device.spec.buffers → MayRead s ctx b
     → read_refusal s.device (slice_get s.reservations b) ≡ None
-read_not_busy s ctx b steady here may =
+read_not_busy laws s ctx b steady here may =
     let resv = steady.reservations b here in
-    ap (read_refusal s.device) resv.1 ∙ ap (option_map Busy) (writers_free b s.device.journal resv.0 resv.2 may.writers)
+    ap (read_refusal s.device) resv.1 ∙ ap (option_map Busy) ((laws.reads s.device b resv.0 steady.device resv.2).1 may.writers)
 
 -- what a context that may read is answered
-pub read_given : (s : CoreState) (ctx b : ℕ) (a : Answer) (n : CoreState) → IsSteadyCore s → HoldersBegun s → b < length s.device.spec.buffers → MayRead s ctx b
+pub read_given : (laws : DeviceLaws) → (s : CoreState) (ctx b : ℕ) (a : Answer) (n : CoreState) → IsSteadyCore s → HoldersBegun s → b < length s.device.spec.buffers → MayRead s ctx b
     → Step s (event.Read ctx b) a n → (a ≡ answer.Refused Memory) ⊎ (a ≡ answer.Bytes (bytes_of s.device.memory b))
-read_given s ctx b a n steady begun here may (inr lacks) = inl lacks.answers
-read_given s ctx b a n steady begun here may (inl is) =
+read_given laws s ctx b a n steady begun here may (inr lacks) = inl lacks.answers
+read_given laws s ctx b a n steady begun here may (inl is) =
     inr (ap (λ (p : Answer × CoreState). p.0) is
     ∙ ap (λ o. (unless_refused (first_of (o ∷ None ∷ [])) s (outcome_of_event s (event.Read ctx b))).0) early)
   where
@@ -172,4 +173,4 @@ read_given s ctx b a n steady begun here may (inl is) =
     early =
         ap (λ o. first_of (o ∷ not_held_refusal s ctx b ∷ read_refusal s.device (slice_get s.reservations b) ∷ [])) (not_idle (context_of s ctx) (begun ctx b may.holds))
         ∙ (ap (λ t. first_of (when (not t) (NotHeld b) ∷ read_refusal s.device (slice_get s.reservations b) ∷ [])) may.holds
-        ∙ ap (λ o. first_of (o ∷ [])) (read_not_busy s ctx b steady here may))
+        ∙ ap (λ o. first_of (o ∷ [])) (read_not_busy laws s ctx b steady here may))

@@ -4,32 +4,34 @@ use Rattle.std.specs.Prelude.{nat_lt}
 use Rattle.std.specs.Option.{option_map_or}
 use Rattle.std.proofs.lemmas.Bool.{both_ways}
 use Rattle.drm_types.specs.Firsts.{when, first_of}
-use Rattle.drm_core.specs.declared.event.Answer.{Answer}
-use Rattle.drm_core.specs.declared.event.Answer.TheVariants as answer
+use Rattle.drm_sched.specs.declared.answer.Answer.{Answer}
+use Rattle.drm_sched.specs.declared.answer.Answer.TheVariants as answer
 use Rattle.drm_core.specs.declared.event.Event.TheVariants as event
-use Rattle.drm_core.specs.declared.event.Refusal.{Refusal}
-use Rattle.drm_core.specs.declared.event.Refusal.TheVariants.{Idle, NoCredit}
-use Rattle.drm_core.specs.declared.journal.JobRecord.{JobRecord}
-use Rattle.drm_core.specs.State.{DeviceState, CoreState}
-use Rattle.drm_core.specs.Choice.{choice}
-use Rattle.drm_core.specs.Chosen.{IsLeast, NoneMayBegin}
-use Rattle.drm_core.specs.Outcomes.{picked_device, at_record, with_device}
-use Rattle.drm_core.specs.Ring.{credits_of, free_credits, is_guilty}
-use Rattle.drm_core.specs.Steady.{IsSteady}
+use Rattle.drm_sched.specs.declared.answer.Refusal.{Refusal}
+use Rattle.drm_sched.specs.declared.answer.Refusal.TheVariants.{Idle, NoCredit}
+use Rattle.drm_sched.specs.declared.journal.JobRecord.{JobRecord}
+use Rattle.drm_sched.specs.State.{DeviceState}
+use Rattle.drm_core.specs.State.{CoreState}
+use Rattle.drm_sched.specs.Choice.{choice}
+use Rattle.drm_sched.specs.Chosen.{IsLeast, NoneMayBegin}
+use Rattle.drm_sched.specs.Outcomes.{picked_device, at_record}
+use Rattle.drm_core.specs.Outcomes.{with_device}
+use Rattle.drm_sched.specs.Ring.{credits_of, free_credits, is_guilty}
+use Rattle.drm_sched.specs.Steady.{IsSteady}
 use Rattle.drm_core.specs.Step.{unless_refused, Step}
 use Rattle.drm_core.proofs.HeadlineSteps.{cases_step, at_option, is_refusal}
-use Rattle.drm_core.proofs.Least.{chooses_least}
+use Rattle.drm_core.specs.Laws.{DeviceLaws}
 
 -- what a pick answers, by the job that it takes
 abbrev pick_by : DeviceState → ℕ → ℕ → Option ℕ → Answer × DeviceState
 pick_by d ring now o =
     at_record d (λ number r. (answer.Picked number (is_guilty d r.job.entity), picked_device d ring now number)) (answer.Ok, d) o
 
-pub picks_least : (s : CoreState) (ring now f : ℕ) (skipped : Bool) (n : CoreState) → IsSteady s.device → Step s (event.Pick ring now) (answer.Picked f skipped) n
+pub picks_least : (laws : DeviceLaws) → (s : CoreState) (ring now f : ℕ) (skipped : Bool) (n : CoreState) → IsSteady s.device → Step s (event.Pick ring now) (answer.Picked f skipped) n
     → IsLeast s.device ring f
-picks_least s ring now f skipped n steady step = elim (cases_step s (event.Pick ring now) (answer.Picked f skipped) n step) [
+picks_least laws s ring now f skipped n steady step = elim (cases_step s (event.Pick ring now) (answer.Picked f skipped) n step) [
   | inl refused ↦ absurd (let never = refused.answers in cc (never))
-  | inr had ↦ ((chooses_least s.device ring steady).some f).0 (by_choice (choice s.device ring) refl had.answers)
+  | inr had ↦ ((laws.choice s.device ring steady).some f).0 (by_choice (choice s.device ring) refl had.answers)
 ]
   where
     d : DeviceState
@@ -44,10 +46,10 @@ picks_least s ring now f skipped n steady step = elim (cases_step s (event.Pick 
     by_choice None is told = absurd (cc (told))
     by_choice (Some g) is told = is ∙ ap (λ k. Some k) (by_record g (slice_get d.journal g) told)
 
-pub idles_none : (s : CoreState) (ring now : ℕ) (n : CoreState) → IsSteady s.device → Step s (event.Pick ring now) (answer.Refused Idle) n → NoneMayBegin s.device ring
-idles_none s ring now n steady (inr lacks) = absurd (let never : false ≡ true = lacks.takes in cc (never))
-idles_none s ring now n steady (inl is) =
-    (chooses_least d ring steady).none.0 (by_choice (choice d ring) refl (ap (λ (p : Answer × CoreState). p.0) is))
+pub idles_none : (laws : DeviceLaws) → (s : CoreState) (ring now : ℕ) (n : CoreState) → IsSteady s.device → Step s (event.Pick ring now) (answer.Refused Idle) n → NoneMayBegin s.device ring
+idles_none laws s ring now n steady (inr lacks) = absurd (let never : false ≡ true = lacks.takes in cc (never))
+idles_none laws s ring now n steady (inl is) =
+    (laws.choice d ring steady).none.0 (by_choice (choice d ring) refl (ap (λ (p : Answer × CoreState). p.0) is))
   where
     d : DeviceState
     d = s.device

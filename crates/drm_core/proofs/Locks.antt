@@ -1,46 +1,45 @@
 -- A core whose contexts or holders change.
-use Rattle.std.proofs.Common.{◌≡◌, ◌≢◌, ℕ, zero, suc, ◌+◌, ◌<◌, ◌≤◌, Bool, true, false, not, cond, List, [], ◌∷◌, set, length, Some, None, Option, refl, sym, ap, subst, ◌∙◌, inl, inr, ◌⊎◌, arith, slice_get}
-use Rattle.std.specs.Prelude.{◌&&◌, ◌==◌, ◌^◌, IsTrue, find, position, option_map, option_and_then, is_some, is_none, nat_le, nat_lt}
+use Rattle.std.proofs.Common.{◌≡◌, ◌≢◌, ℕ, zero, suc, ◌+◌, ◌<◌, ◌≤◌, Bool, true, false, not, cond, List, [], ◌∷◌, set, length, map, Some, None, Option, refl, sym, ap, subst, ◌∙◌, inl, inr, ◌⊎◌, arith, slice_get}
+use Rattle.std.specs.Prelude.{◌&&◌, ◌==◌, ◌^◌, IsTrue, find, position, option_map, option_and_then, is_some, is_none, nat_lt}
 use Rattle.std.specs.Option.{option_map_or}
 use Rattle.std.specs.List.{enumerate_from, position_from, list_all}
-use Rattle.std.proofs.lemmas.Bool.{cases_eq, and_parts, leb-true, lt-ltb, ne_eqb}
+use Rattle.std.proofs.lemmas.Bool.{cases_eq, and_parts, ne_eqb}
 use Rattle.std.proofs.lemmas.Iterator.Adapters.{position_from-zero}
 use Rattle.drm_types.specs.Firsts.{when, first_of}
 use Rattle.drm_job.specs.declared.Draft.{Draft}
-use Rattle.drm_job.specs.Fault.{buffers_of}
-use Rattle.drm_core.specs.declared.event.Answer.{Answer}
+use Rattle.drm_job.specs.Fault.{IsJob, buffers_of}
+use Rattle.drm_resv.specs.Reservation.{WithRoom}
+use Rattle.drm_core.specs.Refusals.{plan_of}
+use Rattle.drm_sched.specs.declared.answer.Answer.{Answer}
 use Rattle.drm_core.specs.declared.event.Event.{Event}
 use Rattle.drm_core.specs.declared.event.Event.TheVariants as event
-use Rattle.drm_core.specs.declared.cores.Plan.{Plan}
+use Rattle.drm_sched.specs.declared.plans.Plan.{Plan}
 use Rattle.drm_core.specs.declared.cores.ContextRow.{ContextRow}
 use Rattle.drm_core.specs.declared.cores.CoreTable.{CoreTable}
-use Rattle.drm_core.specs.declared.table.Table.{Table}
+use Rattle.drm_types.specs.Limits.{spec_fault}
+use Rattle.drm_sched.specs.Marks.{MarkedDevice}
 use Rattle.drm_core.specs.State.{CoreState}
 use Rattle.drm_core.specs.Context.{holds, holds_all}
 use Rattle.drm_core.specs.Refusals.{early_refusal, late_refusal}
 use Rattle.drm_core.specs.Outcomes.{outcome_of_event}
-use Rattle.drm_core.specs.Names.{names_exist}
 use Rattle.drm_core.specs.Step.{unless_refused, reply}
 use Rattle.drm_core.specs.Steady.{IsSteadyCore}
-use Rattle.drm_core.specs.Tables.{state_of, IsWhole, AllIn}
-use Rattle.drm_core.specs.Cores.{core_state, DepsCover, planned_by, IsCore}
-use Rattle.drm_core.proofs.CoreSteps.{reply_kept}
-use Rattle.drm_core.proofs.Pairs.{get_set_other}
+use Rattle.drm_core.specs.Cores.{core_state, planned_by, IsCore, NothingOut}
+use Rattle.drm_sched.specs.Plans.{DepsCover}
+use Rattle.drm_core.proofs.CoreSteps.{contexts_kept}
+use Rattle.drm_core.proofs.Lists.{get_set_other}
 use Rattle.std.proofs.lemmas.Bool.{eqb-true}
 use Rattle.std.proofs.Common.{get_or}
-use Rattle.drm_core.proofs.Records.{to_map, at_index}
+use Rattle.drm_core.proofs.Lists.{to_map, at_index}
 use Rattle.std.proofs.lemmas.List.{map-set, length-set}
-use Rattle.drm_core.specs.declared.event.Answer.TheVariants as answer
-use Rattle.drm_core.specs.declared.event.Refusal.TheVariants as refusal
+use Rattle.drm_sched.specs.declared.answer.Answer.TheVariants as answer
+use Rattle.drm_sched.specs.declared.answer.Refusal.TheVariants as refusal
 use Rattle.drm_core.specs.State.{Context}
 use Rattle.drm_core.specs.Claims.{claimed_of, with_seal, without_plan}
 use Rattle.drm_core.specs.Cores.{context_of_row}
 use Rattle.drm_core.specs.Context.{context_of, holder_of, ticket_of, with_holder, least_held}
 use Rattle.drm_core.specs.Outcomes.{context_changed}
 use Rattle.std.specs.Vec.{with_item}
-use Rattle.drm_types.specs.Limits.{spec_fault, is_between, whole}
-use Rattle.drm_types.specs.declared.spec.DeviceSpec.{DeviceSpec}
-use Rattle.drm_types.proofs.Firsts.{none_first, none_when}
 
 -- the number of the first that is found is its place
 find_numbered : {X : Type 0} (p : X → Bool) (n : ℕ) (xs : List X) → option_map (λ (e : ℕ × X). e.0) (find (λ (e : ℕ × X). p e.1) (enumerate_from n xs)) ≡ position_from p n xs
@@ -90,25 +89,47 @@ plan_cases (x ∷ xs) (suc ctx) (suc k) row plan is =
       | inr there ↦ inr ((λ e. there.0 (omega (arith, e))), there.1)
     ]
 
+-- the job that a context has planned is that of its row
+pub planned_job : (c : CoreTable) (k : ℕ) → plan_of (core_state c) k ≡ option_map (λ (p : Plan). p.job) (planned_by c k)
+planned_job c k = in_rows c.contexts.items k
+  where
+    in_rows : (cs : List (Option ContextRow)) (k : ℕ)
+        → option_map_or (λ (x : Context). x.plan) (option_and_then (λ (o : Option Context). o) (slice_get (map (option_map context_of_row) cs) k)) None
+        ≡ option_map (λ (p : Plan). p.job) (plan_in cs k)
+    in_rows [] k = refl
+    in_rows (None ∷ cs) zero = refl
+    in_rows (Some row ∷ cs) zero = refl
+    in_rows (row ∷ cs) (suc k) = in_rows cs k
+
+-- the state stays steady where the device and the reservations are the same and each plan is a job
+pub steady_still : (c n : CoreTable) → IsCore c → n.device ≡ c.device → n.reservations ≡ c.reservations
+    → ((k : ℕ) (plan : Plan) → planned_by n k ≡ Some plan → IsJob c.device.state.spec plan.job) → IsSteadyCore (core_state n)
+steady_still c n core device resvs jobs =
+    (contexts_kept (core_state c) (core_state n) core.steady (ap (λ (d : MarkedDevice). d.state) device) (ap (λ rs. map (λ (r : WithRoom). r.kept) rs.items) resvs)
+    (λ k job at. of_plan k job (planned_by n k) refl (sym (planned_job n k) ∙ at))).steady
+  where
+    of_plan : (k : ℕ) (job : Draft) (o : Option Plan) → planned_by n k ≡ o → option_map (λ (p : Plan). p.job) o ≡ Some job → IsJob c.device.state.spec job
+    of_plan k job None at none = absurd (let never : None ≡ Some job = none in cc (never))
+    of_plan k job (Some p) at some = let same : p.job ≡ job = cc (some) in subst (IsJob c.device.state.spec) same (jobs k p at)
+
 -- a core with the same device and the same reservations
-pub core_kept : (c n : CoreTable) (e : Event) (a : Answer) → IsCore c → n.table ≡ c.table → n.reservations ≡ c.reservations
-    → names_exist c.table.spec e ≡ true → reply (core_state c) e ≡ (a, core_state n)
+pub core_kept : (c n : CoreTable) → IsCore c → n.device ≡ c.device → n.reservations ≡ c.reservations
     → ((k : ℕ) (plan : Plan) → planned_by n k ≡ Some plan → (planned_by c k ≡ Some plan) × IsTrue (holds_all (core_state n) k plan.job))
     → length n.holders.items ≡ length c.holders.items → length n.contexts.items ≡ length c.contexts.items → n.next_ticket ≤ 2 ^ 63 → IsCore n
-core_kept c n e a core table resvs names is plans holders contexts tickets = record {
-  steady = subst IsSteadyCore (ap (λ (p : Answer × CoreState). p.1) is) (reply_kept (core_state c) e core.steady names).steady;
-  whole = subst IsWhole (sym table) core.whole;
-  inside = subst AllIn (sym table) core.inside;
+core_kept c n core device resvs plans holders contexts tickets = record {
+  steady = steady_still c n core device resvs (λ k plan at. core.steady.plans k plan.job (planned_job c k ∙ ap (option_map (λ (p : Plan). p.job)) (plans k plan at).0));
+  limits = subst (λ (d : MarkedDevice). spec_fault d.state.spec ≡ None) (sym device) core.limits;
+  inside = subst NothingOut (sym device) core.inside;
   plans = λ k plan at.
       let kept = plans k plan at in
       let old = core.plans k plan kept.0 in
       record {
-        covers = subst (λ t. DepsCover (state_of t) plan.job plan.deps) (sym table) old.covers;
+        covers = subst (λ (d : MarkedDevice). DepsCover d.state plan.job plan.deps) (sym device) old.covers;
         holds = kept.1;
         room = λ b r at_b uses. old.room b r (subst (λ rs. slice_get rs.items b ≡ Some r) resvs at_b) uses;
       };
-  reservation_count = ap (λ rs. length rs.items) resvs ∙ (core.reservation_count ∙ ap (λ (t : Table). length t.spec.buffers) (sym table));
-  holder_count = holders ∙ (core.holder_count ∙ ap (λ (t : Table). length t.spec.buffers) (sym table));
+  reservation_count = ap (λ rs. length rs.items) resvs ∙ (core.reservation_count ∙ ap (λ (d : MarkedDevice). length d.state.spec.buffers) (sym device));
+  holder_count = holders ∙ (core.holder_count ∙ ap (λ (d : MarkedDevice). length d.state.spec.buffers) (sym device));
   context_count = contexts ∙ core.context_count;
   tickets = tickets;
 }
@@ -132,13 +153,6 @@ holds_still s buffer h k job not_held all =
           | inl same ↦ absurd (let never : false ≡ true = sym not_held ∙ (ap (holds s k) (sym same) ∙ held) in cc (never))
           | inr apart ↦ ap (λ o. option_map_or (λ h. h == k) (option_and_then (λ (o : Option ℕ). o) o) false) (get_set_other s.holders buffer b h apart) ∙ held
         ]
-
--- a device has few buffers
-pub few_buffers : (spec : DeviceSpec) → spec_fault spec ≡ None → length spec.buffers ≤ 64
-few_buffers spec none =
-    leb-true (length spec.buffers) 64
-    (and_parts (nat_le 1 (length spec.buffers)) (nat_le (length spec.buffers) 64)
-    (none_when (is_between 1 64 (length spec.buffers)) (record { part = 0; index = 0 }) (none_first (whole 0 (is_between 1 64 (length spec.buffers))) _ none).0)).1
 
 -- the context of a row
 pub row_context : (c : CoreTable) (ctx : ℕ) (row : Option ContextRow) → slice_get c.contexts.items ctx ≡ Some row
@@ -186,7 +200,7 @@ begin_done c ctx core there idle more n n_is =
 
     kept : IsCore new
     kept =
-        core_kept c new (event.Begin ctx) (answer.Ticket c.next_ticket) core refl refl (lt-ltb ctx 64 there) replies
+        core_kept c new core refl refl
         (λ k plan at.
         elim (plan_cases c.contexts.items ctx k row plan at) [
           | inl here ↦ absurd (let never : None ≡ Some plan = here.1 in cc (never))
@@ -226,17 +240,11 @@ claim_told s ctx buffer h p is unsealed held apart =
     told false t = refl
 
 -- a claim of what nobody holds
-pub claim_kept : (c : CoreTable) (ctx buffer : ℕ) (p : ℕ × Bool) → IsCore c → ctx < 64 → buffer < length c.table.spec.buffers
+pub claim_kept : (c : CoreTable) (ctx buffer : ℕ) (p : ℕ × Bool) → IsCore c → ctx < 64 → buffer < length c.device.state.spec.buffers
     → option_map (λ (x : Context). (x.ticket, x.is_sealed)) (context_of (core_state c) ctx) ≡ Some p → p.1 ≡ false → holder_of (core_state c) buffer ≡ None
     → IsCore (record c { holders = with_item c.holders buffer (Some ctx) })
 claim_kept c ctx buffer p core there here is unsealed free =
-    core_kept c (record c { holders = with_item c.holders buffer (Some ctx) }) (event.Try ctx buffer) answer.Held core refl refl
-    (ap (λ b. b && nat_lt buffer (length c.table.spec.buffers)) (lt-ltb ctx 64 there) ∙ lt-ltb buffer (length c.table.spec.buffers) here)
-    (reply_is (core_state c) (event.Try ctx buffer) (may_claim (core_state c) ctx buffer p is unsealed (ap (λ o. option_map_or (λ h. h == ctx) o false) free)) refl
-    ∙ ap (λ o. option_map_or {U = Answer × CoreState}
-    (λ h. cond {A = Answer × CoreState} (nat_lt (ticket_of (core_state c) h) (ticket_of (core_state c) ctx)) (answer.Older (ticket_of (core_state c) h), core_state c) (answer.Younger (ticket_of (core_state c) h), core_state c))
-    o
-    (answer.Held, with_holder (core_state c) buffer (Some ctx))) free)
+    core_kept c (record c { holders = with_item c.holders buffer (Some ctx) }) core refl refl
     (λ k plan at. (at, holds_still (core_state c) buffer (Some ctx) k plan.job (ap (λ o. option_map_or (λ h. h == k) o false) free) (core.plans k plan at).holds))
     (length-set c.holders.items buffer (Some ctx)) refl core.tickets
 
@@ -252,7 +260,7 @@ pub seal_done : (c : CoreTable) (ctx : ℕ) (p : ℕ × Bool) (row new : Option 
 seal_done c ctx p row new core there is unsealed row_is new_is =
     subst (λ r. (reply (core_state c) (event.Done ctx) ≡ (answer.Ok, core_state (record c { contexts = with_item c.contexts ctx r }))) × IsCore (record c { contexts = with_item c.contexts ctx r })) (sym new_is) (
       replies,
-      core_kept c (record c { contexts = with_item c.contexts ctx (option_map with_seal row) }) (event.Done ctx) answer.Ok core refl refl (lt-ltb ctx 64 there) replies
+      core_kept c (record c { contexts = with_item c.contexts ctx (option_map with_seal row) }) core refl refl
           (λ k plan at.
           elim (plan_cases c.contexts.items ctx k (option_map with_seal row) plan at) [
             | inl here ↦
@@ -284,7 +292,7 @@ other_holder None ctx k apart held = refl
 other_holder (Some h) ctx k apart held = let same = eqb-true h ctx held in ne_eqb h k (λ e. apart (sym e ∙ same))
 
 -- a reservation is let go
-pub drop_done : (c : CoreTable) (ctx buffer place : ℕ) (row new : Option ContextRow) → IsCore c → ctx < 64 → buffer < length c.table.spec.buffers
+pub drop_done : (c : CoreTable) (ctx buffer place : ℕ) (row new : Option ContextRow) → IsCore c → ctx < 64 → buffer < length c.device.state.spec.buffers
     → is_none (context_of (core_state c) ctx) ≡ false → holds (core_state c) ctx buffer ≡ true → place ≡ buffer
     → row ≡ get_or c.contexts.items ctx row → new ≡ option_map without_plan row
     → (reply (core_state c) (event.Drop ctx buffer) ≡ (answer.Ok, core_state (record c { holders = with_item c.holders place None; contexts = with_item c.contexts ctx new })))
@@ -295,8 +303,7 @@ drop_done c ctx buffer place row new core there here begun held place_is row_is 
     (subst (λ r. (reply (core_state c) (event.Drop ctx buffer) ≡ (answer.Ok, core_state (record c { holders = with_item c.holders buffer None; contexts = with_item c.contexts ctx r })))
     × IsCore (record c { holders = with_item c.holders buffer None; contexts = with_item c.contexts ctx r })) (sym new_is) (
       replies,
-      core_kept c left (event.Drop ctx buffer) answer.Ok core refl refl
-          (ap (λ b. b && nat_lt buffer (length c.table.spec.buffers)) (lt-ltb ctx 64 there) ∙ lt-ltb buffer (length c.table.spec.buffers) here) replies
+      core_kept c left core refl refl
           (λ k plan at.
           elim (plan_cases c.contexts.items ctx k (option_map without_plan row) plan at) [
             | inl same ↦ absurd (let never : None ≡ Some plan = sym (no_plan row) ∙ same.1 in cc (never))
@@ -324,7 +331,7 @@ pub end_done : (c : CoreTable) (ctx : ℕ) → IsCore c → ctx < 64 → is_none
     → (reply (core_state c) (event.End ctx) ≡ (answer.Ok, core_state (record c { contexts = with_item c.contexts ctx None }))) × IsCore (record c { contexts = with_item c.contexts ctx None })
 end_done c ctx core there begun free = (
   replies,
-  core_kept c (record c { contexts = with_item c.contexts ctx None }) (event.End ctx) answer.Ok core refl refl (lt-ltb ctx 64 there) replies
+  core_kept c (record c { contexts = with_item c.contexts ctx None }) core refl refl
       (λ k plan at.
       elim (plan_cases c.contexts.items ctx k None plan at) [
         | inl here ↦ absurd (let never : None ≡ Some plan = here.1 in cc (never))

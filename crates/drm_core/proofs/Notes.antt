@@ -1,21 +1,21 @@
 -- Noting fences: what was noted stays, or a later fence of its entity stands in its place.
-use Rattle.std.proofs.Common.{◌≡◌, ℕ, zero, suc, ◌≤◌, true, false, ◌==◌, cond, max, List, [], ◌∷◌, Some, refl, sym, ap, subst, inl, inr, ◌⊎◌, arith, slice_get}
-use Rattle.std.specs.Prelude.{Contains, All, fold, nat_le}
+use Rattle.std.proofs.Common.{ℕ, ◌≤◌, List, suc, ◌∷◌, refl, ◌≡◌, zero, Some, sym, inl, inr, ◌⊎◌, slice_get, [], true, false, ◌==◌, cond, max, subst, arith, ap}
+use Rattle.std.specs.Prelude.{Contains, All, nat_le, fold}
 use Rattle.std.proofs.lemmas.Bool.{eqb-true, cases_Bool, leb-true, leb-false}
-use Rattle.std.proofs.lemmas.List.Elements.{All-cons, All-head, All-tail}
 use Rattle.drm_resv.specs.Latest.{noted}
-use Rattle.drm_core.proofs.Pending.{contains_at, place_of}
+use Rattle.std.proofs.lemmas.List.Elements.{All-cons, All-head, All-tail}
+use Rattle.drm_core.proofs.Lists.{contains_at, place_of}
 
 -- a fence of the entity, no earlier
 abbrev pub Reaches : List (ℕ × ℕ) → ℕ → ℕ → Type 0
 Reaches deps entity fence = (g : ℕ) × Contains deps (entity, g) × (fence ≤ g)
 
+behind : {X : Type 0} (y : X) (xs : List X) (x : X) → Contains xs x → Contains (y ∷ xs) x
+behind y xs x c = let p = place_of xs x c in contains_at (y ∷ xs) (suc p.0) x p.1
+
 -- what stands first, and what stands behind
 first_in : {X : Type 0} (x : X) (xs : List X) → Contains (x ∷ xs) x
 first_in x xs = contains_at (x ∷ xs) 0 x refl
-
-behind : {X : Type 0} (y : X) (xs : List X) (x : X) → Contains xs x → Contains (y ∷ xs) x
-behind y xs x c = let p = place_of xs x c in contains_at (y ∷ xs) (suc p.0) x p.1
 
 in_list : {X : Type 0} (y : X) (xs : List X) (x : X) → Contains (y ∷ xs) x → (x ≡ y) ⊎ Contains xs x
 in_list {X} y xs x c = let p = place_of (y ∷ xs) x c in by_place p.0 p.1

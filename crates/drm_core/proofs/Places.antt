@@ -8,29 +8,32 @@ use Rattle.drm_types.specs.Firsts.{when}
 use Rattle.drm_types.specs.declared.spec.DeviceSpec.{DeviceSpec}
 use Rattle.drm_job.specs.declared.Draft.{Draft}
 use Rattle.drm_types.proofs.Firsts.{none_first}
-use Rattle.drm_core.specs.declared.event.Answer.{Answer}
+use Rattle.drm_sched.specs.declared.answer.Answer.{Answer}
 use Rattle.drm_core.specs.declared.event.Event.{Event}
 use Rattle.drm_core.specs.declared.event.Event.TheVariants as event
-use Rattle.drm_core.specs.declared.event.Refusal.TheVariants.{Full, NoFence, NotPlanned, Stopped}
-use Rattle.drm_core.specs.declared.journal.JobRecord.{JobRecord}
-use Rattle.drm_core.specs.State.{DeviceState, CoreState, opened}
-use Rattle.drm_core.specs.Arming.{new_record}
-use Rattle.drm_core.specs.Grows.{Grows}
+use Rattle.drm_sched.specs.declared.answer.Refusal.TheVariants.{Full, NoFence, NotPlanned, Stopped}
+use Rattle.drm_sched.specs.declared.journal.JobRecord.{JobRecord}
+use Rattle.drm_sched.specs.State.{DeviceState}
+use Rattle.drm_core.specs.State.{CoreState, opened}
+use Rattle.drm_sched.specs.Arming.{new_record}
+use Rattle.drm_sched.specs.Grows.{Grows}
 use Rattle.drm_core.specs.Names.{names_exist}
-use Rattle.drm_core.specs.Order.{HasPlace}
-use Rattle.drm_core.specs.Refusals.{plan_of, arm_refusal, idle_refusal, early_refusal, late_refusal}
-use Rattle.drm_core.specs.Ring.{is_stopped}
+use Rattle.drm_sched.specs.Order.{HasPlace}
+use Rattle.drm_core.specs.Refusals.{plan_of, idle_refusal, early_refusal, late_refusal}
+use Rattle.drm_sched.specs.Refusals.{arm_refusal}
+use Rattle.drm_sched.specs.Ring.{is_stopped}
 use Rattle.drm_core.specs.Run.{Run, AllNamesExist}
 use Rattle.drm_core.specs.Steady.{IsSteadyCore, JobsHavePlace}
 use Rattle.drm_core.specs.Step.{Step}
-use Rattle.drm_core.proofs.ArmDone.{each_fails}
+use Rattle.drm_core.proofs.Lists.{each_fails}
 use Rattle.drm_core.proofs.CoreSteps.{step_is_kept}
-use Rattle.drm_core.proofs.DeviceSteps.{not_when}
+use Rattle.drm_core.proofs.Lists.{not_when}
 use Rattle.drm_core.proofs.HeadlineReads.{Arms, CountsOn, counts_on}
-use Rattle.drm_core.proofs.Records.{stands_within}
+use Rattle.drm_core.proofs.Lists.{stands_within}
 use Rattle.drm_core.proofs.HeadlineSteps.{HadOutcome, cases_step}
-use Rattle.drm_core.proofs.Pending.{place_of}
-use Rattle.drm_core.proofs.PickLawful.{get_push_cases}
+use Rattle.drm_core.proofs.Lists.{place_of}
+use Rattle.drm_core.proofs.Lists.{get_push_cases}
+use Rattle.drm_core.specs.Laws.{DeviceLaws}
 
 -- where an arming is not refused, the next number is the job's place
 arm_place : (d : DeviceState) (job : Draft) → arm_refusal d job ≡ None → HasPlace d.spec (length d.journal) job
@@ -91,15 +94,15 @@ places_kept s e a n places grows step f r at = elim (cases_step s e a n step) [
         let job : r.job ≡ old.0.job = ap (λ (x : JobRecord). x.job) (sym same) ∙ new.2.job in
         subst (λ spec. HasPlace spec f r.job) (sym grows.spec) (subst (λ j. HasPlace s.device.spec f j) (sym job) (places f old.0 old.1))
 
-pub run_places_kept : (s : CoreState) (spec : DeviceSpec) (events : List Event) (answers : List Answer) (n : CoreState) → IsSteadyCore s → s.device.spec ≡ spec
+pub run_places_kept : (laws : DeviceLaws) → (s : CoreState) (spec : DeviceSpec) (events : List Event) (answers : List Answer) (n : CoreState) → IsSteadyCore s → s.device.spec ≡ spec
     → AllNamesExist spec events → JobsHavePlace s.device → Run s events answers n → JobsHavePlace n.device
-run_places_kept s spec [] [] n steady same names places run = subst (λ (m : CoreState). JobsHavePlace m.device) (sym run) places
-run_places_kept s spec [] (a ∷ rest) n steady same names places run = absurd run
-run_places_kept s spec (e ∷ es) [] n steady same names places run = absurd run
-run_places_kept s spec (e ∷ es) (a ∷ rest) n steady same names places run =
+run_places_kept laws s spec [] [] n steady same names places run = subst (λ (m : CoreState). JobsHavePlace m.device) (sym run) places
+run_places_kept laws s spec [] (a ∷ rest) n steady same names places run = absurd run
+run_places_kept laws s spec (e ∷ es) [] n steady same names places run = absurd run
+run_places_kept laws s spec (e ∷ es) (a ∷ rest) n steady same names places run =
     let here = subst (λ p. IsTrue (names_exist p e)) (sym same) names.0 in
-    let kept = step_is_kept s e a run.0 steady here run.1 in
-    run_places_kept run.0 spec es rest n kept.steady (kept.grows.spec ∙ same) names.1 (places_kept s e a run.0 places kept.grows run.1) run.2
+    let kept = step_is_kept laws s e a run.0 steady here run.1 in
+    run_places_kept laws run.0 spec es rest n kept.steady (kept.grows.spec ∙ same) names.1 (places_kept s e a run.0 places kept.grows run.1) run.2
 
 pub no_places : (spec : DeviceSpec) → JobsHavePlace (opened spec).device
 no_places spec f r at = absurd (cc (at))

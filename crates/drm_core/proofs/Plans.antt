@@ -1,37 +1,36 @@
 -- A context that plans a job, and a plan that is armed.
-use Rattle.std.proofs.Common.{◌≡◌, ◌≢◌, ℕ, zero, suc, ◌<◌, Bool, true, false, not, List, [], ◌∷◌, length, map, Some, None, Option, Result, Ok, Err, refl, sym, ap, subst, ◌∙◌, inl, inr, slice_get, get_or}
-use Rattle.std.specs.Prelude.{◌==◌, option_map, option_and_then, is_none, is_err, OnOk}
+use Rattle.std.proofs.Common.{◌≡◌, ◌≢◌, ℕ, ◌<◌, Bool, true, false, not, List, [], ◌∷◌, length, map, Some, None, Option, Result, Ok, Err, refl, sym, ap, subst, ◌∙◌, inl, inr, slice_get, get_or}
+use Rattle.std.specs.Prelude.{◌==◌, option_map, is_none, is_err, OnOk}
 use Rattle.std.specs.List.{list_all}
 use Rattle.std.specs.Option.{option_map_or}
 use Rattle.std.specs.Vec.{with_item}
-use Rattle.std.proofs.lemmas.Bool.{both_ways, lt-ltb, eqb-true, ne_eqb}
+use Rattle.std.proofs.lemmas.Bool.{both_ways, eqb-true, ne_eqb}
 use Rattle.std.proofs.lemmas.List.{length-set}
 use Rattle.drm_types.specs.Firsts.{when, first_of}
 use Rattle.drm_types.specs.declared.access.Access.{Access}
 use Rattle.drm_job.specs.declared.Draft.{Draft}
 use Rattle.drm_job.specs.Fault.{job_fault, IsJob, buffers_of}
 use Rattle.drm_types.proofs.Firsts.{first_of_one}
-use Rattle.drm_core.specs.declared.event.Answer.{Answer}
-use Rattle.drm_core.specs.declared.event.Answer.TheVariants as answer
+use Rattle.drm_sched.specs.declared.answer.Answer.{Answer}
+use Rattle.drm_sched.specs.declared.answer.Answer.TheVariants as answer
 use Rattle.drm_core.specs.declared.event.Event.TheVariants as event
-use Rattle.drm_core.specs.declared.event.Refusal.TheVariants as refusal
-use Rattle.drm_core.specs.declared.cores.Plan.{Plan}
+use Rattle.drm_sched.specs.declared.answer.Refusal.TheVariants as refusal
+use Rattle.drm_sched.specs.declared.plans.Plan.{Plan}
 use Rattle.drm_core.specs.declared.cores.ContextRow.{ContextRow}
 use Rattle.drm_core.specs.declared.cores.CoreTable.{CoreTable}
 use Rattle.drm_core.specs.State.{Context, CoreState}
 use Rattle.drm_core.specs.Context.{context_of, holder_of, holds, holds_all, with_context}
 use Rattle.drm_core.specs.Claims.{without_plan}
-use Rattle.drm_core.specs.Refusals.{arm_refusal, early_refusal, plan_of}
+use Rattle.drm_sched.specs.Refusals.{arm_refusal}
+use Rattle.drm_core.specs.Refusals.{early_refusal, plan_of}
 use Rattle.drm_core.specs.Outcomes.{armed_core, context_changed}
 use Rattle.drm_core.specs.Step.{Step, reply}
-use Rattle.drm_core.specs.Steady.{IsSteadyCore}
-use Rattle.drm_core.specs.Tables.{state_of}
-use Rattle.drm_core.specs.Cores.{core_state, context_of_row, DepsCover, planned_by, PlanStands, IsCore}
+use Rattle.drm_core.specs.Cores.{core_state, planned_by, PlanStands, IsCore}
+use Rattle.drm_sched.specs.Plans.{DepsCover}
 use Rattle.drm_core.specs.Planning.{holds_in, AreRoomy, ShareNoBuffer}
-use Rattle.drm_core.proofs.CoreSteps.{reply_kept}
-use Rattle.drm_core.proofs.LatestStands.{all_at}
-use Rattle.drm_core.proofs.Locks.{plan_of_row, plan_in, plan_cases, reply_is, row_changed}
-use Rattle.drm_core.proofs.Records.{to_map, at_index}
+use Rattle.drm_core.proofs.Lists.{all_at}
+use Rattle.drm_core.proofs.Locks.{plan_of_row, plan_cases, reply_is, row_changed, planned_job, steady_still}
+use Rattle.drm_core.proofs.Lists.{to_map, at_index}
 
 -- the row of a context that an index found
 row_there : (c : CoreTable) (ctx : ℕ) (row : Option ContextRow) → IsCore c → ctx < 64 → row ≡ get_or c.contexts.items ctx row → slice_get c.contexts.items ctx ≡ Some row
@@ -72,15 +71,19 @@ with_plan plan row = record row { is_sealed = true; plan = Some plan }
 -- a plan stands, and those of the other contexts go on to stand
 pub plan_done : (s : CoreState) (c : CoreTable) (ctx : ℕ) (draft : Draft) (plan : Plan) (row new : Option ContextRow) → IsCore c → core_state c ≡ s → ctx < 64
     → plan.job ≡ draft → is_none (context_of s ctx) ≡ false → job_fault s.device.spec draft ≡ None → holds_all s ctx draft ≡ true
-    → DepsCover (state_of c.table) plan.job plan.deps → AreRoomy plan.job c.reservations.items
+    → DepsCover c.device.state plan.job plan.deps → AreRoomy plan.job c.reservations.items
     → row ≡ get_or c.contexts.items ctx row → new ≡ option_map (with_plan plan) row
     → Step s (event.Plan ctx draft) answer.Planned (core_state (record c { contexts = with_item c.contexts ctx new })) × IsCore (record c { contexts = with_item c.contexts ctx new })
 plan_done s c ctx draft plan row new core same there job begun none held covers roomy row_is new_is =
     subst (λ r. Step s (event.Plan ctx draft) answer.Planned (core_state (record c { contexts = with_item c.contexts ctx r })) × IsCore (record c { contexts = with_item c.contexts ctx r })) (sym new_is) (
       subst (λ z. Step z (event.Plan ctx draft) answer.Planned (core_state planned)) same (inl (sym replies)),
       record {
-        steady = subst IsSteadyCore (ap (λ (p : Answer × CoreState). p.1) replies) (reply_kept (core_state c) (event.Plan ctx draft) core.steady (lt-ltb ctx 64 there)).steady;
-        whole = core.whole;
+        steady = steady_still c planned core refl refl (λ k other at.
+            elim (plan_cases c.contexts.items ctx k (option_map (with_plan plan) row) other at) [
+              | inl here ↦ subst (λ (p : Plan). IsJob c.device.state.spec p.job) (the_plan row other here.1) is_job
+              | inr past ↦ core.steady.plans k other.job (planned_job c k ∙ ap (option_map (λ (p : Plan). p.job)) past.1)
+            ]);
+        limits = core.limits;
         inside = core.inside;
         plans = λ k other at.
             elim (plan_cases c.contexts.items ctx k (option_map (with_plan plan) row) other at) [
@@ -98,6 +101,9 @@ plan_done s c ctx draft plan row new core same there job begun none held covers 
   where
     planned : CoreTable
     planned = record c { contexts = with_item c.contexts ctx (option_map (with_plan plan) row) }
+
+    is_job : IsJob c.device.state.spec plan.job
+    is_job = subst (λ (z : CoreState). IsJob z.device.spec plan.job) (sym same) (subst (IsJob s.device.spec) (sym job) none)
 
     begun_here : is_none (context_of (core_state c) ctx) ≡ false
     begun_here = subst (λ z. is_none (context_of z ctx) ≡ false) (sym same) begun
@@ -125,18 +131,6 @@ plan_done s c ctx draft plan row new core same there job begun none held covers 
 
 -- ---- a plan is armed
 
--- the job that a context has planned is that of its row
-pub planned_job : (c : CoreTable) (k : ℕ) → plan_of (core_state c) k ≡ option_map (λ (p : Plan). p.job) (planned_by c k)
-planned_job c k = in_rows c.contexts.items k
-  where
-    in_rows : (cs : List (Option ContextRow)) (k : ℕ)
-        → option_map_or (λ (x : Context). x.plan) (option_and_then (λ (o : Option Context). o) (slice_get (map (option_map context_of_row) cs) k)) None
-        ≡ option_map (λ (p : Plan). p.job) (plan_in cs k)
-    in_rows [] k = refl
-    in_rows (None ∷ cs) zero = refl
-    in_rows (Some row ∷ cs) zero = refl
-    in_rows (row ∷ cs) (suc k) = in_rows cs k
-
 -- the plan of a row that an index found
 pub planned_there : (c : CoreTable) (ctx : ℕ) (row : Option ContextRow) (plan : Option Plan) → IsCore c → ctx < 64 → row ≡ get_or c.contexts.items ctx row → plan_of_row row ≡ plan → planned_by c ctx ≡ plan
 planned_there c ctx row plan core there row_is is = ap (λ o. option_map_or plan_of_row o None) (row_there c ctx row core there row_is) ∙ is
@@ -161,7 +155,7 @@ pub arm_unplanned : (c : CoreTable) (ctx : ℕ) (row : Option ContextRow) → Is
     → early_refusal (core_state c) (event.Arm ctx) ≡ None → ⊥
 arm_unplanned c ctx row core there row_is none early =
     refused (is_none (context_of (core_state c) ctx))
-    (sym (ap (λ o. first_of (when (is_none (context_of (core_state c) ctx)) refusal.CtxIdle ∷ when (is_none o) refusal.NotPlanned ∷ option_map_or (arm_refusal (state_of c.table)) o None ∷ []))
+    (sym (ap (λ o. first_of (when (is_none (context_of (core_state c) ctx)) refusal.CtxIdle ∷ when (is_none o) refusal.NotPlanned ∷ option_map_or (arm_refusal c.device.state) o None ∷ []))
     (planned_job c ctx ∙ ap (option_map (λ (p : Plan). p.job)) (planned_there c ctx row None core there row_is none))) ∙ early)
   where
     refused : (b : Bool) → first_of (when b refusal.CtxIdle ∷ Some refusal.NotPlanned ∷ None ∷ []) ≡ None → ⊥
@@ -170,13 +164,13 @@ arm_unplanned c ctx row core there row_is none early =
 
 -- what holds of a plan that is armed, and of the core from which it was taken
 pub record MayArm (c n : CoreTable) (ctx : ℕ) (plan : Plan) : Type 0 where
-  pub job : IsJob c.table.spec plan.job
-  pub covers : DepsCover (state_of c.table) plan.job plan.deps
-  pub may : arm_refusal (state_of c.table) plan.job ≡ None
+  pub job : IsJob c.device.state.spec plan.job
+  pub covers : DepsCover c.device.state plan.job plan.deps
+  pub may : arm_refusal c.device.state plan.job ≡ None
   pub roomy : AreRoomy plan.job c.reservations.items
   pub apart : (k : ℕ) (other : Plan) → planned_by n k ≡ Some other → ShareNoBuffer plan.job other.job
   pub core : IsCore n
-  pub replies : reply (core_state c) (event.Arm ctx) ≡ (answer.Armed (length c.table.journal.items), armed_core (core_state n) plan.job)
+  pub replies : reply (core_state c) (event.Arm ctx) ≡ (answer.Armed (length c.device.state.journal), armed_core (core_state n) plan.job)
 
 -- plans of two contexts share no buffer: each holds all of its own
 pub plans_apart : (c : CoreTable) (ctx k : ℕ) (plan other : Plan) → IsCore c → planned_by c ctx ≡ Some plan → planned_by c k ≡ Some other → k ≢ ctx → ShareNoBuffer plan.job other.job
@@ -203,7 +197,7 @@ plan_taken c ctx plan row new core there early row_is is new_is =
           plans = λ k job at. steady_plan k job at;
           reservations = core.steady.reservations;
         };
-        whole = core.whole;
+        limits = core.limits;
         inside = core.inside;
         plans = λ k other at.
             let old = core.plans k other (still k other at).1 in
@@ -215,8 +209,8 @@ plan_taken c ctx plan row new core there early row_is is new_is =
       };
       replies = reply_is (core_state c) (event.Arm ctx) early refl
           ∙ (ap (λ o. option_map_or {U = Answer × CoreState}
-          (λ job. (answer.Armed (length c.table.journal.items), context_changed (armed_core (core_state c) job) ctx (λ x. record x { plan = None }))) o (answer.Ok, core_state c)) job_is
-          ∙ ap (λ z. (answer.Armed (length c.table.journal.items), z)) (either_order (core_state c) (context_of (core_state c) ctx)
+          (λ job. (answer.Armed (length c.device.state.journal), context_changed (armed_core (core_state c) job) ctx (λ x. record x { plan = None }))) o (answer.Ok, core_state c)) job_is
+          ∙ ap (λ z. (answer.Armed (length c.device.state.journal), z)) (either_order (core_state c) (context_of (core_state c) ctx)
           ∙ ap (λ z. armed_core z plan.job) (row_changed c ctx row without_plan (λ x. record x { plan = None }) (row_there c ctx row core there row_is) (λ r. refl) tests.0)));
     })
   where
@@ -232,7 +226,7 @@ plan_taken c ctx plan row new core there early row_is is new_is =
     job_is : plan_of (core_state c) ctx ≡ Some plan.job
     job_is = planned_job c ctx ∙ ap (option_map (λ (p : Plan). p.job)) planned
 
-    tests : (is_none (context_of (core_state c) ctx) ≡ false) × (early_refusal (core_state c) (event.Arm ctx) ≡ arm_refusal (state_of c.table) plan.job)
+    tests : (is_none (context_of (core_state c) ctx) ≡ false) × (early_refusal (core_state c) (event.Arm ctx) ≡ arm_refusal c.device.state plan.job)
     tests = arm_early (core_state c) ctx plan.job job_is
 
     no_plan : (r : Option ContextRow) → plan_of_row (option_map without_plan r) ≡ None
@@ -246,10 +240,10 @@ plan_taken c ctx plan row new core there early row_is is new_is =
           | inr past ↦ past
         ]
 
-    steady_plan : (k : ℕ) (job : Draft) → plan_of (core_state left) k ≡ Some job → IsJob c.table.spec job
+    steady_plan : (k : ℕ) (job : Draft) → plan_of (core_state left) k ≡ Some job → IsJob c.device.state.spec job
     steady_plan k job at = of_plan (planned_by left k) refl (sym (planned_job left k) ∙ at)
       where
-        of_plan : (o : Option Plan) → planned_by left k ≡ o → option_map (λ (p : Plan). p.job) o ≡ Some job → IsJob c.table.spec job
+        of_plan : (o : Option Plan) → planned_by left k ≡ o → option_map (λ (p : Plan). p.job) o ≡ Some job → IsJob c.device.state.spec job
         of_plan None at none = absurd (let never : None ≡ Some job = none in cc (never))
         of_plan (Some p) at some =
             let same : Some p.job ≡ Some job = some in

@@ -7,14 +7,15 @@ use Rattle.drm_types.specs.Usages.{wanted_usage}
 use Rattle.drm_job.specs.declared.Draft.{Draft}
 use Rattle.drm_resv.specs.Entries.{entries_of}
 use Rattle.drm_resv.specs.Noting.{all_noted}
-use Rattle.drm_core.proofs.Records.{at_index}
-use Rattle.drm_core.proofs.ChoiceIs.{get_take}
+use Rattle.drm_core.proofs.Lists.{at_index}
+use Rattle.drm_core.proofs.Lists.{get_take}
 use Rattle.std.specs.Prelude.{IsTrue}
 use Rattle.std.proofs.lemmas.List.{length-set}
 use Rattle.std.proofs.lemmas.Bool.{cases_eq}
 use Rattle.drm_resv.specs.Reservation.{WithRoom}
-use Rattle.drm_core.specs.Planning.{MoreRoom, HasRoomFor, HasUse, collected}
-use Rattle.drm_core.proofs.Pairs.{get_set_same, get_set_other, get_set_cases}
+use Rattle.drm_core.specs.Planning.{MoreRoom, HasRoomFor, collected}
+use Rattle.drm_sched.specs.Uses.{HasUse}
+use Rattle.drm_core.proofs.Lists.{get_set_same, get_set_other, get_set_cases}
 
 pub more_itself : (rs : List WithRoom) → MoreRoom rs rs
 more_itself rs = record { count = refl; each = λ k r at. (r, at, refl, λ room. room) }

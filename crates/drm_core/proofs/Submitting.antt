@@ -14,31 +14,32 @@ use Rattle.drm_job.specs.declared.Draft.{Draft}
 use Rattle.drm_job.specs.declared.JobFault.{JobFault}
 use Rattle.drm_job.specs.Fault.{job_fault, buffers_of}
 use Rattle.drm_resv.specs.Reservation.{Reservation, WithRoom}
-use Rattle.drm_core.specs.declared.cores.Plan.{Plan}
+use Rattle.drm_sched.specs.declared.plans.Plan.{Plan}
 use Rattle.drm_core.specs.declared.cores.CoreTable.{CoreTable}
-use Rattle.drm_core.specs.declared.event.Answer.{Answer}
-use Rattle.drm_core.specs.declared.event.Answer.TheVariants as answer
+use Rattle.drm_sched.specs.declared.answer.Answer.{Answer}
+use Rattle.drm_sched.specs.declared.answer.Answer.TheVariants as answer
 use Rattle.drm_core.specs.declared.event.Event.{Event}
 use Rattle.drm_core.specs.declared.event.Event.TheVariants as event
-use Rattle.drm_core.specs.declared.event.Refusal.{Refusal}
-use Rattle.drm_core.specs.declared.event.Refusal.TheVariants.{Faulty, Held, Memory}
+use Rattle.drm_sched.specs.declared.answer.Refusal.{Refusal}
+use Rattle.drm_sched.specs.declared.answer.Refusal.TheVariants.{Faulty, Held, Memory}
 use Rattle.drm_core.specs.State.{CoreState}
 use Rattle.drm_core.specs.Context.{holds, is_held}
-use Rattle.drm_core.specs.Refusals.{early_refusal, late_refusal, arm_refusal}
+use Rattle.drm_core.specs.Refusals.{early_refusal, late_refusal}
+use Rattle.drm_sched.specs.Refusals.{arm_refusal}
 use Rattle.drm_core.specs.Outcomes.{outcome_of_event, armed_core}
 use Rattle.drm_core.specs.Step.{unless_refused, reply, Step}
 use Rattle.drm_core.specs.Steady.{IsSteadyCore}
-use Rattle.drm_core.specs.Reservation.{usage_at, Fits}
+use Rattle.drm_sched.specs.Reservation.{usage_at, Fits}
 use Rattle.drm_core.specs.Cores.{core_state, planned_by, PlanStands, IsCore}
 use Rattle.drm_core.specs.Planning.{MoreRoom, HasRoomFor, AreRoomy, ShareNoBuffer, is_held_in}
-use Rattle.drm_core.specs.Tables.{state_of}
-use Rattle.drm_core.specs.declared.table.Table.{Table}
+use Rattle.drm_sched.specs.Marks.{MarkedDevice}
 use Rattle.drm_core.specs.declared.cores.ContextRow.{ContextRow}
 use Rattle.drm_core.proofs.Locks.{reply_is}
-use Rattle.drm_core.proofs.Records.{to_map, from_map}
-use Rattle.drm_core.proofs.LatestStands.{all_at}
-use Rattle.drm_core.proofs.ArmDone.{each_fails}
-use Rattle.drm_core.proofs.CoreArmed.{list_ext, used_declared}
+use Rattle.drm_core.proofs.Lists.{to_map, from_map}
+use Rattle.drm_core.proofs.Lists.{all_at}
+use Rattle.drm_core.proofs.Lists.{each_fails}
+use Rattle.drm_core.proofs.Lists.{list_ext}
+use Rattle.drm_core.proofs.CoreArmed.{used_declared}
 
 -- the refusals of an event, one after the other
 pub reply_early : (s : CoreState) (e : Event) (r : Refusal) → early_refusal s e ≡ Some r → reply s e ≡ (answer.Refused r, s)
@@ -89,7 +90,7 @@ roomier c rs core more =
       state,
       record {
         steady = subst IsSteadyCore (sym state) core.steady;
-        whole = core.whole;
+        limits = core.limits;
         inside = core.inside;
         plans = λ ctx plan is.
             let stands = core.plans ctx plan is in
@@ -168,28 +169,28 @@ ok_has (Ok x) P is has = has
 ok_has (Err e) P is has = absurd (let never : true ≡ false = is in cc (never))
 
 -- a submission that is held up, one for which memory is refused, one that is refused late, and one that is armed
-pub submit_held : (c : CoreTable) (draft : Draft) (b : ℕ) → job_fault c.table.spec draft ≡ None → find (is_held (core_state c)) (buffers_of draft) ≡ Some b
+pub submit_held : (c : CoreTable) (draft : Draft) (b : ℕ) → job_fault c.device.state.spec draft ≡ None → find (is_held (core_state c)) (buffers_of draft) ≡ Some b
     → Step (core_state c) (event.Submit draft) (answer.Refused (Held b)) (core_state c)
 submit_held c draft b none is = inl (sym (reply_early (core_state c) (event.Submit draft) (Held b) (submit_early (core_state c) draft (Some b) none is)))
 
-pub submit_lacks : (c n : CoreTable) (draft : Draft) → job_fault c.table.spec draft ≡ None → find (is_held (core_state c)) (buffers_of draft) ≡ None → core_state n ≡ core_state c
+pub submit_lacks : (c n : CoreTable) (draft : Draft) → job_fault c.device.state.spec draft ≡ None → find (is_held (core_state c)) (buffers_of draft) ≡ None → core_state n ≡ core_state c
     → Step (core_state c) (event.Submit draft) (answer.Refused Memory) (core_state n)
 submit_lacks c n draft none is same = inr (record { takes = refl; is_next = submit_early (core_state c) draft None none is; answers = refl; keeps = same })
 
-pub submit_late : (c n : CoreTable) (draft job : Draft) (r : Refusal) → job_fault c.table.spec draft ≡ None → find (is_held (core_state c)) (buffers_of draft) ≡ None → core_state n ≡ core_state c
-    → n.table ≡ c.table → job ≡ draft → arm_refusal (state_of n.table) job ≡ Some r → Step (core_state c) (event.Submit draft) (answer.Refused r) (core_state n)
-submit_late c n draft job r none is same table job_is late =
-    let may : arm_refusal (state_of c.table) draft ≡ Some r = ap (λ t. arm_refusal (state_of t) draft) (sym table) ∙ (ap (arm_refusal (state_of n.table)) (sym job_is) ∙ late) in
+pub submit_late : (c n : CoreTable) (draft job : Draft) (r : Refusal) → job_fault c.device.state.spec draft ≡ None → find (is_held (core_state c)) (buffers_of draft) ≡ None → core_state n ≡ core_state c
+    → n.device ≡ c.device → job ≡ draft → arm_refusal n.device.state job ≡ Some r → Step (core_state c) (event.Submit draft) (answer.Refused r) (core_state n)
+submit_late c n draft job r none is same device job_is late =
+    let may : arm_refusal c.device.state draft ≡ Some r = ap (λ (d : MarkedDevice). arm_refusal d.state draft) (sym device) ∙ (ap (arm_refusal n.device.state) (sym job_is) ∙ late) in
     inl (ap (λ s. let q : Answer × CoreState = (answer.Refused r, s) in q) same
     ∙ sym (reply_late (core_state c) (event.Submit draft) r (submit_early (core_state c) draft None none is) may))
 
-pub submit_armed : (c n m : CoreTable) (draft job : Draft) (f : ℕ) → job_fault c.table.spec draft ≡ None → find (is_held (core_state c)) (buffers_of draft) ≡ None → core_state n ≡ core_state c
-    → n.table ≡ c.table → job ≡ draft → arm_refusal (state_of n.table) job ≡ None → f ≡ length n.table.journal.items → core_state m ≡ armed_core (core_state n) job
+pub submit_armed : (c n m : CoreTable) (draft job : Draft) (f : ℕ) → job_fault c.device.state.spec draft ≡ None → find (is_held (core_state c)) (buffers_of draft) ≡ None → core_state n ≡ core_state c
+    → n.device ≡ c.device → job ≡ draft → arm_refusal n.device.state job ≡ None → f ≡ length n.device.state.journal → core_state m ≡ armed_core (core_state n) job
     → Step (core_state c) (event.Submit draft) (answer.Armed f) (core_state m)
-submit_armed c n m draft job f none is same table job_is late number armed =
-    let may : arm_refusal (state_of c.table) draft ≡ None = ap (λ t. arm_refusal (state_of t) draft) (sym table) ∙ (ap (arm_refusal (state_of n.table)) (sym job_is) ∙ late) in
+submit_armed c n m draft job f none is same device job_is late number armed =
+    let may : arm_refusal c.device.state draft ≡ None = ap (λ (d : MarkedDevice). arm_refusal d.state draft) (sym device) ∙ (ap (arm_refusal n.device.state) (sym job_is) ∙ late) in
     let state : core_state m ≡ armed_core (core_state c) draft = armed ∙ (ap (λ s. armed_core s job) same ∙ ap (armed_core (core_state c)) job_is) in
-    let fence : f ≡ length c.table.journal.items = number ∙ ap (λ (t : Table). length t.journal.items) table in
+    let fence : f ≡ length c.device.state.journal = number ∙ ap (λ (d : MarkedDevice). length d.state.journal) device in
     inl (ap (λ s. let q : Answer × CoreState = (answer.Armed f, s) in q) state
     ∙ (ap (λ k. let q : Answer × CoreState = (answer.Armed k, armed_core (core_state c) draft) in q) fence
     ∙ sym (reply_is (core_state c) (event.Submit draft) (submit_early (core_state c) draft None none is) may)))

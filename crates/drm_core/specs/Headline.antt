@@ -1,33 +1,30 @@
 -- What the core promises, whatever happens to it and in whatever order.
-use Rattle.std.specs.Prelude.{◌≡◌, ℕ, ◌<◌, ◌≤◌, Bool, false, IsTrue, IsFalse, ◌⊎◌, List, length, Some, ℤ, pos, negsuc, slice_get}
-use Rattle.std.specs.Option.{option_map_or}
-use Rattle.drm_types.specs.declared.access.Usage.TheVariants.{Write}
+use Rattle.std.specs.Prelude.{◌≡◌, ℕ, ◌<◌, ◌≤◌, Bool, IsTrue, IsFalse, ◌⊎◌, List, length, Some, ℤ, pos, negsuc, slice_get}
 use Rattle.drm_types.specs.declared.spec.DeviceSpec.{DeviceSpec}
 use Rattle.drm_types.specs.declared.spec.RingSpec.{RingSpec}
-use Rattle.drm_types.specs.Usages.{is_as_strong}
 use Rattle.drm_buffer.specs.Memory.{bytes_of}
 use Rattle.drm_job.specs.declared.Draft.{Draft}
 use Rattle.drm_job.specs.Fault.{IsJob}
 use Rattle.drm_serial.specs.Serial.{serial}
 use Rattle.drm_fence.specs.Phases.{is_queued, has_ended, status_of}
-use Rattle.drm_core.specs.declared.event.Answer.{Answer}
-use Rattle.drm_core.specs.declared.event.Answer.TheVariants as answer
+use Rattle.drm_sched.specs.declared.answer.Answer.{Answer}
+use Rattle.drm_sched.specs.declared.answer.Answer.TheVariants as answer
 use Rattle.drm_core.specs.declared.event.Event.{Event}
 use Rattle.drm_core.specs.declared.event.Event.TheVariants as event
-use Rattle.drm_core.specs.declared.event.Refusal.{Refusal}
-use Rattle.drm_core.specs.declared.event.Refusal.TheVariants.{Memory, Idle}
-use Rattle.drm_core.specs.declared.journal.JobRecord.{JobRecord}
+use Rattle.drm_sched.specs.declared.answer.Refusal.{Refusal}
+use Rattle.drm_sched.specs.declared.answer.Refusal.TheVariants.{Memory, Idle}
+use Rattle.drm_sched.specs.declared.journal.JobRecord.{JobRecord}
 use Rattle.drm_core.specs.State.{CoreState, opened}
-use Rattle.drm_core.specs.Journal.{turns, is_over}
-use Rattle.drm_core.specs.Order.{comes_after, HasPlace}
-use Rattle.drm_core.specs.Reservation.{usage_at}
-use Rattle.drm_core.specs.Ring.{used_credits}
-use Rattle.drm_core.specs.Chosen.{IsLeast, NoneMayBegin}
+use Rattle.drm_sched.specs.Journal.{turns, is_over}
+use Rattle.drm_sched.specs.Order.{comes_after, HasPlace}
+use Rattle.drm_sched.specs.Ring.{used_credits}
+use Rattle.drm_sched.specs.Chosen.{IsLeast, NoneMayBegin}
 use Rattle.drm_core.specs.Context.{holds}
 use Rattle.drm_core.specs.Names.{names_exist}
 use Rattle.drm_core.specs.Refusals.{plan_of}
 use Rattle.drm_core.specs.Step.{Step}
 use Rattle.drm_core.specs.Run.{Run, AllNamesExist}
+use Rattle.drm_sched.specs.Writers.{is_writer, HaveEnded}
 
 -- the memory of the machine that runs the armed jobs one after another in arming order, each with the packets that it has run
 abbrev pub serial_memory : DeviceSpec → CoreState → List (List ℕ)
@@ -46,15 +43,6 @@ pub record AreArmed (state : CoreState) (fence : ℕ) (earlier : JobRecord) (oth
   pub order : fence < other
   pub first : IsArmed state fence earlier
   pub second : IsArmed state other later
-
--- whether a job writes a buffer: there it adds WRITE or stronger
-abbrev pub is_writer : Draft → ℕ → Bool
-is_writer job buffer = option_map_or (λ usage. is_as_strong usage Write) (usage_at buffer job) false
-
--- every armed job that writes the buffer has its outcome
-abbrev pub HaveEnded : ℕ → List JobRecord → Type 0
-HaveEnded buffer journal =
-    (fence : ℕ) (r : JobRecord) → slice_get journal fence ≡ Some r → IsTrue (is_writer r.job buffer) → IsTrue (has_ended r.phase)
 
 abbrev pub WritersEnded : CoreState → ℕ → Type 0
 WritersEnded state buffer = HaveEnded buffer state.device.journal

@@ -1,11 +1,5 @@
 -- The theorem: what the laws and the contracts of a core say, whatever code keeps it.
 pub mod State
-pub mod Journal
-pub mod Order
-pub mod Choice
-pub mod Ring
-pub mod Reservation
-pub mod Arming
 pub mod Context
 pub mod Refusals
 pub mod Outcomes
@@ -13,26 +7,10 @@ pub mod Step
 pub mod Names
 pub mod Run
 pub mod Lawful
-pub mod Grows
 pub mod Steady
-pub mod Chosen
 pub mod Headline
--- What helps the bodies, and the words of a device's calls: no promise of a core rests on these.
-pub mod Waits
-pub mod Candidates
-pub mod Plain
-pub mod Answers
-pub mod Loads
-pub mod Tables
+-- What helps the bodies: no promise of a core rests on these.
 pub mod Cores
-pub mod Recovery
-pub mod Stopping
-pub mod Building
 pub mod Planning
 pub mod Claims
-pub mod Held
-pub mod Marks
-pub mod Watching
-pub mod MarkedTables
-pub mod Begun
-pub mod Keeps
+pub mod Laws

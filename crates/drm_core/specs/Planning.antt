@@ -1,14 +1,15 @@
 -- What a plan takes from the reservations that its context holds.
-use Rattle.std.specs.Prelude.{◌≡◌, ℕ, Bool, false, ◌==◌, IsTrue, List, [], length, fold, Some, None, Option, is_some, option_and_then, slice_get}
+use Rattle.std.specs.Prelude.{◌≡◌, ℕ, Bool, false, ◌==◌, IsTrue, List, [], length, fold, Some, Option, is_some, option_and_then, slice_get}
 use Rattle.std.specs.Option.{option_map_or}
 use Rattle.drm_types.specs.declared.access.Access.{Access}
 use Rattle.drm_types.specs.Usages.{wanted_usage}
 use Rattle.drm_types.specs.declared.access.Usage.{Usage}
 use Rattle.drm_job.specs.declared.Draft.{Draft}
-use Rattle.drm_resv.specs.Entries.{entries_of, added_to}
+use Rattle.drm_resv.specs.Entries.{entries_of}
 use Rattle.drm_resv.specs.Noting.{all_noted}
 use Rattle.drm_resv.specs.Reservation.{WithRoom}
-use Rattle.drm_core.specs.Reservation.{usage_at}
+use Rattle.drm_sched.specs.Reservation.{usage_at}
+use Rattle.drm_sched.specs.Uses.{HasUse}
 
 -- whether a context holds the buffer
 abbrev pub is_held_in : List (Option ℕ) → ℕ → Bool
@@ -43,22 +44,10 @@ abbrev pub AreRoomy : Draft → List WithRoom → Type 0
 AreRoomy job reservations =
     (k : ℕ) (r : WithRoom) (usage : Usage) → slice_get reservations k ≡ Some r → usage_at k job ≡ Some usage → IsTrue r.has_room
 
--- a reservation after the job's use was added, where it uses the buffer; the others are as they were
-abbrev pub HasUse : (ℕ → Bool) → ℕ → Draft → ℕ → WithRoom → WithRoom → Type 0
-HasUse ended fence job buffer old new =
-    ((usage : Usage) → usage_at buffer job ≡ Some usage → new.kept ≡ added_to ended old.kept (record { fence = fence; entity = job.entity; usage = usage }))
-    × (usage_at buffer job ≡ None → new ≡ old)
-
 -- so for all reservations
 pub record HaveUses (ended : ℕ → Bool) (fence : ℕ) (job : Draft) (old new : List WithRoom) : Type 0 where
   pub count : length new ≡ length old
   pub each : (k : ℕ) (r : WithRoom) → slice_get old k ≡ Some r → (m : WithRoom) × (slice_get new k ≡ Some m) × HasUse ended fence job k r m
-
--- so for reservations that stand with their buffers
-pub record HeldHaveUses (ended : ℕ → Bool) (fence : ℕ) (job : Draft) (old new : List (ℕ × WithRoom)) : Type 0 where
-  pub count : length new ≡ length old
-  pub each : (k : ℕ) (h : ℕ × WithRoom) → slice_get old k ≡ Some h
-      → (m : ℕ × WithRoom) × (slice_get new k ≡ Some m) × (m.0 ≡ h.0) × HasUse ended fence job h.0 h.1 m.1
 
 -- the two jobs declare no buffer in common
 abbrev pub ShareNoBuffer : Draft → Draft → Type 0

@@ -1,20 +1,6 @@
-use crate::table::Table;
-use drm_job::Job;
-use drm_resv::{Deps, Resv};
-use drm_types::{BufferId, CtxId, Ticket};
-
-/// A job and the fences that it waits for, collected from the reservations that its context holds (`drm_sched_job`
-/// between `drm_sched_job_init` and `drm_sched_job_arm`).
-#[derive(Drop)]
-pub struct Plan {
-    /// What is to be armed.
-    pub job: Job,
-    /// The fences that it waits for, the latest of each entity.
-    pub deps: Deps,
-}
-
-/// The reservations that a context holds, each with its buffer (`ww_mutex`es of one `ww_acquire_ctx`).
-pub type Held = Vec<(BufferId, Resv)>;
+use drm_resv::Resv;
+use drm_sched::{Device, Plan};
+use drm_types::{CtxId, Ticket};
 
 /// A context that has begun (`ww_acquire_ctx`).
 #[derive(Drop)]
@@ -27,11 +13,11 @@ pub struct ContextRow {
     pub plan: Option<Plan>,
 }
 
-/// The tables of a core: its device, the reservation and the holder of each buffer, the contexts, and the
+/// The parts of a core: its device, the reservation and the holder of each buffer, the contexts, and the
 /// ticket that is drawn next.
 #[derive(Drop)]
 pub struct CoreTable {
-    pub table: Table,
+    pub device: Device,
     pub reservations: Vec<Resv>,
     pub holders: Vec<Option<CtxId>>,
     pub contexts: Vec<Option<ContextRow>>,

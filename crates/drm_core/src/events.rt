@@ -4,13 +4,14 @@ ghost use Rattle.drm_core.specs.Step.{Step};
 ghost use Rattle.drm_core.specs.Cores.{core_state, IsCore};
 
 use crate::cores::CoreTable;
-use crate::event::{Answer, Event};
+use crate::event::Event;
+use drm_sched::Answer;
 use std::alloc::Global;
 
 impl CoreTable {
     /// One event. It names only what the device has.
     pub(crate) fn apply(&mut self, alloc: Global, event: Event) -> Answer
-        requires names { IsTrue (names_exist_in self.old.table.spec event) }
+        requires names { IsTrue (names_exist_in self.old.device.state.spec event) }
         requires core { IsCore self.old }
         ensures step { Step (core_state self.old) event result (core_state self.new) }
         ensures core { IsCore self.new }

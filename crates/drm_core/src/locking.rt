@@ -2,13 +2,13 @@ ghost use Rattle.std.specs.Prelude.{◌≡◌, ◌==◌, ◌^◌, ◌<◌, ◌�
 ghost use Rattle.std.specs.List.{enumerate_from};
 ghost use Rattle.std.specs.Option.{option_map_or};
 ghost use Rattle.drm_core.specs.declared.event.Event.TheVariants as event;
-ghost use Rattle.drm_core.specs.Context.{context_of, holder_of, holds as holds_in, least_held, ticket_of};
+ghost use Rattle.drm_core.specs.Context.{context_of, holder_of, holds as holds_in, ticket_of};
 ghost use Rattle.drm_core.specs.Step.{reply};
 ghost use Rattle.drm_core.specs.Claims.{claimed_of, with_seal, without_plan};
 ghost use Rattle.drm_core.specs.Cores.{core_state, IsCore};
 
 use crate::cores::{ContextRow, CoreTable};
-use crate::event::{Answer, Refusal};
+use drm_sched::{Answer, Refusal};
 use drm_types::{BufferId, CtxId, Ticket};
 
 /// No ticket from this one on is drawn.
@@ -137,7 +137,7 @@ impl CoreTable {
     /// another one holds it. Behind an older holder it must let go of what it holds; for a younger one it may wait.
     pub(crate) fn try_claim(&mut self, ctx: CtxId, buffer: BufferId) -> Answer
         requires ctx { ctx < 64 }
-        requires buffer { buffer < length self.old.table.spec.buffers }
+        requires buffer { buffer < length self.old.device.state.spec.buffers }
         requires core { IsCore self.old }
         ensures reply { reply (core_state self.old) (event.Try ctx buffer) ≡ (result, core_state self.new) }
         ensures core { IsCore self.new }
@@ -198,7 +198,7 @@ impl CoreTable {
     /// The context lets the buffer's reservation go (`ww_mutex_unlock`), and with it what it has planned.
     pub(crate) fn drop_held(&mut self, ctx: CtxId, buffer: BufferId) -> Answer
         requires ctx { ctx < 64 }
-        requires buffer { buffer < length self.old.table.spec.buffers }
+        requires buffer { buffer < length self.old.device.state.spec.buffers }
         requires core { IsCore self.old }
         ensures reply { reply (core_state self.old) (event.Drop ctx buffer) ≡ (result, core_state self.new) }
         ensures core { IsCore self.new }

@@ -7,10 +7,10 @@ ghost use Rattle.drm_core.specs.Refusals.{early_refusal};
 ghost use Rattle.drm_core.specs.Step.{Step, reply};
 ghost use Rattle.drm_core.specs.Cores.{core_state, IsCore};
 
-use crate::cores::{ContextRow, CoreTable, Plan};
-use crate::event::{Answer, Refusal};
+use crate::cores::{ContextRow, CoreTable};
 use crate::planning;
 use drm_job::Draft;
+use drm_sched::{Answer, Plan, Refusal};
 use drm_types::CtxId;
 
 // The context has planned this, and locks no more.
@@ -42,7 +42,7 @@ impl CoreTable {
     {
         match self.contexts.get(ctx as usize) {
             Some(Some(row)) => match &row.plan {
-                Some(plan) => self.table.arm_refusal(&plan.job),
+                Some(plan) => self.device.arm_refusal(&plan.job),
                 None => Some(Refusal::NotPlanned),
             },
             _ => Some(Refusal::CtxIdle),
@@ -61,7 +61,7 @@ impl CoreTable {
         if !self.has_begun(ctx) {
             return Answer::Refused(Refusal::CtxIdle);
         }
-        let job = match drm_job::check(draft, &self.table.spec) {
+        let job = match drm_job::check(draft, self.device.spec()) {
             Ok(job) => job,
             Err(back) => return Answer::Refused(Refusal::Faulty(back.1)),
         };

@@ -1,17 +1,13 @@
-ghost use Rattle.std.specs.Prelude.{◌≡◌, ℕ, ◌<◌, ◌≤◌, length, map, Some, None, Option, find, fold, IsTrue, OnOk, slice_get};
-ghost use Rattle.std.specs.Option.{option_map_or, option_and_then};
+ghost use Rattle.std.specs.Prelude.{◌≡◌, ℕ, ◌<◌, ◌≤◌, length, map, Some, None, Option, find, IsTrue, OnOk, slice_get};
 ghost use Rattle.std.specs.List.{list_all};
 ghost use Rattle.drm_fence.specs.Fences.{has_ended_at};
-ghost use Rattle.drm_types.specs.declared.access.Usage.{Usage};
-ghost use Rattle.drm_resv.specs.Entries.{added_to};
-ghost use Rattle.drm_core.specs.Reservation.{usage_at};
-ghost use Rattle.drm_core.specs.Held.{HaveRoom};
-ghost use Rattle.drm_core.specs.Planning.{is_held_in, holds_in, all_collected, MoreRoom, HasRoomFor, AreRoomy, HaveUses, HeldHaveUses};
+ghost use Rattle.drm_core.specs.Planning.{is_held_in, holds_in, all_collected, MoreRoom, HasRoomFor, AreRoomy, HaveUses};
 
 use drm_fence::Timeline;
 use drm_job::Job;
 use drm_resv::{Deps, Resv};
-use drm_types::{Access, BufferId, CtxId, FenceId, adds, wanted};
+use drm_sched::add_use;
+use drm_types::{Access, BufferId, CtxId, FenceId, wanted};
 use std::alloc::AllocError;
 
 // Whether a context holds the buffer.
@@ -102,18 +98,6 @@ pub(crate) fn collect(reservations: &[Resv], declared: &[(BufferId, Access)]) ->
     deps
 }
 
-// The job's use of a buffer, if it uses it, is added to the buffer's reservation.
-fn add_use(resv: &mut Resv, buffer: BufferId, job: &Job, fence: FenceId, timeline: &Timeline)
-    requires room { (usage : Usage) → usage_at buffer job.now ≡ Some usage → IsTrue resv.old.has_room }
-    requires entity { job.now.entity < 64 }
-    ensures used { (usage : Usage) → usage_at buffer job.now ≡ Some usage → resv.new.kept ≡ added_to (has_ended_at timeline.now.list) resv.old.kept (record { fence = fence; entity = job.now.entity; usage = usage }) }
-    ensures unused { usage_at buffer job.now ≡ None → resv.new ≡ resv.old }
-{
-    if let Some(access) = job.access_of(buffer) {
-        resv.add(fence, job.entity(), adds(access), timeline);
-    }
-}
-
 // The uses of a new job are added to the reservations of its buffers.
 pub(crate) fn add_uses(reservations: &mut [Resv], job: &Job, fence: FenceId, timeline: &Timeline)
     requires room { AreRoomy job.now reservations.old }
@@ -123,21 +107,5 @@ pub(crate) fn add_uses(reservations: &mut [Resv], job: &Job, fence: FenceId, tim
 {
     for (place, resv) in reservations.iter_mut().enumerate() {
         add_use(resv, BufferId::new(place as u32), job, fence, timeline);
-    }
-}
-
-// The uses of a new job are added to the reservations among these of its buffers.
-pub(crate) fn add_held_uses(
-    held: &mut [(BufferId, Resv)],
-    job: &Job,
-    fence: FenceId,
-    timeline: &Timeline,
-)
-    requires room { HaveRoom job.now held.old }
-    requires entity { job.now.entity < 64 }
-    ensures { HeldHaveUses (has_ended_at timeline.now.list) fence job.now held.old held.new }
-{
-    for (buffer, resv) in held.iter_mut() {
-        add_use(resv, *buffer, job, fence, timeline);
     }
 }

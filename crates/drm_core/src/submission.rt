@@ -2,45 +2,52 @@ ghost use Rattle.std.specs.Prelude.{◌≡◌, ℕ, length, Some, None, OnOk};
 ghost use Rattle.drm_core.specs.declared.event.Event.TheVariants as event;
 ghost use Rattle.drm_core.specs.Step.{Step};
 ghost use Rattle.drm_job.specs.Fault.{IsJob};
-ghost use Rattle.drm_core.specs.declared.cores.Plan.{Plan as PlanOf};
+ghost use Rattle.drm_sched.specs.declared.plans.Plan.{Plan as PlanOf};
 ghost use Rattle.drm_core.specs.Outcomes.{armed_core};
-ghost use Rattle.drm_core.specs.Refusals.{arm_refusal};
-ghost use Rattle.drm_core.specs.Tables.{state_of};
-ghost use Rattle.drm_core.specs.Cores.{core_state, planned_by, DepsCover, IsCore};
+ghost use Rattle.drm_sched.specs.Refusals.{arm_refusal};
+ghost use Rattle.drm_core.specs.Cores.{core_state, planned_by, IsCore};
+ghost use Rattle.drm_sched.specs.Plans.{DepsCover};
 ghost use Rattle.drm_core.specs.Planning.{AreRoomy, ShareNoBuffer};
 
-use crate::cores::{CoreTable, Plan};
-use crate::event::{Answer, Refusal};
+use crate::cores::CoreTable;
+use crate::laws::device_laws;
 use crate::planning;
 use drm_job::{Draft, Job};
 use drm_resv::Deps;
+use drm_sched::{Answer, Plan, Refusal};
 use drm_types::FenceId;
 use std::alloc::AllocError;
 
 impl CoreTable {
     // Arms the job, and adds its uses to the reservations of its buffers.
     pub(crate) fn arm_job(&mut self, plan: Plan) -> FenceId
-        requires job { IsJob self.old.table.spec plan.job }
-        requires covers { DepsCover (state_of self.old.table) plan.job plan.deps }
-        requires may { arm_refusal (state_of self.old.table) plan.job ≡ None }
+        requires job { IsJob self.old.device.state.spec plan.job }
+        requires covers { DepsCover self.old.device.state plan.job plan.deps }
+        requires may { arm_refusal self.old.device.state plan.job ≡ None }
         requires roomy { AreRoomy plan.job self.old.reservations.items }
         requires apart { (ctx : ℕ) (other : PlanOf) → planned_by self.old ctx ≡ Some other → ShareNoBuffer plan.job other.job }
         requires core { IsCore self.old }
-        ensures number { result ≡ length self.old.table.journal.items }
+        ensures number { result ≡ length self.old.device.state.journal }
         ensures armed { core_state self.new ≡ armed_core (core_state self.old) plan.job }
         ensures core { IsCore self.new }
     {
-        let fence = self.table.journal.len() as u32;
-        planning::add_uses(&mut self.reservations, &plan.job, fence, &self.table.fences);
-        self.table.arm(plan)
+        device_laws();
+        let fence = self.device.armed();
+        planning::add_uses(
+            &mut self.reservations,
+            &plan.job,
+            fence,
+            self.device.fences(),
+        );
+        self.device.arm_job(plan)
     }
 
     // Room in the reservations of all buffers that the job declares.
     pub(crate) fn make_room(&mut self, job: &Job) -> Result<(), AllocError>
-        requires job { IsJob self.old.table.spec job.now }
+        requires job { IsJob self.old.device.state.spec job.now }
         requires core { IsCore self.old }
         ensures state { core_state self.new ≡ core_state self.old }
-        ensures table { self.new.table ≡ self.old.table }
+        ensures device { self.new.device ≡ self.old.device }
         ensures contexts { self.new.contexts ≡ self.old.contexts }
         ensures holders { self.new.holders ≡ self.old.holders }
         ensures room { OnOk result (AreRoomy job.now self.new.reservations.items) }
@@ -51,9 +58,9 @@ impl CoreTable {
 
     // What the reservations of the job's buffers ask it to wait for.
     pub(crate) fn collect(&self, job: &Job) -> Deps
-        requires job { IsJob self.now.table.spec job.now }
+        requires job { IsJob self.now.device.state.spec job.now }
         requires core { IsCore self.now }
-        ensures { DepsCover (state_of self.now.table) job.now result }
+        ensures { DepsCover self.now.device.state job.now result }
     {
         planning::collect(&self.reservations, job.declared())
     }
@@ -64,7 +71,7 @@ impl CoreTable {
         ensures step { Step (core_state self.old) (event.Submit draft) result (core_state self.new) }
         ensures core { IsCore self.new }
     {
-        let job = match drm_job::check(draft, &self.table.spec) {
+        let job = match drm_job::check(draft, self.device.spec()) {
             Ok(job) => job,
             Err(back) => return Answer::Refused(Refusal::Faulty(back.1)),
         };
@@ -74,7 +81,7 @@ impl CoreTable {
         if self.make_room(&job).is_err() {
             return Answer::Refused(Refusal::Memory);
         }
-        if let Some(refusal) = self.table.arm_refusal(&job) {
+        if let Some(refusal) = self.device.arm_refusal(&job) {
             return Answer::Refused(refusal);
         }
         let deps = self.collect(&job);

@@ -3,10 +3,10 @@ use Rattle.std.proofs.Common.{◌≡◌, ℕ, false, List, Option, Some, None, r
 use Rattle.std.specs.Prelude.{option_map, is_some}
 use Rattle.drm_packet.specs.declared.Packet.{Packet}
 use Rattle.drm_packet.specs.Parts.{part_effect}
-use Rattle.drm_core.specs.declared.marked.Begun.{Begun}
-use Rattle.drm_core.specs.declared.marked.Begun.TheVariants.{Work}
-use Rattle.drm_core.specs.Begun.{IsReport, MayComeBack}
-use Rattle.drm_core.specs.Marks.{MarkedDevice}
+use Rattle.drm_sched.specs.declared.marked.Begun.{Begun}
+use Rattle.drm_sched.specs.declared.marked.Begun.TheVariants.{Work}
+use Rattle.drm_sched.specs.Begun.{IsReport, MayComeBack}
+use Rattle.drm_sched.specs.Marks.{MarkedDevice}
 
 -- no buffer went out
 pub nothing_comes_back : (d : MarkedDevice) (ring : ℕ) (b : Begun) (fence number : ℕ) (copy : Packet) (write read : Option (List ℕ))

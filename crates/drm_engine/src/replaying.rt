@@ -5,7 +5,7 @@ ghost use Rattle.drm_types.specs.Limits.{spec_fault};
 ghost use Rattle.drm_script.specs.Answers.{text_of_answers};
 ghost use Rattle.drm_script.specs.Commands.{AllNamesExist};
 ghost use Rattle.drm_engine.specs.Replaying.{AreAnswers, Replays};
-ghost use Rattle.drm_core.specs.declared.event.Answer.{Answer as AnswerOf};
+ghost use Rattle.drm_sched.specs.declared.answer.Answer.{Answer as AnswerOf};
 
 use crate::ending::Ending;
 use drm_core::{BuildError, Core};

@@ -2,7 +2,7 @@
 use Rattle.std.specs.Prelude.{ℕ, List, map}
 use Rattle.drm_fence.specs.Phases.{outcome_of}
 use Rattle.drm_serial.specs.Serial.{Turn, serial}
-use Rattle.drm_core.specs.declared.journal.JobRecord.{JobRecord}
+use Rattle.drm_sched.specs.declared.journal.JobRecord.{JobRecord}
 use Rattle.drm_core.specs.State.{CoreState}
 use Rattle.drm_script.specs.declared.journal.JournalJob.{JournalJob}
 use Rattle.drm_script.specs.Journal.{JournalParts}

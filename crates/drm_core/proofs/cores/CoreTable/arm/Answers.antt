@@ -1,5 +1,5 @@
 use Rattle.std.proofs.Common.{◌∙◌, sym, ap, length}
-use Rattle.drm_core.specs.declared.event.Answer.TheVariants as answer
+use Rattle.drm_sched.specs.declared.answer.Answer.TheVariants as answer
 use Rattle.drm_core.specs.Cores.{core_state}
 use Rattle.drm_core.proofs.Plans.{plan_taken, arm_unplanned}
 use Rattle.drm_core.proofs.cores.CoreTable.arm.Goals as goal
@@ -38,7 +38,7 @@ pub returns-in-Some-take_plan-clause-reply : goal.returns-in-Some-take_plan-clau
 returns-in-Some-take_plan-clause-reply c =
     (plan_taken c.args.self.now c.args.ctx c.in-Some-take_plan.plan c.index_mut.result.now c.take_plan.new.context c.requires.core c.requires.ctx (sym c.plan_refusal.ensures ∙ c.in_default.is)
     c.index_mut.ensures.value (sym c.take_plan.ensures.taken ∙ c.in-Some-take_plan.is) c.take_plan.ensures.left).replies
-    ∙ (ap (λ z. (answer.Armed (length c.args.self.now.table.journal.items), z)) (sym c.arm_job-fence.ensures.armed) ∙ ap (λ n. (answer.Armed n, core_state c.arm_job-fence.new.self)) (sym c.arm_job-fence.ensures.number))
+    ∙ (ap (λ z. (answer.Armed (length c.args.self.now.device.state.journal), z)) (sym c.arm_job-fence.ensures.armed) ∙ ap (λ n. (answer.Armed n, core_state c.arm_job-fence.new.self)) (sym c.arm_job-fence.ensures.number))
 
 pub returns-in-None-clause-reply : goal.returns-in-None-clause-reply
 returns-in-None-clause-reply c =

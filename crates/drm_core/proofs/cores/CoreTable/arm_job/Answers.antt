@@ -10,13 +10,15 @@ add_uses-requires-clause-room c k r usage at is = c.requires.roomy k r usage (su
 pub returns-clause-armed : goal.returns-clause-armed
 returns-clause-armed c =
     let t = c.args.self.now in
-    (core_armed t c.arm.new.self (with_items t.reservations c.add_uses.new.reservations) c.args.plan.job c.requires.core c.requires.job
-    (uses_in_vector t (has_ended_at t.table.fences.list) c.len-fence.result c.args.plan.job c.deref_mut.result.now c.add_uses.new.reservations c.len-fence.ensures c.deref_mut.ensures.value c.add_uses.ensures)
-    c.arm.ensures.armed c.arm.ensures.whole c.arm.ensures.out c.requires.apart).0
+    let fs = c.fences.result.now.list in
+    (core_armed c.device_laws.ensures t c.arm_job.new.self (with_items t.reservations c.add_uses.new.reservations) c.args.plan.job fs c.requires.core c.requires.job c.fences.ensures
+    (uses_in_vector t (has_ended_at fs) c.armed-fence.result c.args.plan.job c.deref_mut.result.now c.add_uses.new.reservations c.armed-fence.ensures c.deref_mut.ensures.value c.add_uses.ensures)
+    c.arm_job.ensures.armed c.arm_job.ensures.marks c.requires.apart).0
 
 pub returns-clause-core : goal.returns-clause-core
 returns-clause-core c =
     let t = c.args.self.now in
-    (core_armed t c.arm.new.self (with_items t.reservations c.add_uses.new.reservations) c.args.plan.job c.requires.core c.requires.job
-    (uses_in_vector t (has_ended_at t.table.fences.list) c.len-fence.result c.args.plan.job c.deref_mut.result.now c.add_uses.new.reservations c.len-fence.ensures c.deref_mut.ensures.value c.add_uses.ensures)
-    c.arm.ensures.armed c.arm.ensures.whole c.arm.ensures.out c.requires.apart).1
+    let fs = c.fences.result.now.list in
+    (core_armed c.device_laws.ensures t c.arm_job.new.self (with_items t.reservations c.add_uses.new.reservations) c.args.plan.job fs c.requires.core c.requires.job c.fences.ensures
+    (uses_in_vector t (has_ended_at fs) c.armed-fence.result c.args.plan.job c.deref_mut.result.now c.add_uses.new.reservations c.armed-fence.ensures c.deref_mut.ensures.value c.add_uses.ensures)
+    c.arm_job.ensures.armed c.arm_job.ensures.marks c.requires.apart).1

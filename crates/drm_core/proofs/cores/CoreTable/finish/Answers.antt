@@ -1,16 +1,33 @@
-use Rattle.std.proofs.Common.{subst, sym}
-use Rattle.drm_core.specs.Tables.{state_of}
-use Rattle.drm_core.specs.Cores.{IsCore}
-use Rattle.drm_core.proofs.CallsAre.{Left}
-use Rattle.drm_core.proofs.CoreFacts.{table_changed}
-use Rattle.drm_core.proofs.DeviceSteps.{IsKept, finish_kept}
+use Rattle.std.proofs.Common.{◌∙◌, Some, None, ap, subst, sym, refl}
+use Rattle.drm_sched.specs.Events.{IsKept}
+use Rattle.drm_sched.specs.declared.answer.Answer.TheVariants as answer
+use Rattle.drm_core.specs.declared.event.Event.TheVariants as event
+use Rattle.drm_sched.specs.Marks.{MarkedDevice, ring_out}
+use Rattle.drm_core.specs.Cores.{core_state, IsCore}
+use Rattle.drm_core.specs.Outcomes.{with_device}
+use Rattle.drm_core.proofs.CoreFacts.{device_changed, out_is, no_ring_out}
+use Rattle.drm_core.proofs.DeviceFacts.{Left}
+use Rattle.drm_core.proofs.Locks.{reply_is}
+use Rattle.drm_core.proofs.Submitting.{reply_early}
 use Rattle.drm_core.proofs.cores.CoreTable.finish.Goals as goal
+
+pub returns-in-Ok-clause-reply : goal.returns-in-Ok-clause-reply
+returns-in-Ok-clause-reply c =
+    let t = c.args.self.now in
+    reply_is (core_state t) (event.Finish c.args.ring c.args.now) (out_is (ring_out t.device c.args.ring) _ None (no_ring_out t.device c.args.ring c.requires.core.inside) c.in-Ok.ensures.finished.0) refl
+    ∙ (ap (with_device (core_state t)) c.in-Ok.ensures.finished.1 ∙ ap (λ a. (a, core_state (record t { device = c.finish.new.self }))) (sym c.finished.ensures))
 
 pub returns-in-Ok-clause-core : goal.returns-in-Ok-clause-core
 returns-in-Ok-clause-core c =
-    let d = state_of c.args.self.now.table in
-    table_changed c.args.self.now c.finish.new.self c.requires.core c.finish.ensures.whole
-    (subst (λ (q : Left). IsKept d q.1) c.in-Ok.ensures.finished.1 (finish_kept d c.args.ring c.args.now c.requires.core.whole.steady c.requires.there c.in-Ok.ensures.finished.0)) c.finish.ensures.out
+    let d = c.args.self.now.device in
+    device_changed c.device_laws.ensures c.args.self.now c.finish.new.self c.requires.core
+    (subst (λ (q : Left). IsKept d.state q.1) c.in-Ok.ensures.finished.1 ((c.device_laws.ensures.steady.events d.state c.requires.core.steady.device).finishes c.args.ring c.args.now c.requires.there (out_is (ring_out d c.args.ring) _ None (no_ring_out d c.args.ring c.requires.core.inside) c.in-Ok.ensures.finished.0))) c.finish.ensures.marks
+
+pub returns-in-Err-clause-reply : goal.returns-in-Err-clause-reply
+returns-in-Err-clause-reply c =
+    let t = c.args.self.now in
+    reply_early (core_state t) (event.Finish c.args.ring c.args.now) c.in-Err.refusal (out_is (ring_out t.device c.args.ring) _ (Some c.in-Err.refusal) (no_ring_out t.device c.args.ring c.requires.core.inside) c.in-Err.ensures.refused.0)
+    ∙ ap (λ (d : MarkedDevice). (answer.Refused c.in-Err.refusal, core_state (record t { device = d }))) (sym c.in-Err.ensures.refused.1)
 
 pub returns-in-Err-clause-core : goal.returns-in-Err-clause-core
-returns-in-Err-clause-core c = subst (λ t. IsCore (record c.args.self.now { table = t })) (sym c.in-Err.ensures.refused.1) c.requires.core
+returns-in-Err-clause-core c = subst (λ (d : MarkedDevice). IsCore (record c.args.self.now { device = d })) (sym c.in-Err.ensures.refused.1) c.requires.core

@@ -1,20 +1,33 @@
-use Rattle.std.proofs.Common.{subst, sym}
-use Rattle.drm_core.specs.Tables.{state_of}
-use Rattle.drm_core.specs.Cores.{IsCore}
-use Rattle.drm_core.proofs.CallsAre.{Left}
-use Rattle.drm_core.proofs.CoreFacts.{table_changed}
-use Rattle.drm_core.proofs.DeviceSteps.{IsKept, step_kept}
-use Rattle.drm_core.proofs.Stored.{all_in_next}
+use Rattle.std.proofs.Common.{◌∙◌, Some, None, ap, subst, sym, refl}
+use Rattle.drm_sched.specs.Events.{IsKept}
+use Rattle.drm_sched.specs.declared.answer.Answer.TheVariants as answer
+use Rattle.drm_core.specs.declared.event.Event.TheVariants as event
+use Rattle.drm_sched.specs.Marks.{MarkedDevice, is_in_way}
+use Rattle.drm_core.specs.Cores.{core_state, IsCore}
+use Rattle.drm_core.specs.Outcomes.{with_device}
+use Rattle.drm_core.proofs.CoreFacts.{device_changed, out_is, nothing_in_way}
+use Rattle.drm_core.proofs.DeviceFacts.{Left}
+use Rattle.drm_core.proofs.Locks.{reply_is}
+use Rattle.drm_core.proofs.Submitting.{reply_early}
 use Rattle.drm_core.proofs.cores.CoreTable.step.Goals as goal
 
-pub step-requires-clause-inside : goal.step-requires-clause-inside
-step-requires-clause-inside c = all_in_next c.args.self.now.table c.args.ring c.requires.core.whole c.requires.core.inside c.requires.there
+pub returns-in-Ok-clause-reply : goal.returns-in-Ok-clause-reply
+returns-in-Ok-clause-reply c =
+    let t = c.args.self.now in
+    reply_is (core_state t) (event.Step c.args.ring) (out_is (is_in_way t.device c.args.ring) _ None (nothing_in_way t.device c.args.ring c.requires.core.inside) c.in-Ok.ensures.ran.0) refl
+    ∙ (ap (with_device (core_state t)) c.in-Ok.ensures.ran.1 ∙ ap (λ a. (a, core_state (record t { device = c.step.new.self }))) (sym c.stepped.ensures))
 
 pub returns-in-Ok-clause-core : goal.returns-in-Ok-clause-core
 returns-in-Ok-clause-core c =
-    let d = state_of c.args.self.now.table in
-    table_changed c.args.self.now c.step.new.self c.requires.core c.step.ensures.whole
-    (subst (λ (q : Left). IsKept d q.1) c.in-Ok.ensures.ran.1 (step_kept d c.args.ring c.requires.core.whole.steady c.requires.there)) c.step.ensures.out
+    let d = c.args.self.now.device in
+    device_changed c.device_laws.ensures c.args.self.now c.step.new.self c.requires.core
+    (subst (λ (q : Left). IsKept d.state q.1) c.in-Ok.ensures.ran.1 ((c.device_laws.ensures.steady.events d.state c.requires.core.steady.device).steps c.args.ring c.requires.there)) c.step.ensures.marks
+
+pub returns-in-Err-clause-reply : goal.returns-in-Err-clause-reply
+returns-in-Err-clause-reply c =
+    let t = c.args.self.now in
+    reply_early (core_state t) (event.Step c.args.ring) c.in-Err.refusal (out_is (is_in_way t.device c.args.ring) _ (Some c.in-Err.refusal) (nothing_in_way t.device c.args.ring c.requires.core.inside) c.in-Err.ensures.refused.0)
+    ∙ ap (λ (d : MarkedDevice). (answer.Refused c.in-Err.refusal, core_state (record t { device = d }))) (sym c.in-Err.ensures.refused.1)
 
 pub returns-in-Err-clause-core : goal.returns-in-Err-clause-core
-returns-in-Err-clause-core c = subst (λ t. IsCore (record c.args.self.now { table = t })) (sym c.in-Err.ensures.refused.1) c.requires.core
+returns-in-Err-clause-core c = subst (λ (d : MarkedDevice). IsCore (record c.args.self.now { device = d })) (sym c.in-Err.ensures.refused.1) c.requires.core

@@ -1,0 +1,9 @@
+-- What the laws say of every device.
+use Rattle.drm_sched.specs.Chosen.{ChoiceIsLeast}
+use Rattle.drm_sched.specs.Events.{DevicesStaySteady}
+use Rattle.drm_sched.specs.Writers.{ReadsWaitForWriters}
+
+pub record DeviceLaws : Type 0 where
+  pub steady : DevicesStaySteady
+  pub reads : ReadsWaitForWriters
+  pub choice : ChoiceIsLeast

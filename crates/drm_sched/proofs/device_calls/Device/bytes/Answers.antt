@@ -1,0 +1,13 @@
+use Rattle.std.proofs.Common.{rules, ◌≡◌, ◌<◌, length, false, sym, subst}
+use Rattle.drm_sched.specs.Marks.{MarkedDevice, is_out}
+use Rattle.drm_sched.proofs.MarkedOut.{is_inside}
+use Rattle.drm_sched.proofs.device_calls.Device.bytes.Goals as goal
+
+pub bytes-requires : goal.bytes-requires
+bytes-requires c =
+    is_inside c.self.inside.parts c.args.buffer c.self.invariant
+    (subst (λ (d : MarkedDevice). c.args.buffer < length d.state.memory) (sym c.self.view_is) c.requires.there)
+    (subst (λ (d : MarkedDevice). is_out d c.args.buffer ≡ false) (sym c.self.view_is) c.requires.inside)
+
+pub returns : goal.returns
+returns c = search rules

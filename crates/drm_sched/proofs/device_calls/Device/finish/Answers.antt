@@ -1,0 +1,25 @@
+use Rattle.std.proofs.Common.{rules, ◌<◌, length, sym, subst}
+use Rattle.std.specs.Prelude.{MatchResult}
+use Rattle.drm_fence.specs.declared.phase.Phase.TheVariants.{Ended}
+use Rattle.drm_sched.specs.Grows.{Grows}
+use Rattle.drm_sched.specs.Keeps.{word_of, Keeps, KeepsBut}
+use Rattle.drm_sched.specs.Marks.{MarkedDevice}
+use Rattle.drm_sched.specs.Tables.{state_of}
+use Rattle.drm_sched.proofs.MarkedGrows.{finish_grows}
+use Rattle.drm_sched.proofs.MarkedKeeps.{finish_keeps_marked}
+use Rattle.drm_sched.proofs.device_calls.Device.finish.Goals as goal
+
+pub returns-clause-grows : goal.returns-clause-grows
+returns-clause-grows c =
+    subst (λ (d : MarkedDevice). Grows d.state (state_of c.finish.new.self.table)) c.self.view_is
+    (finish_grows c.self.inside.parts c.finish.new.self c.args.ring c.args.now c.finish.result c.self.invariant
+    (subst (λ (d : MarkedDevice). c.args.ring < length d.state.spec.rings) (sym c.self.view_is) c.requires.there) c.finish.ensures.finished c.finish.ensures.refused)
+
+pub returns-clause-keeps : goal.returns-clause-keeps
+returns-clause-keeps c =
+    subst (λ (d : MarkedDevice). MatchResult c.finish.result (λ f. KeepsBut f.fence (word_of (Ended f.outcome)) d.state (state_of c.finish.new.self.table)) (λ r. Keeps d.state (state_of c.finish.new.self.table))) c.self.view_is
+    (finish_keeps_marked c.self.inside.parts c.finish.new.self c.args.ring c.args.now c.finish.result c.self.invariant
+    (subst (λ (d : MarkedDevice). c.args.ring < length d.state.spec.rings) (sym c.self.view_is) c.requires.there) c.finish.ensures.finished c.finish.ensures.refused)
+
+pub returns-clause-refused : goal.returns-clause-refused
+returns-clause-refused c = search rules

@@ -1,0 +1,13 @@
+use Rattle.std.proofs.Common.{◌≡◌, ◌<◌, length, sym, subst}
+use Rattle.drm_sched.specs.Arming.{load}
+use Rattle.drm_sched.specs.Marks.{MarkedDevice}
+use Rattle.drm_sched.proofs.device_calls.Device.load.Goals as goal
+
+pub load-requires : goal.load-requires
+load-requires c = record {
+  there = subst (λ (d : MarkedDevice). c.args.ring < length d.state.spec.rings) (sym c.self.view_is) c.requires.there;
+  whole = c.self.invariant.table;
+}
+
+pub returns : goal.returns
+returns c = subst (λ (d : MarkedDevice). c.load.result ≡ load d.state.journal c.args.ring) c.self.view_is c.load.ensures

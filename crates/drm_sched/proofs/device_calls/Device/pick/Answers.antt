@@ -1,0 +1,23 @@
+use Rattle.std.proofs.Common.{rules, ◌<◌, length, sym, subst}
+use Rattle.drm_sched.specs.Grows.{Grows}
+use Rattle.drm_sched.specs.Keeps.{Keeps}
+use Rattle.drm_sched.specs.Marks.{MarkedDevice}
+use Rattle.drm_sched.specs.Tables.{state_of}
+use Rattle.drm_sched.proofs.MarkedGrows.{pick_grows}
+use Rattle.drm_sched.proofs.MarkedKeeps.{pick_keeps_marked}
+use Rattle.drm_sched.proofs.device_calls.Device.pick.Goals as goal
+
+pub returns-clause-grows : goal.returns-clause-grows
+returns-clause-grows c =
+    subst (λ (d : MarkedDevice). Grows d.state (state_of c.pick.new.self.table)) c.self.view_is
+    (pick_grows c.self.inside.parts c.pick.new.self c.args.ring c.args.now c.pick.result c.self.invariant
+    (subst (λ (d : MarkedDevice). c.args.ring < length d.state.spec.rings) (sym c.self.view_is) c.requires.there) c.pick.ensures.picked c.pick.ensures.refused)
+
+pub returns-clause-keeps : goal.returns-clause-keeps
+returns-clause-keeps c =
+    subst (λ (d : MarkedDevice). Keeps d.state (state_of c.pick.new.self.table)) c.self.view_is
+    (pick_keeps_marked c.self.inside.parts c.pick.new.self c.args.ring c.args.now c.pick.result c.self.invariant
+    (subst (λ (d : MarkedDevice). c.args.ring < length d.state.spec.rings) (sym c.self.view_is) c.requires.there) c.pick.ensures.picked c.pick.ensures.refused)
+
+pub returns-clause-refused : goal.returns-clause-refused
+returns-clause-refused c = search rules

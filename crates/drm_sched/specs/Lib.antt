@@ -1,0 +1,34 @@
+-- What the laws and the contracts of a device say, whatever code keeps it.
+pub mod State
+pub mod Journal
+pub mod Order
+pub mod Choice
+pub mod Ring
+pub mod Reservation
+pub mod Arming
+pub mod Refusals
+pub mod Outcomes
+pub mod Lawful
+pub mod Grows
+pub mod Steady
+pub mod Chosen
+pub mod Writers
+pub mod Events
+-- What helps the bodies, and the words of a device's calls.
+pub mod Waits
+pub mod Candidates
+pub mod Plain
+pub mod Answers
+pub mod Loads
+pub mod Tables
+pub mod Recovery
+pub mod Stopping
+pub mod Building
+pub mod Plans
+pub mod Uses
+pub mod Held
+pub mod Marks
+pub mod Watching
+pub mod MarkedTables
+pub mod Begun
+pub mod Keeps

@@ -1,0 +1,398 @@
+ghost use Rattle.std.specs.Prelude.{◌≡◌, ◌<◌, ℕ, length, Some, None, IfOk, IfErr, OnOk, MatchOption, MatchResult, map, option_map, slice_get, false};
+ghost use Rattle.std.specs.List.{filter};
+ghost use Rattle.drm_types.specs.Limits.{spec_fault};
+ghost use Rattle.drm_buffer.specs.Memory.{bytes_of, sizes_of};
+ghost use Rattle.drm_buffer.specs.Stored.{is_out_of};
+ghost use Rattle.drm_fence.specs.declared.phase.Phase.TheVariants.{Ended};
+ghost use Rattle.drm_fence.specs.Phases.{has_ended, status_of};
+ghost use Rattle.drm_sched.specs.declared.answer.Answer.TheVariants as answer;
+ghost use Rattle.drm_sched.specs.Answers.{picked, stepped, finished, timed_out};
+ghost use Rattle.drm_sched.specs.Arming.{armed_device, load as load_of};
+ghost use Rattle.drm_sched.specs.Building.{RefusesToBuild};
+ghost use Rattle.drm_sched.specs.Plans.{DepsCover};
+ghost use Rattle.drm_sched.specs.Grows.{Grows};
+ghost use Rattle.drm_sched.specs.Lawful.{IsLawfulDevice};
+ghost use Rattle.drm_sched.specs.Held.{HaveRoom, buffers_of, kept_of, armed_held, AllFit};
+ghost use Rattle.drm_sched.specs.Keeps.{Keeps, KeepsBut, KeepsArmed, word_of};
+ghost use Rattle.drm_sched.specs.Writers.{HaveEnded};
+ghost use Rattle.drm_sched.specs.Reservation.{Fits};
+ghost use Rattle.drm_sched.specs.declared.answer.Refusal.TheVariants as refusal;
+ghost use Rattle.drm_job.specs.Fault.{IsJob};
+ghost use Rattle.drm_sched.specs.Outcomes.{pick_outcome, step_outcome, finish_outcome, timeout_outcome, cancelled_device, reap_outcome};
+ghost use Rattle.drm_sched.specs.Refusals.{arm_refusal, busy_fence, pick_refusal, step_refusal, finish_refusal, cancel_refusal, reap_refusal};
+ghost use Rattle.drm_sched.specs.State.{opened_device};
+ghost use Rattle.drm_sched.specs.Begun.{HasBegun, IsReport, HasReported, KeepsTasks, out_or, MayComeBack};
+ghost use Rattle.drm_sched.specs.Marks.{is_in_way, is_out, ring_out, unmarked, IsSteadyMarked};
+ghost use Rattle.drm_sched.specs.Steady.{IsSteady};
+ghost use Rattle.drm_sched.specs.Tables.{fence_state_of};
+
+use crate::answer::{Expired, Finished, Picked, Refusal, Stepped};
+use crate::journal::JobRecord;
+use crate::life::{BuildError, Closed};
+use crate::marked::{Begun, MarkedTable};
+use crate::plans::{Held, Plan};
+use crate::table::Table;
+use crate::uses;
+use drm_buffer::Buffer;
+use drm_fence::Timeline;
+use drm_job::Job;
+use drm_resv::Resv;
+use drm_types::{BufferId, DeviceSpec, EntityId, FenceId, Moment, RingId, Sequence};
+use std::alloc::{AllocError, Global};
+use std::marker::Model;
+
+/// A device: its memory, its armed jobs, its rings and its entities (`drm_gpu_scheduler`, without the reservations
+/// that tell a job what to wait for).
+///
+/// A ring runs its packets one at a time, by `step`, or beside the device: `begin_step` sends a packet out with its
+/// buffers, and `report` takes it back. Contracts see a device as its state, in which a buffer that is out has the bytes
+/// that went out, and the mark of each ring that has a packet out. A call that is refused changes nothing, and none but
+/// `build` takes memory.
+#[derive(Drop)]
+pub struct Device {
+    parts: MarkedTable,
+}
+
+impl Model for Device {
+    ghost use Rattle.drm_sched.specs.Marks.{MarkedDevice};
+    ghost use Rattle.drm_sched.specs.MarkedTables.{marked_of, IsWholeMarked};
+
+    ghost Value = { MarkedDevice };
+
+    ghost view = { λ d. marked_of d.parts };
+
+    ghost invariant = { λ d. IsWholeMarked d.parts };
+}
+
+impl Device {
+    /// A device on which no job was armed. It takes the description over, and all memory that it needs in its life.
+    ///
+    /// # Errors
+    ///
+    /// Where the description is out of its limits, or memory is refused.
+    pub fn build(alloc: Global, spec: DeviceSpec) -> Result<Device, BuildError>
+        ensures ok { IfOk result (λ device. (device ≡ unmarked (opened_device spec)) × (spec_fault spec ≡ None)) }
+        ensures lawful { IfOk result (λ device. IsLawfulDevice device.state) }
+        ensures err { IfErr result (RefusesToBuild spec) }
+    {
+        if let Err(bad) = spec.check() {
+            return Err(BuildError::Spec(bad));
+        }
+        match MarkedTable::open(alloc, spec) {
+            Ok(parts) => Ok(Device { parts }),
+            Err(AllocError) => Err(BuildError::Memory),
+        }
+    }
+
+    /// Gives the ring the job that it takes next, if it fits (`drm_sched_run_job_work`).
+    pub fn pick(&mut self, ring: RingId, now: Moment) -> Result<Picked, Refusal>
+        requires there { ring < length self.old.state.spec.rings }
+        ensures picked { IfOk result (λ p. (pick_refusal self.old.state ring ≡ None) × (pick_outcome self.old.state ring now ≡ (picked p, self.new.state))) }
+        ensures refused { IfErr result (λ r. (pick_refusal self.old.state ring ≡ Some r) × (self.new ≡ self.old)) }
+        ensures marks { self.new.marks ≡ self.old.marks }
+        ensures lawful { IsLawfulDevice self.new.state }
+        ensures grows { Grows self.old.state self.new.state }
+        ensures keeps { Keeps self.old.state self.new.state }
+    {
+        self.parts.pick(ring, now)
+    }
+
+    /// Runs one packet of the first pending job of the ring that has some left: `begin_step` and `report` in one.
+    ///
+    /// # Errors
+    ///
+    /// `PacketOut` where the ring has a packet out, or a buffer of its next packet is out; else `Idle` where no pending
+    /// job has packets left.
+    pub fn step(&mut self, ring: RingId) -> Result<Stepped, Refusal>
+        requires there { ring < length self.old.state.spec.rings }
+        ensures ran { IfOk result (λ s. (out_or (is_in_way self.old ring) (step_refusal self.old.state ring) ≡ None) × (step_outcome self.old.state ring ≡ (stepped s, self.new.state))) }
+        ensures refused { IfErr result (λ r. (out_or (is_in_way self.old ring) (step_refusal self.old.state ring) ≡ Some r) × (self.new ≡ self.old)) }
+        ensures marks { self.new.marks ≡ self.old.marks }
+        ensures lawful { IsLawfulDevice self.new.state }
+        ensures grows { Grows self.old.state self.new.state }
+        ensures keeps { Keeps self.old.state self.new.state }
+    {
+        self.parts.step(ring)
+    }
+
+    /// Sends the ring's next packet out with its buffers, to be run beside the device (the `run_job` callback, which
+    /// `drm_sched_run_job_work` calls outside of the scheduler's lock). The ring is marked until `report`.
+    ///
+    /// # Errors
+    ///
+    /// Those of `step`.
+    pub fn begin_step(&mut self, ring: RingId) -> Result<Begun, Refusal>
+        requires there { ring < length self.old.state.spec.rings }
+        ensures begun { IfOk result (λ b. (out_or (is_in_way self.old ring) (step_refusal self.old.state ring) ≡ None) × HasBegun self.old ring b self.new) }
+        ensures state { self.new.state ≡ self.old.state }
+        ensures back { IfOk result (MayComeBack self.new ring) }
+        ensures tasks { KeepsTasks self.old ring self.new }
+        ensures refused { IfErr result (λ r. (out_or (is_in_way self.old ring) (step_refusal self.old.state ring) ≡ Some r) × (self.new ≡ self.old)) }
+    {
+        self.parts.begin_step(ring)
+    }
+
+    /// Takes back the packet that the ring has out, once it ran on its buffers (`drm_sched_job_done_cb`, by which the
+    /// hardware tells `drm_sched_job_done`): its job has run one packet more, as by a `step` of the ring. The answer is
+    /// the job's fence and the packet's number.
+    pub fn report(
+        &mut self,
+        ring: RingId,
+        write: Option<Buffer>,
+        read: Option<Buffer>,
+    ) -> (FenceId, u32)
+        requires busy { IsReport self.old ring write read }
+        ensures reported { HasReported self.old ring result self.new }
+        ensures tasks { KeepsTasks self.old ring self.new }
+        ensures lawful { IsLawfulDevice self.new.state }
+        ensures grows { Grows self.old.state self.new.state }
+        ensures keeps { Keeps self.old.state self.new.state }
+    {
+        self.parts.report(ring, write, read)
+    }
+
+    /// Ends the head of the ring, which is complete (`drm_sched_job_done`).
+    ///
+    /// # Errors
+    ///
+    /// `PacketOut` where the ring has a packet out; else `Idle` where nothing is pending, or `NotComplete`.
+    pub fn finish(&mut self, ring: RingId, now: Moment) -> Result<Finished, Refusal>
+        requires there { ring < length self.old.state.spec.rings }
+        ensures finished { IfOk result (λ f. (out_or (ring_out self.old ring) (finish_refusal self.old.state ring) ≡ None) × (finish_outcome self.old.state ring now ≡ (finished f, self.new.state))) }
+        ensures refused { IfErr result (λ r. (out_or (ring_out self.old ring) (finish_refusal self.old.state ring) ≡ Some r) × (self.new ≡ self.old)) }
+        ensures marks { self.new.marks ≡ self.old.marks }
+        ensures lawful { IsLawfulDevice self.new.state }
+        ensures grows { Grows self.old.state self.new.state }
+        ensures keeps { MatchResult result (λ f. KeepsBut f.fence (word_of (Ended f.outcome)) self.old.state self.new.state) (λ r. Keeps self.old.state self.new.state) }
+    {
+        self.parts.finish(ring, now)
+    }
+
+    /// Looks at the head of the ring after a time (`drm_sched_job_timedout`). A head that hangs goes on at its next
+    /// packet.
+    ///
+    /// # Errors
+    ///
+    /// `PacketOut` where the ring has a packet out.
+    pub fn timeout(&mut self, ring: RingId, now: Moment) -> Result<Expired, Refusal>
+        requires there { ring < length self.old.state.spec.rings }
+        ensures expired { IfOk result (λ e. (out_or (ring_out self.old ring) None ≡ None) × (timeout_outcome self.old.state ring now ≡ (timed_out e, self.new.state))) }
+        ensures refused { IfErr result (λ r. (out_or (ring_out self.old ring) None ≡ Some r) × (self.new ≡ self.old)) }
+        ensures marks { self.new.marks ≡ self.old.marks }
+        ensures lawful { IsLawfulDevice self.new.state }
+        ensures grows { Grows self.old.state self.new.state }
+        ensures keeps { Keeps self.old.state self.new.state }
+    {
+        self.parts.timeout(ring, now)
+    }
+
+    /// Stops the entity (`drm_sched_entity_kill`). Its queued jobs stay, and end one after another as they are reaped.
+    pub fn cancel(&mut self, entity: EntityId) -> Result<(), Refusal>
+        requires there { entity < length self.old.state.spec.entities }
+        ensures stopped { OnOk result ((cancel_refusal self.old.state entity ≡ None) × (self.new.state ≡ cancelled_device self.old.state entity)) }
+        ensures refused { IfErr result (λ r. (cancel_refusal self.old.state entity ≡ Some r) × (self.new ≡ self.old)) }
+        ensures marks { self.new.marks ≡ self.old.marks }
+        ensures lawful { IsLawfulDevice self.new.state }
+        ensures grows { Grows self.old.state self.new.state }
+        ensures keeps { Keeps self.old.state self.new.state }
+    {
+        self.parts.cancel(entity)
+    }
+
+    /// Ends the first queued job of a stopped entity, once all that it waits for has ended
+    /// (`drm_sched_entity_kill_jobs_cb`).
+    pub fn reap(&mut self, entity: EntityId) -> Result<FenceId, Refusal>
+        requires there { entity < length self.old.state.spec.entities }
+        ensures reaped { IfOk result (λ f. (reap_refusal self.old.state entity ≡ None) × (reap_outcome self.old.state entity ≡ (answer.Reaped f, self.new.state))) }
+        ensures refused { IfErr result (λ r. (reap_refusal self.old.state entity ≡ Some r) × (self.new ≡ self.old)) }
+        ensures marks { self.new.marks ≡ self.old.marks }
+        ensures lawful { IsLawfulDevice self.new.state }
+        ensures grows { Grows self.old.state self.new.state }
+        ensures keeps { MatchResult result (λ f. KeepsBut f 4 self.old.state self.new.state) (λ r. Keeps self.old.state self.new.state) }
+    {
+        self.parts.reap(entity)
+    }
+
+    /// Arms the job, and adds its uses to the reservations that its context holds: they have those of all buffers that
+    /// the job declares, and the others stay as they are (`drm_sched_job_arm`, `drm_sched_entity_push_job` and
+    /// `dma_resv_add_fence`). The fences that the job names join what it waits for.
+    ///
+    /// # Errors
+    ///
+    /// The plan, given back, and why the device does not take the job: its entity is stopped, the device is full, or
+    /// the job names a fence that is not armed yet.
+    pub fn arm(&mut self, plan: Plan, held: &mut Held) -> Result<FenceId, (Plan, Refusal)>
+        requires job { IsJob self.old.state.spec plan.job }
+        requires covers { DepsCover self.old.state plan.job plan.deps }
+        requires room { HaveRoom plan.job held.old.items }
+        ensures armed { IfOk result (λ fence. (arm_refusal self.old.state plan.job ≡ None) × (fence ≡ length self.old.state.journal) × (self.new.state ≡ armed_device self.old.state plan.job)) }
+        ensures held { OnOk result (kept_of held.new.items ≡ armed_held self.old.state.journal plan.job (kept_of held.old.items)) }
+        ensures order { buffers_of held.new.items ≡ buffers_of held.old.items }
+        ensures fit { OnOk result (AllFit self.old.state.journal (kept_of held.old.items) → AllFit self.new.state.journal (kept_of held.new.items)) }
+        ensures refused { IfErr result (λ back. (arm_refusal self.old.state plan.job ≡ Some back.1) × (back.0 ≡ plan) × (self.new ≡ self.old) × (held.new ≡ held.old)) }
+        ensures marks { self.new.marks ≡ self.old.marks }
+        ensures lawful { IsLawfulDevice self.new.state }
+        ensures grows { Grows self.old.state self.new.state }
+        ensures keeps { IfOk result (λ fence. KeepsArmed plan.job fence self.old.state self.new.state) }
+    {
+        if let Some(refusal) = self.parts.table.arm_refusal(&plan.job) {
+            return Err((plan, refusal));
+        }
+        let fence = self.armed();
+        uses::add_held_uses(held, &plan.job, fence, &self.parts.table.fences);
+        Ok(self.parts.arm(plan))
+    }
+
+    /// Why the device does not take the job: its entity is stopped, the device is full, or the job names a fence that is
+    /// not armed yet.
+    pub fn arm_refusal(&self, job: &Job) -> Option<Refusal>
+        ensures { result ≡ arm_refusal self.now.state job.now }
+    {
+        self.parts.table.arm_refusal(job)
+    }
+
+    /// Arms the job of a plan that nothing refuses, for an owner of reservations that adds its uses to them itself
+    /// (`add_use`, with the number that `armed` tells before).
+    pub fn arm_job(&mut self, plan: Plan) -> FenceId
+        requires job { IsJob self.old.state.spec plan.job }
+        requires covers { DepsCover self.old.state plan.job plan.deps }
+        requires may { arm_refusal self.old.state plan.job ≡ None }
+        ensures number { result ≡ length self.old.state.journal }
+        ensures armed { self.new.state ≡ armed_device self.old.state plan.job }
+        ensures marks { self.new.marks ≡ self.old.marks }
+        ensures lawful { IsLawfulDevice self.new.state }
+        ensures grows { Grows self.old.state self.new.state }
+        ensures keeps { KeepsArmed plan.job result self.old.state self.new.state }
+    {
+        self.parts.arm(plan)
+    }
+
+    /// Copies the buffer's bytes, for one who holds its reservation, once every armed job that writes it has ended
+    /// (`dma_resv_test_signaled`). It takes no memory.
+    ///
+    /// # Errors
+    ///
+    /// `PacketOut` where the buffer is out, else `Busy`, with the least fence of the reservation's writers that has no
+    /// outcome. Then nothing is copied.
+    pub fn read_into(&self, buffer: BufferId, resv: &Resv, out: &mut [u8]) -> Result<(), Refusal>
+        requires buffer { buffer < length self.now.state.memory }
+        requires fits { Fits buffer self.now.state.journal resv.now.kept }
+        requires size { length out.old ≡ length (bytes_of self.now.state.memory buffer) }
+        ensures read { OnOk result ((is_out self.now buffer ≡ false) × (busy_fence self.now.state.journal resv.now.kept ≡ None) × (out.new ≡ bytes_of self.now.state.memory buffer)) }
+        ensures writers { OnOk result (HaveEnded buffer self.now.state.journal) }
+        ensures busy { IfErr result (λ r. (out_or (is_out self.now buffer) (option_map refusal.Busy (busy_fence self.now.state.journal resv.now.kept)) ≡ Some r) × (out.new ≡ out.old)) }
+        ensures writing { IfErr result (λ r. is_out self.now buffer ≡ false → HaveEnded buffer self.now.state.journal → ⊥) }
+    {
+        if self.parts.table.memory.is_out(buffer) {
+            return Err(Refusal::PacketOut);
+        }
+        match self.parts.table.busy_fence(resv) {
+            Some(fence) => Err(Refusal::Busy { fence }),
+            None => {
+                out.copy_from_slice(self.bytes(buffer));
+                Ok(())
+            }
+        }
+    }
+
+    /// The description that the device was built from, whose buffers it has. No event changes it.
+    pub fn spec(&self) -> &DeviceSpec
+        ensures value { result.now ≡ self.now.state.spec }
+        ensures buffers { length self.now.state.memory ≡ length self.now.state.spec.buffers }
+    {
+        &self.parts.table.spec
+    }
+
+    /// The bytes of the buffer, at this moment.
+    pub fn bytes(&self, buffer: BufferId) -> &[u8]
+        requires there { buffer < length self.now.state.memory }
+        requires inside { is_out self.now buffer ≡ false }
+        ensures { result.now ≡ bytes_of self.now.state.memory buffer }
+    {
+        self.parts.table.memory.bytes(buffer)
+    }
+
+    /// The status of the job's finished fence (`dma_fence_get_status`), as `Phase::status` tells it. `None` where no
+    /// job of this number is armed.
+    pub fn status(&self, fence: FenceId) -> Option<i32>
+        ensures { MatchOption result (slice_get self.now.state.journal fence ≡ None) (λ s. option_map (λ r. status_of r.phase) (slice_get self.now.state.journal fence) ≡ Some s) }
+    {
+        match self.parts.table.journal.get(fence as usize) {
+            Some(record) => Some(record.phase.status()),
+            None => None,
+        }
+    }
+
+    /// The finished fences of the armed jobs, by number: what a reservation's entries are looked up in.
+    pub fn fences(&self) -> &Timeline
+        ensures { result.now.list ≡ map fence_state_of self.now.state.journal }
+    {
+        &self.parts.table.fences
+    }
+
+    /// How many jobs were armed: the number that the next one gets.
+    pub fn armed(&self) -> u32
+        ensures { result ≡ length self.now.state.journal }
+    {
+        self.parts.table.journal.len() as u32
+    }
+
+    /// How many jobs have an outcome: their finished fences are signaled (`dma_fence_is_signaled`).
+    pub fn ended(&self) -> u32
+        ensures { result ≡ length (filter (λ r. has_ended r.phase) self.now.state.journal) }
+    {
+        self.parts.table.loads.ended
+    }
+
+    /// What holds of every device at every moment, for a caller that keeps more over it and has changed it. The call does
+    /// nothing.
+    pub fn facts(&self)
+        ensures steady { IsSteady self.now.state }
+        ensures limits { spec_fault self.now.state.spec ≡ None }
+        ensures sizes { sizes_of self.now.state.memory ≡ sizes_of self.now.state.spec.buffers }
+        ensures marked { IsSteadyMarked self.now }
+    {
+        let _spec = &self.parts.table.spec;
+    }
+
+    /// How many jobs are queued for the ring or pending on it: those of its records that have no outcome (the `score`
+    /// of a `drm_gpu_scheduler`, by which `drm_sched_pick_best` chooses).
+    pub fn load(&self, ring: RingId) -> u32
+        requires there { ring < length self.now.state.spec.rings }
+        ensures { result ≡ load_of self.now.state.journal ring }
+    {
+        self.parts.table.load(ring)
+    }
+
+    /// What is known of the job of this number, where it is armed.
+    pub fn record(&self, fence: FenceId) -> Option<&JobRecord>
+        ensures { MatchOption result (slice_get self.now.state.journal fence ≡ None) (λ r. slice_get self.now.state.journal fence ≡ Some r.now) }
+    {
+        self.parts.table.journal.as_slice().get(fence as usize)
+    }
+
+    /// Takes the device apart (`drm_sched_fini`), and takes no memory. A buffer that is out is still with who runs its
+    /// packet: the bytes that are left show it as it went out.
+    pub fn close(self) -> Closed
+        ensures left { (result.spec ≡ self.state.spec) × (result.records ≡ self.state.journal) × (result.buffers.bytes ≡ self.state.memory) }
+        ensures out { (b : ℕ) → b < length self.state.memory → is_out_of result.buffers b ≡ is_out self b }
+        ensures inside { (b : ℕ) → b < length self.state.memory → is_out self b ≡ false → slice_get result.buffers.out b ≡ Some false }
+        ensures lawful { IsLawfulDevice self.state }
+        ensures limits { spec_fault self.state.spec ≡ None }
+        ensures sizes { sizes_of self.state.memory ≡ sizes_of self.state.spec.buffers }
+    {
+        let Device { parts } = self;
+        let MarkedTable { table, .. } = parts;
+        let Table {
+            spec,
+            memory,
+            journal,
+            ..
+        } = table;
+        Closed {
+            spec,
+            records: Sequence::from_vec(journal),
+            buffers: memory,
+        }
+    }
+}

@@ -1,0 +1,21 @@
+//! Laws over the definitions, on functions that do nothing.
+ghost use Rattle.drm_sched.specs.Chosen.{ChoiceIsLeast};
+ghost use Rattle.drm_sched.specs.Events.{DevicesStaySteady};
+ghost use Rattle.drm_sched.specs.Writers.{ReadsWaitForWriters};
+
+/// The job that a ring takes next is the least that may begin on it, by the priority of its entity and then by its
+/// number, and there is none exactly where none may begin.
+pub fn choice_is_least()
+    ensures { ChoiceIsLeast }
+{}
+
+/// A device opens steady, and each event that is not refused leads from a steady device to a steady one that the old one
+/// grew to; reservations that fitted its jobs go on to fit them.
+pub fn devices_stay_steady()
+    ensures { DevicesStaySteady }
+{}
+
+/// A read of a buffer has nothing to wait for exactly where every armed job that writes the buffer has its outcome.
+pub fn reads_wait_for_writers()
+    ensures { ReadsWaitForWriters }
+{}

@@ -1,0 +1,122 @@
+ghost use Rattle.std.specs.Prelude.{◌≡◌, ◌<◌, ◌==◌, not, length, OnOk, IfOk, IfErr, Some, None};
+ghost use Rattle.std.specs.List.{list_all};
+ghost use Rattle.drm_fence.specs.Phases.{has_ended};
+ghost use Rattle.drm_sched.specs.declared.answer.Answer.TheVariants as answer;
+ghost use Rattle.drm_sched.specs.Journal.{is_at};
+ghost use Rattle.drm_sched.specs.Ring.{is_stopped};
+ghost use Rattle.drm_sched.specs.Outcomes.{cancelled_device, reap_outcome};
+ghost use Rattle.drm_sched.specs.Refusals.{cancel_refusal, reap_refusal};
+ghost use Rattle.drm_sched.specs.Stopping.{may_end_after};
+ghost use Rattle.drm_sched.specs.Tables.{state_of, IsWhole};
+
+use crate::answer::Refusal;
+use crate::journal::JobRecord;
+use crate::running;
+use crate::table::Table;
+use drm_resv::Deps;
+use drm_types::{EntityId, FenceId, Outcome};
+
+// Whether the job is there and has its outcome.
+fn has_outcome(journal: &[JobRecord], fence: FenceId) -> bool
+    ensures { result ≡ is_at journal.now fence (λ r. has_ended r.phase) }
+{
+    match journal.get(fence as usize) {
+        Some(record) => record.phase.is_ended(),
+        None => false,
+    }
+}
+
+// Whether all these dependencies have outcomes.
+fn have_outcomes(journal: &[JobRecord], deps: &Deps) -> bool
+    ensures { result ≡ list_all (λ d. is_at journal.now d.1 (λ r. has_ended r.phase)) deps.now }
+{
+    deps.as_slice()
+        .iter()
+        .all(|dep| has_outcome(journal, dep.1))
+}
+
+// Whether the job is there and of the entity.
+fn is_of(journal: &[JobRecord], fence: FenceId, entity: EntityId) -> bool
+    ensures { result ≡ is_at journal.now fence (λ r. r.job.entity == entity) }
+{
+    match journal.get(fence as usize) {
+        Some(record) => record.job.entity() == entity,
+        None => false,
+    }
+}
+
+// Whether none of these jobs is of the entity.
+fn none_is_of(journal: &[JobRecord], pending: &[FenceId], entity: EntityId) -> bool
+    ensures { result ≡ list_all (λ f. not (is_at journal.now f (λ r. r.job.entity == entity))) pending.now }
+{
+    pending.iter().all(|fence| !is_of(journal, *fence, entity))
+}
+
+// Whether the jobs that the entity's first queued one waits for all have outcomes, and none of the entity is pending.
+fn may_end(journal: &[JobRecord], deps: &Deps, pending: &[FenceId], entity: EntityId) -> bool
+    ensures { result ≡ may_end_after journal.now deps.now pending.now entity }
+{
+    have_outcomes(journal, deps) && none_is_of(journal, pending, entity)
+}
+
+impl Table {
+    /// Whether the entity takes no jobs any more.
+    pub(crate) fn is_stopped(&self, entity: EntityId) -> bool
+        ensures { result ≡ is_stopped (state_of self.now) entity }
+    {
+        (entity as usize) < self.entities.len() && self.entities.is_stopped(entity)
+    }
+
+    /// Stops the entity (`drm_sched_entity_kill`). Its queued jobs stay, and end one after another as they are reaped.
+    pub(crate) fn cancel(&mut self, entity: EntityId) -> Result<(), Refusal>
+        requires there { entity < length self.old.spec.entities }
+        requires whole { IsWhole self.old }
+        ensures stopped { OnOk result ((cancel_refusal (state_of self.old) entity ≡ None) × (state_of self.new ≡ cancelled_device (state_of self.old) entity)) }
+        ensures refused { IfErr result (λ r. (cancel_refusal (state_of self.old) entity ≡ Some r) × (self.new ≡ self.old)) }
+        ensures whole { IsWhole self.new }
+        ensures out { self.new.memory.out ≡ self.old.memory.out }
+    {
+        if self.is_stopped(entity) {
+            return Err(Refusal::AlreadyStopped);
+        }
+        self.entities.stop(entity);
+        Ok(())
+    }
+
+    /// Ends the first queued job of a stopped entity, once all that it waits for has ended
+    /// (`drm_sched_entity_kill_jobs_cb`).
+    pub(crate) fn reap(&mut self, entity: EntityId) -> Result<FenceId, Refusal>
+        requires there { entity < length self.old.spec.entities }
+        requires whole { IsWhole self.old }
+        ensures reaped { IfOk result (λ f. (reap_refusal (state_of self.old) entity ≡ None) × (reap_outcome (state_of self.old) entity ≡ (answer.Reaped f, state_of self.new))) }
+        ensures refused { IfErr result (λ r. (reap_refusal (state_of self.old) entity ≡ Some r) × (self.new ≡ self.old)) }
+        ensures whole { IsWhole self.new }
+        ensures out { self.new.memory.out ≡ self.old.memory.out }
+    {
+        if !self.is_stopped(entity) {
+            return Err(Refusal::Nothing);
+        }
+        let Some(number) = self.entities.head(entity) else {
+            return Err(Refusal::Nothing);
+        };
+        let ring = self.journal[number as usize].ring;
+        let deps = &self.waits[number as usize];
+        if !may_end(
+            &self.journal,
+            deps,
+            &self.rings[ring as usize].pending,
+            entity,
+        ) {
+            return Err(Refusal::Waits);
+        }
+        running::end_job(
+            &mut self.journal,
+            &mut self.fences,
+            number,
+            Outcome::Stopped,
+        );
+        self.entities.pop(entity);
+        self.loads.end(ring);
+        Ok(number)
+    }
+}
