@@ -1,5 +1,6 @@
 /* A library to load before a program: counts its allocations, and refuses that of the number which the variable REFUSE
-   names, from 1. Where the variable COUNT names a file, the number of all allocations stands there afterwards. */
+   names, from 1; where MANY is set, so many from there on, and where STEP is set, each of that distance. Where the variable
+   COUNT names a file, the number of all allocations stands there afterwards. */
 #define _GNU_SOURCE
 #include <dlfcn.h>
 #include <errno.h>
@@ -20,16 +21,22 @@ static void tell(long number) {
     if (file >= 0 && pwrite(file, text, snprintf(text, sizeof text, "%ld\n", number), 0) < 0) abort();
 }
 
+static long number_in(const char *name, long otherwise) {
+    const char *word = getenv(name);
+    return word ? atol(word) : otherwise;
+}
+
 static int is_refused(void) {
-    static long refused = -1;
+    static long first = -1, many, step;
     static atomic_long seen;
     long number = ++seen;
-    if (refused < 0) {
-        const char *word = getenv("REFUSE");
-        refused = word ? atol(word) : 0;
+    if (first < 0) {
+        first = number_in("REFUSE", 0);
+        many = number_in("MANY", 1);
+        step = number_in("STEP", 1);
     }
     tell(number);
-    return number == refused;
+    return first > 0 && number >= first && (number - first) % step == 0 && (number - first) / step < many;
 }
 
 #define REAL(name) \

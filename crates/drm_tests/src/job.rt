@@ -403,33 +403,58 @@ const PAIRS: [Pair; 18] = [
     Pair(&[(0, Move)], &[(1, Move)], false),
 ];
 
+// Whether jobs that declare these buffers conflict.
+fn do_conflict(alloc: Global, spec: &DeviceSpec, pair: &Pair) -> Result<bool, Fail> {
+    let earlier = job(alloc, spec, pair.0)?;
+    let later = job(alloc, spec, pair.1)?;
+    Ok(conflicts(&earlier, &later))
+}
+
 #[test]
 fn jobs_that_conflict(rt: HostRuntime) -> Result<(), Fail> {
     let spec = sample(rt.alloc())?;
     for pair in PAIRS {
-        let earlier = job(rt.alloc(), &spec, pair.0)?;
-        let later = job(rt.alloc(), &spec, pair.1)?;
-        assert_eq!(rt; conflicts(&earlier, &later), pair.2, "{pair:?}");
+        assert_eq!(rt; do_conflict(rt.alloc(), &spec, &pair)?, pair.2, "{pair:?}");
     }
     Ok(())
+}
+
+const DECLARED: [(u32, Access); 2] = [(1, Read), (0, Write)];
+
+fn has_declared(declared: &[(BufferId, Access)]) -> bool {
+    declared
+        == [
+            (BufferId::new(1), Access::Read),
+            (BufferId::new(0), Access::Write),
+        ]
+        .as_slice()
+}
+
+fn lends_its_lists(job: &Job) -> bool {
+    (job.entity(), job.credits()) == (1, 3)
+        && has_declared(job.declared())
+        && job.after().is_empty()
+        && job.packets() == [Packet::Stall { resets: 2 }].as_slice()
+}
+
+fn tells_its_accesses(job: &Job) -> bool {
+    job.access_of(BufferId::new(0)) == Some(Access::Write)
+        && job.access_of(BufferId::new(2)).is_none()
+        && job.uses(BufferId::new(1))
+        && !job.uses(BufferId::new(2))
+}
+
+fn has_a_stall(job: &Job) -> bool {
+    job.packets().len() == 1 && job.packet(0) == Packet::Stall { resets: 2 }
 }
 
 #[test]
 fn jobs_lend_their_draft(rt: HostRuntime) -> Result<(), Fail> {
     let spec = sample(rt.alloc())?;
-    let job = job(rt.alloc(), &spec, &[(1, Read), (0, Write)])?;
-    let declared = [
-        (BufferId::new(1), Access::Read),
-        (BufferId::new(0), Access::Write),
-    ];
-    assert_eq!(rt; (job.entity(), job.credits()), (1, 3));
-    assert_eq!(rt; job.declared(), declared.as_slice());
-    assert_eq!(rt; job.after().len(), 0);
-    assert_eq!(rt; job.packets().len(), 1);
-    assert_eq!(rt; job.packet(0), Packet::Stall { resets: 2 });
-    assert_eq!(rt; job.access_of(BufferId::new(0)), Some(Access::Write));
-    assert_eq!(rt; job.access_of(BufferId::new(2)), None);
-    assert!(rt; job.uses(BufferId::new(1)) && !job.uses(BufferId::new(2)));
-    assert_eq!(rt; job.into_draft().declared.as_slice(), declared.as_slice());
+    let job = job(rt.alloc(), &spec, &DECLARED)?;
+    assert!(rt; lends_its_lists(&job));
+    assert!(rt; has_a_stall(&job));
+    assert!(rt; tells_its_accesses(&job));
+    assert!(rt; has_declared(job.into_draft().declared.as_slice()));
     Ok(())
 }

@@ -6,7 +6,7 @@ use crate::{add, buffers_of, device};
 use drm_job::{Draft, Job, check, jobs_run_in_their_device};
 use drm_serial::{Serial, Turn};
 use drm_types::{Access, BufferId, DeviceSpec, Sequence};
-use std::alloc::Global;
+use std::alloc::{AllocError, Global};
 use std::test::Fail;
 
 // A job that adds one buffer to the other, so many times.
@@ -39,28 +39,44 @@ fn adding_job(
     }
 }
 
-#[test]
-fn turns_run_in_order(rt: HostRuntime) -> Result<(), Fail> {
-    let spec = device(
-        rt.alloc(),
-        buffers_of(rt.alloc(), &[&[0], &[1]])?,
-        (1, 4),
-        1,
-        8,
-    )?;
-    let first = adding_job(rt.alloc(), &spec, 1, 0, 3)?;
-    let second = adding_job(rt.alloc(), &spec, 0, 1, 1)?;
+// What two packets of the first job and then one of the second leave.
+fn left_by(
+    alloc: Global,
+    spec: &DeviceSpec,
+    first: &Job,
+    second: &Job,
+) -> Result<Sequence<Sequence<u8>>, AllocError>
+    requires first { RunsIn spec.now.buffers first.now }
+    requires second { RunsIn spec.now.buffers second.now }
+{
     let turns = [
+        Turn { job: first, ran: 2 },
         Turn {
-            job: &first,
-            ran: 2,
-        },
-        Turn {
-            job: &second,
+            job: second,
             ran: 1,
         },
     ];
-    let buffers = Serial::run(rt.alloc(), &spec.buffers, &turns)?;
+    Serial::run(alloc, &spec.buffers, &turns)
+}
+
+// What is left where a second job adds the first buffer to the second.
+fn left_with(alloc: Global, spec: &DeviceSpec, first: &Job) -> Result<Sequence<Sequence<u8>>, Fail>
+    requires { RunsIn spec.now.buffers first.now }
+{
+    let second = adding_job(alloc, spec, 0, 1, 1)?;
+    Ok(left_by(alloc, spec, first, &second)?)
+}
+
+// Two buffers of a byte, and jobs that add one to the other: the first has three packets.
+fn two_jobs_run(alloc: Global) -> Result<Sequence<Sequence<u8>>, Fail> {
+    let spec = device(alloc, buffers_of(alloc, &[&[0], &[1]])?, (1, 4), 1, 8)?;
+    let first = adding_job(alloc, &spec, 1, 0, 3)?;
+    left_with(alloc, &spec, &first)
+}
+
+#[test]
+fn turns_run_in_order(rt: HostRuntime) -> Result<(), Fail> {
+    let buffers = two_jobs_run(rt.alloc())?;
     assert_eq!(rt; buffers.len(), 2);
     assert_eq!(rt; buffers.as_slice()[0].as_slice(), [2].as_slice());
     assert_eq!(rt; buffers.as_slice()[1].as_slice(), [3].as_slice());
