@@ -1,6 +1,7 @@
 //! The first words of lines.
 
 ghost use Rattle.std.specs.Prelude.{◌≡◌};
+ghost use Rattle.std.specs.Str.{bytes_eq};
 ghost use Rattle.drm_text.specs.Keywords.{keyword_text, command_text, guess_of, keyword_of};
 
 /// The first word of a line of a text. Each but `Command` is spelled as its name, in lower case.
@@ -125,6 +126,22 @@ fn guess(second: u8, last: u8) -> Keyword
     }
 }
 
+/// Whether the word is this one. Words are short, so that to compare them byte by byte costs less than a call.
+#[inline]
+pub fn is_word(word: &[u8], known: &[u8]) -> bool
+    ensures { result ≡ bytes_eq word.now known.now }
+{
+    if word.len() != known.len() {
+        return false;
+    }
+    for at in 0..known.len() {
+        if word[at] != known[at] {
+            return false;
+        }
+    }
+    true
+}
+
 /// The line that begins with this word.
 pub fn read_keyword(word: &[u8]) -> Option<Keyword>
     ensures { result ≡ keyword_of word.now }
@@ -133,7 +150,7 @@ pub fn read_keyword(word: &[u8]) -> Option<Keyword>
         return None;
     }
     let keyword = guess(word[1], word[word.len() - 1]);
-    if word == text_of(keyword) {
+    if is_word(word, text_of(keyword)) {
         Some(keyword)
     } else {
         None
