@@ -106,11 +106,11 @@ fn read_fill(pieces: &mut Parts) -> Option<Option<Packet>>
     let offset = next_number(pieces)?;
     let len = next_number(pieces)?;
     let byte = last_byte(pieces)?;
-    Some(fill(buffer, offset, len, byte))
+    Some(make_fill(buffer, offset, len, byte))
 }
 
 /// The packet of these fields, if each is spelled.
-fn fill(
+fn make_fill(
     buffer: Option<u32>,
     offset: Option<u32>,
     len: Option<u32>,
@@ -137,11 +137,11 @@ fn read_route(pieces: &mut Parts) -> Option<Option<Route>>
     let target = next_number(pieces)?;
     let target_offset = next_number(pieces)?;
     let len = last_number(pieces)?;
-    Some(route(source, source_offset, target, target_offset, len))
+    Some(make_route(source, source_offset, target, target_offset, len))
 }
 
 /// The route of these fields, if each is spelled.
-fn route(
+fn make_route(
     source: Option<u32>,
     source_offset: Option<u32>,
     target: Option<u32>,
