@@ -1,6 +1,6 @@
 //! Answers as text.
 
-ghost use Rattle.std.specs.Prelude.{◌≡◌, ◌<◌, ◌++◌, ◌∷◌, [], ℕ, codes, decimal, map, IfOk, OnOk};
+ghost use Rattle.std.specs.Prelude.{◌≡◌, ◌<◌, ◌≤◌, ◌++◌, ◌∷◌, [], ℕ, codes, decimal, map, IfOk, OnOk};
 ghost use Rattle.drm_script.specs.Answers.{separated, numbers, number_of_list, numbers_of_fault, numbers_of_refusal, text_of_pick, text_of_outcome, words_of, line_of, text_of_answers};
 
 use drm_core::{Answer, Refusal};
@@ -19,6 +19,17 @@ fn put_digit(out: &mut Vec<u8>, digit: u64) -> Result<(), AllocError>
     Ok(())
 }
 
+/// A number of two digits.
+#[tactic(auto, using(crate::proofs::ShortNumbers::two_digits))]
+fn put_two_digits(out: &mut Vec<u8>, value: u64) -> Result<(), AllocError>
+    requires least { 10 ≤ value }
+    requires most { value < 100 }
+    ensures { OnOk result (out.new.items ≡ out.old.items ++ decimal value) }
+{
+    put_digit(out, value / 10)?;
+    put_digit(out, value % 10)
+}
+
 /// A number of any length. Its digits are put one by one.
 fn put_digits(out: &mut Vec<u8>, value: u64) -> Result<(), AllocError>
     ensures { OnOk result (out.new.items ≡ out.old.items ++ decimal value) }
@@ -31,12 +42,15 @@ fn put_digits(out: &mut Vec<u8>, value: u64) -> Result<(), AllocError>
     Ok(())
 }
 
-/// A number. Most have one digit.
+/// A number. Most have one or two digits.
 pub fn put_decimal(out: &mut Vec<u8>, value: u64) -> Result<(), AllocError>
     ensures { OnOk result (out.new.items ≡ out.old.items ++ decimal value) }
 {
     if value < 10 {
         return put_digit(out, value);
+    }
+    if value < 100 {
+        return put_two_digits(out, value);
     }
     put_digits(out, value)
 }

@@ -71,7 +71,7 @@ fn last_number(pieces: &mut Parts) -> Option<Option<u32>>
 {
     let number = next_number(pieces)?;
     match pieces.next() {
-        Some(_) => None,
+        Some(_further) => None,
         None => Some(number),
     }
 }

@@ -63,6 +63,7 @@ impl<'a> Line<'a> {
     }
 
     /// The first word of the line, and its other words.
+    #[inline(always)]
     #[tactic(auto, unfolding(crate::specs::Lines::start_at))]
     pub fn start(&self) -> Result<(Keyword, Words<'a>), Fault>
         ensures { Reads (λ start. start) result (start_at self.now.number self.now.bytes) }
