@@ -48,8 +48,8 @@ fn read_kind(word: &[u8]) -> Option<Kind>
 fn next_number(pieces: &mut Parts) -> Option<Option<u32>>
     ensures { option_map (λ n. (n, pieces.new.parts)) result ≡ number_first pieces.old.parts }
 {
-    let piece = pieces.next()?;
-    match read_number(piece, u64::from(u32::MAX)) {
+    let (_, number) = pieces.next_number(u64::from(u32::MAX))?;
+    match number {
         Some(n) => Some(Some(n as u32)),
         None => Some(None),
     }
