@@ -6,7 +6,9 @@ pub mod CommandReaders
 pub mod HeaderReaders
 pub mod JobReaders
 pub mod PacketReaders
+pub mod InTurn
 pub mod Records
 pub mod RingLists
 pub mod ScriptReaders
 pub mod CoreJournal
+pub mod ShortNumbers

@@ -78,6 +78,48 @@ route_of fields =
     number_up_to (2 ^ 32 - 1) fields.4 >>+ λ len.
     Some (record { source = source; source_offset = source_offset; target = target; target_offset = target_offset; len = len })
 
+-- the first piece as a number, which it may not spell, and the others
+abbrev pub number_first : List (List ℕ) → Option (Option ℕ × List (List ℕ))
+number_first [] = None
+number_first (piece ∷ rest) = Some (number_up_to (2 ^ 32 - 1) piece, rest)
+
+-- the element of a list that has one, as a number or as a byte, which it may not spell
+unfoldable pub number_alone : List (List ℕ) → Option (Option ℕ)
+number_alone pieces = one_of pieces >>+ λ piece. Some (number_up_to (2 ^ 32 - 1) piece)
+
+unfoldable pub byte_alone : List (List ℕ) → Option (Option ℕ)
+byte_alone pieces = one_of pieces >>+ λ piece. Some (byte_of piece)
+
+-- the packet of these fields, where each is spelled
+abbrev pub fill_from : Option ℕ → Option ℕ → Option ℕ → Option ℕ → Option Packet
+fill_from buffer offset len byte = buffer >>+ λ b. offset >>+ λ o. len >>+ λ l. byte >>+ λ v. Some (Fill b o l v)
+
+-- what the pieces of a `fill` spell, one after another. It is none where they are not four, and else what `fill_of` says
+unfoldable pub fill_in_turn : List (List ℕ) → Option (Option Packet)
+fill_in_turn pieces =
+    number_first pieces >>+ λ buffer.
+    number_first buffer.1 >>+ λ offset.
+    number_first offset.1 >>+ λ len.
+    byte_alone len.1 >>+ λ byte.
+    Some (fill_from buffer.0 offset.0 len.0 byte)
+
+-- the route of these fields, where each is spelled
+abbrev pub route_from : Option ℕ → Option ℕ → Option ℕ → Option ℕ → Option ℕ → Option Route
+route_from source source_offset target target_offset len =
+    source >>+ λ s. source_offset >>+ λ so. target >>+ λ t. target_offset >>+ λ to. len >>+ λ l.
+    Some (record { source = s; source_offset = so; target = t; target_offset = to; len = l })
+
+-- what the pieces of a `copy` or an `add` spell, one after another. It is none where they are not five, and else what
+-- `route_of` says
+unfoldable pub route_in_turn : List (List ℕ) → Option (Option Route)
+route_in_turn pieces =
+    number_first pieces >>+ λ source.
+    number_first source.1 >>+ λ source_offset.
+    number_first source_offset.1 >>+ λ target.
+    number_first target.1 >>+ λ target_offset.
+    number_alone target_offset.1 >>+ λ len.
+    Some (route_from source.0 source_offset.0 target.0 target_offset.0 len)
+
 abbrev pub copy_of : Route → Packet
 copy_of route = Copy route.source route.source_offset route.target route.target_offset route.len
 

@@ -1,6 +1,6 @@
 //! Answers as text.
 
-ghost use Rattle.std.specs.Prelude.{◌≡◌, ◌++◌, ◌∷◌, [], ℕ, codes, decimal, map, IfOk, OnOk};
+ghost use Rattle.std.specs.Prelude.{◌≡◌, ◌<◌, ◌≤◌, ◌++◌, ◌∷◌, [], ℕ, codes, decimal, map, IfOk, OnOk};
 ghost use Rattle.drm_script.specs.Answers.{separated, numbers, number_of_list, numbers_of_fault, numbers_of_refusal, text_of_pick, text_of_outcome, words_of, line_of, text_of_answers};
 
 use drm_core::{Answer, Refusal};
@@ -9,8 +9,29 @@ use drm_text::put_bytes;
 use drm_types::Outcome;
 use std::alloc::{AllocError, Global};
 
-/// A number. Most are short, so their digits are put one by one.
-pub fn put_decimal(out: &mut Vec<u8>, value: u64) -> Result<(), AllocError>
+/// A number of one digit.
+#[tactic(auto, using(crate::proofs::ShortNumbers::one_digit))]
+fn put_digit(out: &mut Vec<u8>, digit: u64) -> Result<(), AllocError>
+    requires { digit < 10 }
+    ensures { OnOk result (out.new.items ≡ out.old.items ++ decimal digit) }
+{
+    out.push(b'0' + digit as u8)?;
+    Ok(())
+}
+
+/// A number of two digits.
+#[tactic(auto, using(crate::proofs::ShortNumbers::two_digits))]
+fn put_two_digits(out: &mut Vec<u8>, value: u64) -> Result<(), AllocError>
+    requires least { 10 ≤ value }
+    requires most { value < 100 }
+    ensures { OnOk result (out.new.items ≡ out.old.items ++ decimal value) }
+{
+    put_digit(out, value / 10)?;
+    put_digit(out, value % 10)
+}
+
+/// A number of any length. Its digits are put one by one.
+fn put_digits(out: &mut Vec<u8>, value: u64) -> Result<(), AllocError>
     ensures { OnOk result (out.new.items ≡ out.old.items ++ decimal value) }
 {
     let mut buffer = itoa::Buffer::new();
@@ -19,6 +40,19 @@ pub fn put_decimal(out: &mut Vec<u8>, value: u64) -> Result<(), AllocError>
         out.push(*digit)?;
     }
     Ok(())
+}
+
+/// A number. Most have one or two digits.
+pub fn put_decimal(out: &mut Vec<u8>, value: u64) -> Result<(), AllocError>
+    ensures { OnOk result (out.new.items ≡ out.old.items ++ decimal value) }
+{
+    if value < 10 {
+        return put_digit(out, value);
+    }
+    if value < 100 {
+        return put_two_digits(out, value);
+    }
+    put_digits(out, value)
 }
 
 /// A word, and numbers behind it, each after the separator.

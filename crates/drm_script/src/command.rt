@@ -7,7 +7,7 @@ ghost use Rattle.drm_script.specs.Commands.{context_and_buffer_at, ring_and_mome
 
 use crate::job::read_job;
 use drm_core::Event;
-use drm_text::{Command, Fault, Keyword, ReadError, Words, order_fault, read_start};
+use drm_text::{Command, Fault, Keyword, Line, ReadError, Words, order_fault};
 use drm_types::{BufferId, CtxId, DeviceSpec, Moment, RingId};
 use std::alloc::Global;
 
@@ -152,14 +152,12 @@ fn find_command(keyword: Keyword) -> Option<Command>
 pub fn read_event_line(
     alloc: Global,
     spec: &DeviceSpec,
-    line: u32,
-    bytes: &[u8],
+    line: &Line,
 ) -> Result<Event, ReadError>
-    requires { length bytes.now ≤ 1048576 }
-    ensures value { Gives (λ event. event) result (event_line spec.now line bytes.now) }
+    ensures value { Gives (λ event. event) result (event_line spec.now line.now.number line.now.bytes) }
     ensures exist { IfOk result (λ event. IsTrue (names_exist spec.now event)) }
 {
-    let (keyword, mut words) = read_start(line, bytes)?;
-    let command = find_command(keyword).ok_or(order_fault(line))?;
+    let (keyword, mut words) = line.start()?;
+    let command = find_command(keyword).ok_or(order_fault(line.number()))?;
     read_event(alloc, spec, command, &mut words)
 }

@@ -6,8 +6,8 @@ ghost use Rattle.drm_text.specs.Reading.{Reads, Gives, or_fault};
 ghost use Rattle.drm_script.specs.Header.{priority_of, section_of, follows, section_after, is_open, ring_at, rings_of, rings_at, entity_at, checked_device, with_header_words, header_line, header_at};
 
 use drm_text::{
-    Fault, Keyword, Lines, Parts, ReadError, TextFault, Words, order_fault, read_last_bytes,
-    read_number, read_start,
+    Fault, Keyword, Line, Lines, Parts, ReadError, TextFault, Words, order_fault, read_last_bytes,
+    read_number,
 };
 use drm_types::{DeviceSpec, EntitySpec, Priority, RingId, RingSpec, Sequence};
 use std::alloc::Global;
@@ -175,14 +175,12 @@ fn add_header_line(
     alloc: Global,
     spec: &mut DeviceSpec,
     last: Section,
-    line: u32,
-    bytes: &[u8],
+    line: &Line,
 ) -> Result<Section, ReadError>
-    requires { length bytes.now ≤ 1048576 }
-    ensures value { Gives (λ section. (spec.new, section)) result (header_line spec.old last line bytes.now) }
+    ensures value { Gives (λ section. (spec.new, section)) result (header_line spec.old last line.now.number line.now.bytes) }
 {
-    let (keyword, mut words) = read_start(line, bytes)?;
-    let section = last.after(keyword).ok_or(order_fault(line))?;
+    let (keyword, mut words) = line.start()?;
+    let section = last.after(keyword).ok_or(order_fault(line.number()))?;
     add_header_words(alloc, spec, keyword, &mut words)?;
     Ok(section)
 }
@@ -200,15 +198,13 @@ pub fn read_header(alloc: Global, lines: &mut Lines) -> Result<DeviceSpec, ReadE
         max_jobs: 0,
     };
     let mut section = Section::Buffers;
-    let mut line = lines.number();
-    while let Some(bytes) = lines.next() {
-        section = add_header_line(alloc, &mut spec, section, line, bytes)?;
+    while let Some(line) = lines.next() {
+        section = add_header_line(alloc, &mut spec, section, &line)?;
         if section == Section::Open {
             check_device(&spec)?;
             return Ok(spec);
         }
-        line = lines.number();
     }
     lines.end()?;
-    Err(ReadError::Fault(order_fault(line)))
+    Err(ReadError::Fault(order_fault(lines.number())))
 }

@@ -4,11 +4,13 @@ ghost use Rattle.std.specs.Prelude.{◌≡◌, ◌≤◌, ◌==◌, [], length};
 ghost use Rattle.std.specs.List.{list_any};
 ghost use Rattle.std.specs.Option.{option_map};
 ghost use Rattle.drm_text.specs.Reading.{Reads, Gives};
-ghost use Rattle.drm_script.specs.Job.{kind_of, four_of, five_of, one_of, route_of, fill_of, fill_at, route_at, copy_at, add_at, stall_at, packet_at, is_late, tail_at, with_item, with_word, with_words, job_at};
+ghost use Rattle.drm_script.specs.Job.{kind_of, one_of, number_first, byte_alone, number_alone, fill_from, fill_in_turn, route_from, route_in_turn, fill_at, route_at, copy_at, add_at, stall_at, packet_at, is_late, tail_at, with_item, with_word, with_words, job_at};
 
 use drm_job::Draft;
 use drm_packet::Packet;
-use drm_text::{Fault, Parts, Position, ReadError, TextFault, Words, read_byte, read_number};
+use drm_text::{
+    Fault, Parts, Position, ReadError, TextFault, Words, is_word, read_byte, read_number,
+};
 use drm_types::{Access, BufferId, Sequence};
 use std::alloc::Global;
 
@@ -42,51 +44,35 @@ fn read_kind(word: &[u8]) -> Option<Kind>
     }
 }
 
-/// All the pieces that are left, if they are four.
-#[tactic(auto, unfolding(crate::specs::Job::four_of))]
-fn four<'a>(pieces: &mut Parts<'a>) -> Option<(&'a [u8], &'a [u8], &'a [u8], &'a [u8])>
-    ensures { option_map (λ f. (f.0.now, f.1.now, f.2.now, f.3.now)) result ≡ four_of pieces.old.parts }
+/// The next piece as a number, if a piece is left. It may spell none.
+fn next_number(pieces: &mut Parts) -> Option<Option<u32>>
+    ensures { option_map (λ n. (n, pieces.new.parts)) result ≡ number_first pieces.old.parts }
 {
-    let first = pieces.next()?;
-    let second = pieces.next()?;
-    let third = pieces.next()?;
-    let fourth = pieces.next()?;
-    match pieces.next() {
-        Some(_) => None,
-        None => Some((first, second, third, fourth)),
+    let (_, number) = pieces.next_number(u64::from(u32::MAX))?;
+    match number {
+        Some(n) => Some(Some(n as u32)),
+        None => Some(None),
     }
 }
 
-#[tactic(auto, unfolding(crate::specs::Job::fill_of))]
-fn read_fill(buffer: &[u8], offset: &[u8], len: &[u8], byte: &[u8]) -> Option<Packet>
-    ensures { result ≡ fill_of (buffer.now, offset.now, len.now, byte.now) }
+/// The last piece as a byte, if one piece is left. It may spell none.
+#[tactic(auto, unfolding(crate::specs::Job::byte_alone))]
+fn last_byte(pieces: &mut Parts) -> Option<Option<u8>>
+    ensures { result ≡ byte_alone pieces.old.parts }
 {
-    let most = u64::from(u32::MAX);
-    let buffer = read_number(buffer, most)?;
-    let offset = read_number(offset, most)?;
-    let len = read_number(len, most)?;
-    let byte = read_byte(byte)?;
-    Some(Packet::Fill {
-        buffer: BufferId::new(buffer as u32),
-        offset: offset as u32,
-        len: len as u32,
-        byte,
-    })
+    let piece = one(pieces)?;
+    Some(read_byte(piece))
 }
 
-/// All the pieces that are left, if they are five.
-#[tactic(auto, unfolding(crate::specs::Job::five_of))]
-fn five<'a>(pieces: &mut Parts<'a>) -> Option<(&'a [u8], &'a [u8], &'a [u8], &'a [u8], &'a [u8])>
-    ensures { option_map (λ f. (f.0.now, f.1.now, f.2.now, f.3.now, f.4.now)) result ≡ five_of pieces.old.parts }
+/// The last piece as a number, if one piece is left. It may spell none.
+#[tactic(auto, unfolding(crate::specs::Job::number_alone))]
+fn last_number(pieces: &mut Parts) -> Option<Option<u32>>
+    ensures { result ≡ number_alone pieces.old.parts }
 {
-    let first = pieces.next()?;
-    let second = pieces.next()?;
-    let third = pieces.next()?;
-    let fourth = pieces.next()?;
-    let fifth = pieces.next()?;
+    let number = next_number(pieces)?;
     match pieces.next() {
-        Some(_) => None,
-        None => Some((first, second, third, fourth, fifth)),
+        Some(_further) => None,
+        None => Some(number),
     }
 }
 
@@ -111,49 +97,82 @@ struct Route {
     len: u32,
 }
 
-#[tactic(auto, unfolding(crate::specs::Job::route_of))]
-fn read_route(
-    source: &[u8],
-    source_offset: &[u8],
-    target: &[u8],
-    target_offset: &[u8],
-    len: &[u8],
-) -> Option<Route>
-    ensures { result ≡ route_of (source.now, source_offset.now, target.now, target_offset.now, len.now) }
+/// What the pieces of a `fill` spell, each cut and read before the next, if they are four. They may spell none.
+#[tactic(auto, unfolding(crate::specs::Job::fill_in_turn))]
+fn read_fill(pieces: &mut Parts) -> Option<Option<Packet>>
+    ensures { result ≡ fill_in_turn pieces.old.parts }
 {
-    let most = u64::from(u32::MAX);
-    let source = read_number(source, most)?;
-    let source_offset = read_number(source_offset, most)?;
-    let target = read_number(target, most)?;
-    let target_offset = read_number(target_offset, most)?;
-    let len = read_number(len, most)?;
-    Some(Route {
-        source: BufferId::new(source as u32),
-        source_offset: source_offset as u32,
-        target: BufferId::new(target as u32),
-        target_offset: target_offset as u32,
-        len: len as u32,
+    let buffer = next_number(pieces)?;
+    let offset = next_number(pieces)?;
+    let len = next_number(pieces)?;
+    let byte = last_byte(pieces)?;
+    Some(make_fill(buffer, offset, len, byte))
+}
+
+/// The packet of these fields, if each is spelled.
+fn make_fill(
+    buffer: Option<u32>,
+    offset: Option<u32>,
+    len: Option<u32>,
+    byte: Option<u8>,
+) -> Option<Packet>
+    ensures { result ≡ fill_from buffer offset len byte }
+{
+    Some(Packet::Fill {
+        buffer: BufferId::new(buffer?),
+        offset: offset?,
+        len: len?,
+        byte: byte?,
     })
 }
 
-#[tactic(auto, unfolding(crate::specs::Job::fill_at))]
+/// What the pieces of a `copy` or an `add` spell, each cut and read before the next, if they are five. They may spell
+/// none.
+#[tactic(auto, unfolding(crate::specs::Job::route_in_turn))]
+fn read_route(pieces: &mut Parts) -> Option<Option<Route>>
+    ensures { result ≡ route_in_turn pieces.old.parts }
+{
+    let source = next_number(pieces)?;
+    let source_offset = next_number(pieces)?;
+    let target = next_number(pieces)?;
+    let target_offset = next_number(pieces)?;
+    let len = last_number(pieces)?;
+    Some(make_route(source, source_offset, target, target_offset, len))
+}
+
+/// The route of these fields, if each is spelled.
+fn make_route(
+    source: Option<u32>,
+    source_offset: Option<u32>,
+    target: Option<u32>,
+    target_offset: Option<u32>,
+    len: Option<u32>,
+) -> Option<Route>
+    ensures { result ≡ route_from source source_offset target target_offset len }
+{
+    Some(Route {
+        source: BufferId::new(source?),
+        source_offset: source_offset?,
+        target: BufferId::new(target?),
+        target_offset: target_offset?,
+        len: len?,
+    })
+}
+
+#[tactic(auto, using(crate::proofs::InTurn::fill_is_in_turn))]
 fn read_fill_pieces(position: Position, pieces: &mut Parts) -> Result<Packet, Fault>
     ensures { Reads (λ p. p) result (fill_at position pieces.old.parts) }
 {
-    let (buffer, offset, len, byte) = four(pieces).ok_or(position.fault(TextFault::Word))?;
-    read_fill(buffer, offset, len, byte).ok_or(position.fault(TextFault::Number))
+    let packet = read_fill(pieces).ok_or(position.fault(TextFault::Word))?;
+    packet.ok_or(position.fault(TextFault::Number))
 }
 
-#[tactic(auto, unfolding(crate::specs::Job::route_at))]
+#[tactic(auto, using(crate::proofs::InTurn::route_is_in_turn))]
 fn read_route_pieces(position: Position, pieces: &mut Parts) -> Result<Route, Fault>
     ensures { Reads (λ r. r) result (route_at position pieces.old.parts) }
 {
-    let (source, source_offset, target, target_offset, len) = five(pieces).ok_or(position.fault(
-        TextFault::Word,
-    ))?;
-    read_route(source, source_offset, target, target_offset, len).ok_or(position.fault(
-        TextFault::Number,
-    ))
+    let route = read_route(pieces).ok_or(position.fault(TextFault::Word))?;
+    route.ok_or(position.fault(TextFault::Number))
 }
 
 fn read_copy(position: Position, pieces: &mut Parts) -> Result<Packet, Fault>
@@ -200,16 +219,16 @@ fn read_packet(position: Position, word: &[u8]) -> Result<Packet, Fault>
 {
     let mut pieces = Parts::new(word, b':');
     let name = pieces.next().ok_or(position.fault(TextFault::Word))?;
-    if name == b"fill".as_slice() {
+    if is_word(name, b"fill") {
         return read_fill_pieces(position, &mut pieces);
     }
-    if name == b"copy".as_slice() {
+    if is_word(name, b"copy") {
         return read_copy(position, &mut pieces);
     }
-    if name == b"add".as_slice() {
+    if is_word(name, b"add") {
         return read_add(position, &mut pieces);
     }
-    if name == b"stall".as_slice() {
+    if is_word(name, b"stall") {
         return read_stall(position, &mut pieces);
     }
     Err(position.fault(TextFault::Word))

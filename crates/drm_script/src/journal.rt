@@ -12,8 +12,8 @@ use crate::header::read_header;
 use crate::job::read_job;
 use drm_job::{Draft, Job, check};
 use drm_text::{
-    Command, Fault, Keyword, Lines, MAX_TEXT, ReadError, TextFault, Words, order_fault,
-    read_bytes_word, read_start,
+    Command, Fault, Keyword, Line, Lines, MAX_TEXT, ReadError, TextFault, Words, order_fault,
+    read_bytes_word,
 };
 use drm_types::{DeviceSpec, FenceId, Outcome, Sequence};
 use std::alloc::Global;
@@ -300,16 +300,14 @@ fn add_line(
     alloc: Global,
     spec: &DeviceSpec,
     reading: &mut Reading,
-    line: u32,
-    bytes: &[u8],
+    line: &Line,
 ) -> Result<(), ReadError>
-    requires room { length bytes.now ≤ 1048576 }
-    requires read { IsRead spec.now reading.old }
-    ensures value { Gives (λ _. reading.new) result (journal_line spec.now reading.old line bytes.now) }
+    requires { IsRead spec.now reading.old }
+    ensures value { Gives (λ _. reading.new) result (journal_line spec.now reading.old line.now.number line.now.bytes) }
     ensures read { OnOk result (IsRead spec.now reading.new) }
 {
-    let (keyword, mut words) = read_start(line, bytes)?;
-    add_body(alloc, spec, reading, keyword, &mut words, line)
+    let (keyword, mut words) = line.start()?;
+    add_body(alloc, spec, reading, keyword, &mut words, line.number())
 }
 
 /// What the lines that are left tell.
@@ -323,14 +321,12 @@ fn read_body(alloc: Global, spec: &DeviceSpec, lines: &mut Lines) -> Result<Read
         finals: Sequence::new(alloc),
         is_over: false,
     };
-    let mut line = lines.number();
-    while let Some(bytes) = lines.next() {
-        add_line(alloc, spec, &mut reading, line, bytes)?;
-        line = lines.number();
+    while let Some(line) = lines.next() {
+        add_line(alloc, spec, &mut reading, &line)?;
     }
     lines.end()?;
     if !reading.is_over {
-        return Err(ReadError::Fault(order_fault(line)));
+        return Err(ReadError::Fault(order_fault(lines.number())));
     }
     Ok(reading)
 }

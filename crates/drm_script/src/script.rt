@@ -34,10 +34,8 @@ fn read_events(
     ensures exist { IfOk result (λ events. AllNamesExist spec.now events) }
 {
     let mut events = Sequence::new(alloc);
-    let mut line = lines.number();
-    while let Some(bytes) = lines.next() {
-        events.push(read_event_line(alloc, spec, line, bytes)?)?;
-        line = lines.number();
+    while let Some(line) = lines.next() {
+        events.push(read_event_line(alloc, spec, &line)?)?;
     }
     lines.end()?;
     Ok(events)

@@ -1,5 +1,5 @@
 use crate::fault_at;
-use drm_text::{Command, Keyword, TextFault, read_keyword, read_start};
+use drm_text::{Command, Keyword, Line, TextFault, is_word, read_keyword};
 
 #[test]
 fn first_words_are_known(rt: HostRuntime) {
@@ -17,8 +17,14 @@ fn other_first_words_are_not(rt: HostRuntime) {
 }
 
 #[test]
+fn words_are_compared_whole(rt: HostRuntime) {
+    assert!(rt; is_word(b"fill", b"fill") && is_word(b"", b""));
+    assert!(rt; !is_word(b"fil", b"fill") && !is_word(b"fills", b"fill") && !is_word(b"full", b"fill"));
+}
+
+#[test]
 fn starts_of_lines(rt: HostRuntime) {
-    match read_start(4, b"pick 0 9") {
+    match Line::new(4, b"pick 0 9").start() {
         Ok((keyword, mut words)) => {
             assert!(rt; matches!(keyword, Keyword::Command(Command::Pick)));
             assert_eq!(rt; words.number(0), Ok(0));
@@ -26,5 +32,5 @@ fn starts_of_lines(rt: HostRuntime) {
         Err(_) => assert!(rt; false),
     }
     let tab = fault_at(4, 5, TextFault::NotText);
-    assert!(rt; matches!(read_start(4, b"pick\t0"), Err(fault) if fault == tab));
+    assert!(rt; matches!(Line::new(4, b"pick\t0").start(), Err(fault) if fault == tab));
 }

@@ -1,14 +1,31 @@
 use crate::fault_at;
-use drm_text::{Lines, TextFault, order_fault};
+use drm_text::{Keyword, Lines, TextFault, order_fault};
 
 #[test]
 fn lines_end_with_a_line_feed(rt: HostRuntime) {
     let mut lines = Lines::new(b"go\nfence 0");
     assert_eq!(rt; lines.number(), 1);
-    assert!(rt; lines.next() == Some(b"go".as_slice()));
+    match lines.next() {
+        Some(line) => {
+            assert_eq!(rt; line.number(), 1);
+            assert!(rt; matches!(line.start(), Ok((Keyword::Go, _))));
+        }
+        None => assert!(rt; false),
+    }
     assert_eq!(rt; lines.number(), 2);
     assert!(rt; lines.next().is_none());
     assert_eq!(rt; lines.end(), Err(fault_at(2, 8, TextFault::NoEnd)));
+}
+
+#[test]
+fn lines_of_a_text_with_another_byte_are_judged_one_by_one(rt: HostRuntime) {
+    let mut lines = Lines::new(b"go\nfence\x7f0\ngo\n");
+    for expected in [None, Some(fault_at(2, 6, TextFault::NotText)), None] {
+        match lines.next() {
+            Some(line) => assert_eq!(rt; line.start().err(), expected),
+            None => assert!(rt; false),
+        }
+    }
 }
 
 #[test]

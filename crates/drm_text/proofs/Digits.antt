@@ -33,3 +33,14 @@ form_small most false o h = tt
 pub number_small : (most n : ℕ) (word : List ℕ) → number_up_to most word ≡ Some n → n ≤ most
 number_small most n word e =
     some_small most n (number_up_to most word) (form_small most (has_one_form word) (digits_up_to most word) (digits_are_small most word)) e
+
+no_digits : (b : Bool) (o : Option ℕ) → o ≡ None → cond b o None ≡ None
+no_digits true o is = is
+no_digits false o is = refl
+
+-- a word that is not of digits, or whose digits are too many, is no number
+pub no_number : (most : ℕ) (word : List ℕ) → digits_up_to most word ≡ None → number_up_to most word ≡ None
+no_number most word is = no_digits (has_one_form word) (digits_up_to most word) is
+
+pub numbers_are_small : (most : ℕ) (word : List ℕ) → IfSome (number_up_to most word) (λ n. n ≤ most)
+numbers_are_small most word = form_small most (has_one_form word) (digits_up_to most word) (digits_are_small most word)

@@ -1,11 +1,11 @@
 -- The one word that a second and a last byte leave.
-use Rattle.std.proofs.Common.{◌≡◌, ℕ, ◌-◌, ◌<◌, ◌≤◌, true, false, List, length, slice_index, Some, None, Option, refl, sym, ap, ◌∙◌, arith}
+use Rattle.std.proofs.Common.{◌≡◌, ℕ, ◌-◌, ◌<◌, ◌≤◌, Bool, true, false, cond, List, length, slice_index, Some, None, Option, refl, sym, ap, ◌∙◌, arith}
 use Rattle.std.specs.Str.{bytes_eq}
 use Rattle.std.proofs.lemmas.Slice.Eq.{bytes_eq-Decides}
 use Rattle.drm_text.specs.declared.keywords.Command.TheVariants as command
 use Rattle.drm_text.specs.declared.keywords.Keyword.{Keyword}
 use Rattle.drm_text.specs.declared.keywords.Keyword.TheVariants as line
-use Rattle.drm_text.specs.Keywords.{keyword_of, keyword_text, guess_of}
+use Rattle.drm_text.specs.Keywords.{keyword_of, keyword_text, guess_of, spelled_as}
 use Rattle.drm_text.proofs.KeywordsWritten.{keyword_takes, keyword_written}
 
 -- the guess for a word
@@ -76,7 +76,7 @@ none_short word (Some keyword) short is =
 pub short_word : (word : List ℕ) → length word < 2 → None ≡ keyword_of word
 short_word word short = none_short word (keyword_of word) short refl
 
-pub guess_right : (word : List ℕ) (keyword : Keyword) → bytes_eq word (keyword_text keyword) ≡ true → Some keyword ≡ keyword_of word
+guess_right : (word : List ℕ) (keyword : Keyword) → bytes_eq word (keyword_text keyword) ≡ true → Some keyword ≡ keyword_of word
 guess_right word keyword same =
     let is : word ≡ keyword_text keyword = (bytes_eq-Decides word (keyword_text keyword)).0 same in
     sym (ap keyword_of is ∙ keyword_written keyword)
@@ -90,6 +90,14 @@ none_wrong word (Some keyword) other is =
     let never : false ≡ true = sym other ∙ same in
     absurd (cc (never))
 
-pub guess_wrong : (word : List ℕ) (guess : Keyword) → guess ≡ guess_of (slice_index word 1) (slice_index word (length word - 1)) → bytes_eq word (keyword_text guess) ≡ false
+guess_wrong : (word : List ℕ) (guess : Keyword) → guess ≡ guess_of (slice_index word 1) (slice_index word (length word - 1)) → bytes_eq word (keyword_text guess) ≡ false
     → None ≡ keyword_of word
 guess_wrong word guess is other = none_wrong word (keyword_of word) (rw is at other) refl
+
+guess_cases : (word : List ℕ) (same : Bool) → bytes_eq word (keyword_text (guess_for word)) ≡ same → cond same (Some (guess_for word)) None ≡ keyword_of word
+guess_cases word true is = guess_right word (guess_for word) is
+guess_cases word false is = guess_wrong word (guess_for word) refl is
+
+-- a word is the guess for it, or no keyword
+pub guess_is : (word : List ℕ) → spelled_as word (guess_of (slice_index word 1) (slice_index word (length word - 1))) ≡ keyword_of word
+guess_is word = guess_cases word (bytes_eq word (keyword_text (guess_for word))) refl

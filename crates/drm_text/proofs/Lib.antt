@@ -1,3 +1,4 @@
+pub mod CutNumbers
 pub mod Cuts
 pub mod Digits
 pub mod Filled

@@ -1,5 +1,5 @@
 -- The first words of lines.
-use Rattle.std.specs.Prelude.{ℕ, ◌==◌, List, [], ◌∷◌, Option, codes, find, if◌then◌else◌}
+use Rattle.std.specs.Prelude.{ℕ, ◌==◌, List, [], ◌∷◌, Option, Some, None, codes, find, if◌then◌else◌}
 use Rattle.std.specs.Str.{bytes_eq}
 use Rattle.drm_text.specs.declared.keywords.Command.{Command}
 use Rattle.drm_text.specs.declared.keywords.Command.TheVariants as command
@@ -81,3 +81,7 @@ guess_of second last =
     else if second == 108 then line.Command command.Plan
     else if second == 116 then line.Command command.Step
     else line.Command command.Cancel
+
+-- the keyword, if the word is its text
+abbrev pub spelled_as : List ℕ → Keyword → Option Keyword
+spelled_as word keyword = if bytes_eq word (keyword_text keyword) then Some keyword else None

@@ -1,5 +1,6 @@
 -- The lines of a text, each judged wholly before the next.
-use Rattle.std.specs.Prelude.{ℕ, Bool, ◌+◌, ◌&&◌, nat_le, List, [], ◌∷◌, length, Result, Ok, Err, if◌then◌else◌}
+use Rattle.std.specs.Prelude.{◌≡◌, ℕ, Bool, true, ◌+◌, ◌==◌, ◌&&◌, ◌||◌, nat_le, List, [], ◌∷◌, length, Result, Ok, Err, if◌then◌else◌}
+use Rattle.std.specs.List.{AllByRecursion, list_all}
 use Rattle.drm_text.specs.declared.fault.Fault.{Fault}
 use Rattle.drm_text.specs.declared.fault.Fault.TheVariants.{Text}
 use Rattle.drm_text.specs.declared.fault.TextFault.TheVariants as what
@@ -11,6 +12,19 @@ use Rattle.drm_text.specs.Keywords.{keyword_of}
 
 abbrev pub is_printable : ℕ → Bool
 is_printable byte = nat_le 32 byte && nat_le byte 126
+
+-- whether a text has the byte, in a line or as a line's end
+abbrev pub is_of_lines : ℕ → Bool
+is_of_lines byte = is_printable byte || byte == 10
+
+-- each byte of each line is one that texts have
+abbrev pub AreText : List (List ℕ) → Type 0
+AreText lines = AllByRecursion (λ bytes. list_all is_printable bytes ≡ true) lines
+
+-- a line and its number
+pub record Numbered : Type 0 where
+  pub number : ℕ
+  pub bytes : List ℕ
 
 -- the first byte that no text has, from a column on
 abbrev pub text_fault : ℕ → ℕ → List ℕ → Result (Unit {0}) Fault

@@ -1,7 +1,8 @@
 //! The first words of lines.
 
-ghost use Rattle.std.specs.Prelude.{◌≡◌};
-ghost use Rattle.drm_text.specs.Keywords.{keyword_text, command_text, guess_of, keyword_of};
+ghost use Rattle.std.specs.Prelude.{◌≡◌, None, Some, if◌then◌else◌};
+ghost use Rattle.std.specs.Str.{bytes_eq};
+ghost use Rattle.drm_text.specs.Keywords.{guess_of, spelled_as, keyword_of};
 
 /// The first word of a line of a text. Each but `Command` is spelled as its name, in lower case.
 #[derive(Clone, Copy)]
@@ -40,88 +41,77 @@ pub enum Command {
     Dump,
 }
 
-fn text_of_command(command: Command) -> &'static [u8]
-    ensures { result.now ≡ command_text command }
+/// Whether the word is this one. Words are short, so that to compare them byte by byte costs less than a call.
+#[inline]
+pub fn is_word(word: &[u8], known: &[u8]) -> bool
+    ensures { result ≡ bytes_eq word.now known.now }
 {
-    match command {
-        Command::Submit => b"submit",
-        Command::Begin => b"begin",
-        Command::Try => b"try",
-        Command::Done => b"done",
-        Command::Drop => b"drop",
-        Command::End => b"end",
-        Command::Plan => b"plan",
-        Command::Arm => b"arm",
-        Command::Pick => b"pick",
-        Command::Step => b"step",
-        Command::Finish => b"finish",
-        Command::Timeout => b"timeout",
-        Command::Cancel => b"cancel",
-        Command::Reap => b"reap",
-        Command::Read => b"read",
-        Command::Fence => b"fence",
-        Command::Dump => b"dump",
+    if word.len() != known.len() {
+        return false;
+    }
+    for at in 0..known.len() {
+        if word[at] != known[at] {
+            return false;
+        }
+    }
+    true
+}
+
+/// The keyword, if the word is its text.
+#[inline]
+fn if_spelled(word: &[u8], text: &[u8], keyword: Keyword) -> Option<Keyword>
+    ensures { result ≡ if bytes_eq word.now text.now then Some keyword else None }
+{
+    if is_word(word, text) {
+        Some(keyword)
+    } else {
+        None
     }
 }
 
-fn text_of(keyword: Keyword) -> &'static [u8]
-    ensures { result.now ≡ keyword_text keyword }
-{
-    match keyword {
-        Keyword::Buffer => b"buffer",
-        Keyword::Zero => b"zero",
-        Keyword::Ring => b"ring",
-        Keyword::Entity => b"entity",
-        Keyword::Jobs => b"jobs",
-        Keyword::Go => b"go",
-        Keyword::Job => b"job",
-        Keyword::Final => b"final",
-        Keyword::Command(command) => text_of_command(command),
-    }
-}
-
-/// The one word that can have these for its second and its last byte.
-fn guess(second: u8, last: u8) -> Keyword
-    ensures { result ≡ guess_of second last }
+/// The line that begins with this word, which has these for its second and its last byte: no two first words have both
+/// in common.
+fn read_guessed(word: &[u8], second: u8, last: u8) -> Option<Keyword>
+    ensures { result ≡ spelled_as word.now (guess_of second last) }
 {
     match second {
         b'u' => match last {
-            b'r' => Keyword::Buffer,
-            b't' => Keyword::Command(Command::Submit),
-            _ => Keyword::Command(Command::Dump),
+            b'r' => if_spelled(word, b"buffer", Keyword::Buffer),
+            b't' => if_spelled(word, b"submit", Keyword::Command(Command::Submit)),
+            _ => if_spelled(word, b"dump", Keyword::Command(Command::Dump)),
         },
         b'e' => match last {
-            b'o' => Keyword::Zero,
-            b'n' => Keyword::Command(Command::Begin),
-            b'p' => Keyword::Command(Command::Reap),
-            b'd' => Keyword::Command(Command::Read),
-            _ => Keyword::Command(Command::Fence),
+            b'o' => if_spelled(word, b"zero", Keyword::Zero),
+            b'n' => if_spelled(word, b"begin", Keyword::Command(Command::Begin)),
+            b'p' => if_spelled(word, b"reap", Keyword::Command(Command::Reap)),
+            b'd' => if_spelled(word, b"read", Keyword::Command(Command::Read)),
+            _ => if_spelled(word, b"fence", Keyword::Command(Command::Fence)),
         },
         b'i' => match last {
-            b'g' => Keyword::Ring,
-            b'l' => Keyword::Final,
-            b'k' => Keyword::Command(Command::Pick),
-            b'h' => Keyword::Command(Command::Finish),
-            _ => Keyword::Command(Command::Timeout),
+            b'g' => if_spelled(word, b"ring", Keyword::Ring),
+            b'l' => if_spelled(word, b"final", Keyword::Final),
+            b'k' => if_spelled(word, b"pick", Keyword::Command(Command::Pick)),
+            b'h' => if_spelled(word, b"finish", Keyword::Command(Command::Finish)),
+            _ => if_spelled(word, b"timeout", Keyword::Command(Command::Timeout)),
         },
         b'n' => match last {
-            b'y' => Keyword::Entity,
-            _ => Keyword::Command(Command::End),
+            b'y' => if_spelled(word, b"entity", Keyword::Entity),
+            _ => if_spelled(word, b"end", Keyword::Command(Command::End)),
         },
         b'o' => match last {
-            b's' => Keyword::Jobs,
-            b'o' => Keyword::Go,
-            b'b' => Keyword::Job,
-            _ => Keyword::Command(Command::Done),
+            b's' => if_spelled(word, b"jobs", Keyword::Jobs),
+            b'o' => if_spelled(word, b"go", Keyword::Go),
+            b'b' => if_spelled(word, b"job", Keyword::Job),
+            _ => if_spelled(word, b"done", Keyword::Command(Command::Done)),
         },
         b'r' => match last {
-            b'y' => Keyword::Command(Command::Try),
-            b'p' => Keyword::Command(Command::Drop),
-            _ => Keyword::Command(Command::Arm),
+            b'y' => if_spelled(word, b"try", Keyword::Command(Command::Try)),
+            b'p' => if_spelled(word, b"drop", Keyword::Command(Command::Drop)),
+            _ => if_spelled(word, b"arm", Keyword::Command(Command::Arm)),
         },
-        b'l' => Keyword::Command(Command::Plan),
-        b't' => Keyword::Command(Command::Step),
-        _ => Keyword::Command(Command::Cancel),
+        b'l' => if_spelled(word, b"plan", Keyword::Command(Command::Plan)),
+        b't' => if_spelled(word, b"step", Keyword::Command(Command::Step)),
+        _ => if_spelled(word, b"cancel", Keyword::Command(Command::Cancel)),
     }
 }
 
@@ -132,10 +122,5 @@ pub fn read_keyword(word: &[u8]) -> Option<Keyword>
     if word.len() < 2 {
         return None;
     }
-    let keyword = guess(word[1], word[word.len() - 1]);
-    if word == text_of(keyword) {
-        Some(keyword)
-    } else {
-        None
-    }
+    read_guessed(word, word[1], word[word.len() - 1])
 }

@@ -17,12 +17,12 @@ mod words;
 
 pub use fault::{Fault, Position, ReadError, TextFault};
 pub use hexadecimal::{put_bytes, read_byte, read_bytes_word, read_last_bytes};
-pub use keywords::{Command, Keyword, read_keyword};
+pub use keywords::{Command, Keyword, is_word, read_keyword};
 pub use laws::{
     bytes_are_spelled_in_one_way, keywords_are_spelled_in_one_way, numbers_are_spelled_in_one_way,
     parts_are_cut_as_joined,
 };
-pub use lines::{Lines, order_fault, read_start};
+pub use lines::{Line, Lines, order_fault};
 pub use number::read_number;
 pub use parts::{MAX_TEXT, Parts};
 pub use words::Words;

@@ -3,7 +3,7 @@
 ghost use Rattle.std.specs.Prelude.{◌≡◌, ◌+◌, ◌≤◌, [], ◌∷◌, length, nat_le, IfSome, IfNone};
 ghost use Rattle.std.specs.List.{list_all};
 ghost use Rattle.drm_text.specs.Reading.{Reads};
-ghost use Rattle.drm_text.specs.Lines.{is_printable, text_fault, start_at, last_line, lines_of, out_of_order};
+ghost use Rattle.drm_text.specs.Lines.{is_printable, is_of_lines, text_fault, start_at, last_line, lines_of, out_of_order};
 
 use crate::fault::{Fault, TextFault};
 use crate::keywords::{Keyword, read_keyword};
@@ -11,31 +11,102 @@ use crate::parts::Parts;
 use crate::words::Words;
 use std::marker::Model;
 
+/// A line of a text, without its end.
+#[derive(Drop)]
+pub struct Line<'a> {
+    number: u32,
+    bytes: &'a [u8],
+    /// Whether it is known that each byte is one that texts have.
+    known_text: bool,
+}
+
+impl<'a> Model for Line<'a> {
+    ghost use Rattle.std.specs.Prelude.{◌≡◌, ◌≤◌, length, true};
+    ghost use Rattle.std.specs.List.{list_all};
+    ghost use Rattle.drm_text.specs.Lines.{Numbered, is_printable};
+
+    ghost Value = { Numbered };
+
+    ghost view = { λ l. record { number = l.number; bytes = l.bytes.now } };
+
+    ghost invariant = { λ l. (length l.bytes.now ≤ 1048576) × (l.known_text ≡ true → list_all is_printable l.bytes.now ≡ true) };
+}
+
+impl<'a> Line<'a> {
+    /// A line that is not judged yet.
+    pub fn new(number: u32, bytes: &'a [u8]) -> Line<'a>
+        requires { length bytes.now ≤ 1048576 }
+        ensures { result ≡ record { number = number; bytes = bytes.now } }
+    {
+        Line {
+            number,
+            bytes,
+            known_text: false,
+        }
+    }
+
+    /// The number of the line. The first has number 1.
+    pub fn number(&self) -> u32
+        ensures { result ≡ self.now.number }
+    {
+        self.number
+    }
+
+    /// That each byte is one that texts have.
+    fn check(&self) -> Result<(), Fault>
+        ensures { Reads (λ _. tt) result (text_fault self.now.number 1 self.now.bytes) }
+    {
+        if self.known_text {
+            return Ok(());
+        }
+        check_text(self.number, self.bytes)
+    }
+
+    /// The first word of the line, and its other words.
+    #[inline(always)]
+    #[tactic(auto, unfolding(crate::specs::Lines::start_at))]
+    pub fn start(&self) -> Result<(Keyword, Words<'a>), Fault>
+        ensures { Reads (λ start. start) result (start_at self.now.number self.now.bytes) }
+    {
+        self.check()?;
+        let mut words = Words::new(self.number, self.bytes);
+        let fault = words.fault(TextFault::Word);
+        let first = words.word()?;
+        let keyword = read_keyword(first).ok_or(fault)?;
+        Ok((keyword, words))
+    }
+}
+
 /// What is left of the lines of a text.
 #[derive(Drop)]
 pub struct Lines<'a> {
     line: u32,
     bytes: &'a [u8],
     rest: Parts<'a>,
+    /// Whether it is known that each byte of each line is one that texts have.
+    known_text: bool,
 }
 
 impl<'a> Model for Lines<'a> {
-    ghost use Rattle.std.specs.Prelude.{◌+◌, ◌≤◌, length};
+    ghost use Rattle.std.specs.Prelude.{◌≡◌, ◌+◌, ◌≤◌, ◌∷◌, length, true};
     ghost use Rattle.drm_text.specs.Cut.{Left};
+    ghost use Rattle.drm_text.specs.Lines.{AreText};
 
     ghost Value = { Left };
 
     ghost view = { λ l. record { line = l.line; bytes = l.bytes.now; more = l.rest.parts } };
 
-    ghost invariant = { λ l. (l.line ≤ l.rest.at + 1) × (l.rest.at ≤ 1048577) × (length l.bytes.now ≤ 1048576) };
+    ghost invariant = { λ l. (l.line ≤ l.rest.at + 1) × (l.rest.at ≤ 1048577) × (length l.bytes.now ≤ 1048576)
+        × (l.known_text ≡ true → AreText (l.bytes.now ∷ l.rest.parts)) };
 }
 
 impl<'a> Lines<'a> {
-    /// All lines of a text. None is judged yet.
+    /// All lines of a text. No fault of them is told yet.
     pub fn new(text: &'a [u8]) -> Lines<'a>
         requires { length text.now ≤ 1048576 }
         ensures { result ≡ lines_of text.now }
     {
+        let known_text = is_text_of_lines(text);
         let mut rest = Parts::new(text, b'\n');
         let bytes = match rest.next() {
             Some(first) => first,
@@ -45,6 +116,7 @@ impl<'a> Lines<'a> {
             line: 1,
             bytes,
             rest,
+            known_text,
         }
     }
 
@@ -56,16 +128,20 @@ impl<'a> Lines<'a> {
     }
 
     /// The next line that has an end.
-    pub fn next(&mut self) -> Option<&'a [u8]>
-        ensures some { IfSome result (λ bytes. (bytes.now ≡ self.old.bytes) × (self.old.more ≡ self.new.bytes ∷ self.new.more)
-            × (self.new.line ≡ self.old.line + 1) × (length bytes.now ≤ 1048576)) }
+    pub fn next(&mut self) -> Option<Line<'a>>
+        ensures some { IfSome result (λ line. (line ≡ record { number = self.old.line; bytes = self.old.bytes })
+            × (self.old.more ≡ self.new.bytes ∷ self.new.more) × (self.new.line ≡ self.old.line + 1)) }
         ensures none { IfNone result ((self.old.more ≡ []) × (self.new ≡ self.old)) }
     {
         let next = self.rest.next()?;
-        let bytes = self.bytes;
+        let line = Line {
+            number: self.line,
+            bytes: self.bytes,
+            known_text: self.known_text,
+        };
         self.bytes = next;
         self.line += 1;
-        Some(bytes)
+        Some(line)
     }
 
     /// That nothing stands behind the last line end.
@@ -112,6 +188,27 @@ fn are_text(bytes: &[u8]) -> bool
     highest <= 94
 }
 
+/// How far a byte is above the space, and nothing where it ends a line.
+fn above_space_in_text(byte: u8) -> u8
+    ensures { nat_le result 94 ≡ is_of_lines byte }
+{
+    if byte == b'\n' { 0 } else { above_space(byte) }
+}
+
+/// Whether a text has only line ends and bytes that texts have, sought as `are_text` does.
+fn is_text_of_lines(text: &[u8]) -> bool
+    ensures { result ≡ list_all is_of_lines text.now }
+{
+    let mut farthest = 0u8;
+    for byte in text {
+        let above = above_space_in_text(*byte);
+        if above > farthest {
+            farthest = above;
+        }
+    }
+    farthest <= 94
+}
+
 /// The first byte of a line that no text has.
 fn find_fault(line: u32, bytes: &[u8]) -> Result<(), Fault>
     requires { length bytes.now ≤ 1048576 }
@@ -141,20 +238,6 @@ fn check_text(line: u32, bytes: &[u8]) -> Result<(), Fault>
         return Ok(());
     }
     find_fault(line, bytes)
-}
-
-/// The first word of a line, and its other words.
-#[tactic(auto, unfolding(crate::specs::Lines::start_at))]
-pub fn read_start<'a>(line: u32, bytes: &'a [u8]) -> Result<(Keyword, Words<'a>), Fault>
-    requires { length bytes.now ≤ 1048576 }
-    ensures { Reads (λ start. start) result (start_at line bytes.now) }
-{
-    check_text(line, bytes)?;
-    let mut words = Words::new(line, bytes);
-    let fault = words.fault(TextFault::Word);
-    let first = words.word()?;
-    let keyword = read_keyword(first).ok_or(fault)?;
-    Ok((keyword, words))
 }
 
 /// The fault of a line that is not allowed at its place.

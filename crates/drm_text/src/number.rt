@@ -4,7 +4,7 @@ ghost use Rattle.std.specs.Prelude.{◌≡◌, ◌≤◌, IfSome};
 ghost use Rattle.drm_text.specs.Number.{with_digit, digits_up_to, number_up_to};
 
 /// The number with one more digit, if the byte is a digit and the number is at most `most`.
-fn next_value(value: u64, byte: u8, most: u64) -> Option<u64>
+pub fn next_value(value: u64, byte: u8, most: u64) -> Option<u64>
     ensures { result ≡ with_digit most value byte }
 {
     if !byte.is_ascii_digit() {

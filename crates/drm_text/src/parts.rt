@@ -1,10 +1,12 @@
 //! The parts of a text between separators, in their order: its lines, the words of a line, the
 //! pieces of a word.
 
-ghost use Rattle.std.specs.Prelude.{◌≡◌, ◌+◌, ◌≤◌, ◌==◌, [], ◌∷◌, length, IfSome, IfNone};
+ghost use Rattle.std.specs.Prelude.{◌≡◌, ◌+◌, ◌≤◌, ◌==◌, [], ◌∷◌, None, Some, length, take, IfSome, IfNone, if◌then◌else◌};
 ghost use Rattle.std.specs.List.{position_or_len};
 ghost use Rattle.drm_text.specs.Cut.{cut_from};
+ghost use Rattle.drm_text.specs.Number.{has_one_form, number_up_to};
 
+use crate::number::next_value;
 use memchr::memchr;
 use std::marker::Model;
 
@@ -30,6 +32,34 @@ fn end_of_line(bytes: &[u8], separator: u8) -> usize
     ensures { result ≡ position_or_len (λ b. b == separator) bytes.now }
 {
     memchr(separator, bytes).unwrap_or(bytes.len())
+}
+
+/// The number that a part spells whose digits have this value.
+fn number_of(part: &[u8], value: u64) -> Option<u64>
+    ensures { result ≡ if has_one_form part.now then Some value else None }
+{
+    match part {
+        [] | [b'0', _, ..] => None,
+        _ => Some(value),
+    }
+}
+
+/// Where the first part ends, and the number of at most `most` that it spells, if it spells one.
+fn cut_number(bytes: &[u8], separator: u8, most: u64) -> (usize, Option<u64>)
+    ensures end { result.0 ≡ position_or_len (λ b. b == separator) bytes.now }
+    ensures number { result.1 ≡ number_up_to most (take result.0 bytes.now) }
+{
+    let mut value = 0u64;
+    let mut end = 0;
+    while end < bytes.len() && bytes[end] != separator {
+        match next_value(value, bytes[end], most) {
+            Some(next) => value = next,
+            None => return (end_of(bytes, separator), None),
+        }
+        end += 1;
+    }
+    let (part, _) = bytes.split_at(end);
+    (end, number_of(part, value))
 }
 
 /// What is left of a text that is cut at each separator.
@@ -86,5 +116,23 @@ impl<'a> Parts<'a> {
         let (part, _) = rest.split_at(len);
         self.at += len + 1;
         Some(part)
+    }
+    /// The next part, if one is left, and the number of at most `most` that it spells, if it spells one. The part is
+    /// cut and read in one go.
+    pub fn next_number(&mut self, most: u64) -> Option<(&'a [u8], Option<u64>)>
+        ensures some { IfSome result (λ read. (self.old.parts ≡ read.0.now ∷ self.new.parts)
+            × (self.new.at ≡ self.old.at + length read.0.now + 1) × (length read.0.now ≤ 1048576) × (self.new.at ≤ 1048577)
+            × (read.1 ≡ number_up_to most read.0.now)) }
+        ensures small { IfSome result (λ read. IfSome read.1 (λ n. n ≤ most)) }
+        ensures none { IfNone result ((self.old.parts ≡ []) × (self.new ≡ self.old)) }
+    {
+        if self.at > self.bytes.len() {
+            return None;
+        }
+        let (_, rest) = self.bytes.split_at(self.at);
+        let (end, number) = cut_number(rest, self.separator, most);
+        let (part, _) = rest.split_at(end);
+        self.at += end + 1;
+        Some((part, number))
     }
 }

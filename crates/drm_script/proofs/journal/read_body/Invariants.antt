@@ -2,10 +2,10 @@ use Rattle.std.proofs.Common.{◌≡◌, length}
 use Rattle.drm_script.specs.Journal.{IsRead, body_of, nothing_read}
 use Rattle.drm_script.proofs.journal.read_body.Given as goal
 
-abbrev pub invariant-loop-bytes : goal.invariant-loop-bytes
-invariant-loop-bytes l =
+abbrev pub invariant-loop-line : goal.invariant-loop-line
+invariant-loop-line l =
     (body_of l.spec l.reading l.lines.line l.lines.bytes l.lines.more ≡ body_of l.spec nothing_read l.fn.lines.line l.fn.lines.bytes l.fn.lines.more)
-    × (l.line ≡ l.lines.line) × IsRead l.spec l.reading
+    × IsRead l.spec l.reading
 
-abbrev pub decreases-loop-bytes : goal.decreases-loop-bytes
-decreases-loop-bytes l = length l.lines.more
+abbrev pub decreases-loop-line : goal.decreases-loop-line
+decreases-loop-line l = length l.lines.more

@@ -1,0 +1,25 @@
+-- How short numbers are written.
+use Rattle.std.proofs.Common.{◌≡◌, ℕ, ◌+◌, ◌^◌, ◌<◌, ◌≤◌, ◌/◌, ◌%◌, List, [], ◌∷◌, ◌++◌, refl, arith}
+use Rattle.std.specs.Fmt.{decimal}
+use Rattle.std.proofs.lemmas.Fmt.{decimal_by_steps}
+
+pub one_digit : (n : ℕ) → n < 10 → decimal n ≡ (48 + n) ∷ []
+one_digit n small =
+    decimal_by_steps (λ n word. n < 10 → word ≡ (48 + n) ∷ []) (λ n _ _. refl) (λ n word ten _ lt. absurd (omega (arith, ten, lt))) n (omega (arith, small)) small
+
+abbrev IsShort : ℕ → List ℕ → Type 0
+IsShort n word = (n < 10 → word ≡ (48 + n) ∷ []) × (10 ≤ n → n < 100 → word ≡ (48 + n / 10) ∷ (48 + n % 10) ∷ [])
+
+last_digit : (n : ℕ) (word : List ℕ) → 10 ≤ n → IsShort (n / 10) word → IsShort n (word ++ (48 + n % 10) ∷ [])
+last_digit n word ten front =
+    (λ lt. absurd (omega (arith, ten, lt)), λ _ lt. let tens : word ≡ (48 + n / 10) ∷ [] = front.0 (omega (arith, lt)) in rw tens refl)
+
+written_short : (n : ℕ) → n < 100 → IsShort n (decimal n)
+written_short n small =
+    decimal_by_steps IsShort (λ n lt. (λ _. refl, λ ten _. absurd (omega (arith, lt, ten)))) last_digit n (omega (arith, small))
+
+pub two_digits : (n : ℕ) → 10 ≤ n → n < 100 → decimal n ≡ decimal (n / 10) ++ decimal (n % 10)
+two_digits n ten small =
+    let tens : decimal (n / 10) ≡ (48 + n / 10) ∷ [] = one_digit (n / 10) (omega (arith, small)) in
+    let ones : decimal (n % 10) ≡ (48 + n % 10) ∷ [] = one_digit (n % 10) (omega arith) in
+    rw (tens, ones) ((written_short n small).1 ten small)
