@@ -63,9 +63,10 @@ module _ (gpu : GpuState) (p q : MarkedDevice) where
       let mine : (sees t).pivot.mine ≡ (sees s).pivot.mine ++ (p, q) ∷ [] =
       ap (λ (z : Seeing). z.pivot.mine) view ∙ (ap (λ b. calls_with (true && not b) (sees s).pivot.mine r q) k.fresh ∙ ap (λ n. (sees s).pivot.mine ++ (n, q) ∷ []) is) in
       let knows : Knows gpu.spec q (sees t) = knows_called gpu.spec p q (sees s) (sees t) k.knows on (ap (λ (z : Seeing). z.pivot.seen) view) mine (ap (λ (z : Seeing). z.task) view) in
-      let last : last_of (sees t) ≡ q = last_is gpu.spec q (sees t) knows in
-      ((record { idle = (out, knows.no_task); knows = subst (λ d. Knows gpu.spec d (sees t)) (sym last) knows }, last),
-        (mine, ap (λ (z : Seeing). z.looked) view, ap (λ (z : Seeing). z.lock.had) view, ap (λ (z : Seeing). z.lock.met) view, ap (λ (z : Seeing). z.part) view))
+      let last : last_of (sees t) ≡ q = last_is gpu.spec q (sees t) knows in (
+        (record { idle = (out, knows.no_task); knows = subst (λ d. Knows gpu.spec d (sees t)) (sym last) knows }, last),
+        (mine, ap (λ (z : Seeing). z.looked) view, ap (λ (z : Seeing). z.lock.had) view, ap (λ (z : Seeing). z.lock.met) view, ap (λ (z : Seeing). z.part) view),
+      )
 
   -- the same, where it has shown q by the word of a fence before
   pub shown_and_left : (s u t : DeviceSeat) (r r' : MarkedDevice) → Entered gpu p s → GrowsTo p q → IsOutside gpu.home t → (sees s).pivot.seen ≡ r ∷ [] → sees u ≡ with_post r q [] (sees s)
@@ -76,10 +77,16 @@ module _ (gpu : GpuState) (p q : MarkedDevice) where
       ap (λ (z : Seeing). z.pivot.mine) view ∙ (ap (λ (z : Seeing). calls_with (true && not z.pivot.posted) z.pivot.mine r' q) post ∙ ap (λ n. (sees s).pivot.mine ++ (n, q) ∷ []) is) in
       let knows : Knows gpu.spec q (sees t) = knows_called gpu.spec p q (sees s) (sees t) k.knows on (ap (λ (z : Seeing). z.pivot.seen) view) mine
       (ap (λ (z : Seeing). z.task) view ∙ ap (λ (z : Seeing). z.task) post) in
-      let last : last_of (sees t) ≡ q = last_is gpu.spec q (sees t) knows in
-      ((record { idle = (out, knows.no_task); knows = subst (λ d. Knows gpu.spec d (sees t)) (sym last) knows }, last),
-        (mine, ap (λ (z : Seeing). z.looked) view ∙ ap (λ (z : Seeing). z.looked) post, ap (λ (z : Seeing). z.lock.had) view ∙ ap (λ (z : Seeing). z.lock.had) post,
-        ap (λ (z : Seeing). z.lock.met) view ∙ ap (λ (z : Seeing). z.lock.met) post, ap (λ (z : Seeing). z.part) view ∙ ap (λ (z : Seeing). z.part) post))
+      let last : last_of (sees t) ≡ q = last_is gpu.spec q (sees t) knows in (
+        (record { idle = (out, knows.no_task); knows = subst (λ d. Knows gpu.spec d (sees t)) (sym last) knows }, last),
+        (
+          mine,
+          ap (λ (z : Seeing). z.looked) view ∙ ap (λ (z : Seeing). z.looked) post,
+          ap (λ (z : Seeing). z.lock.had) view ∙ ap (λ (z : Seeing). z.lock.had) post,
+          ap (λ (z : Seeing). z.lock.met) view ∙ ap (λ (z : Seeing). z.lock.met) post,
+          ap (λ (z : Seeing). z.part) view ∙ ap (λ (z : Seeing). z.part) post,
+        ),
+      )
 
 -- what two joined passes know
 pub knows_joined : (spec : DeviceSpec) (p q : MarkedDevice) (v u w : Seeing) → Knows spec p v → Knows spec q u → (j : IsJoined GrowsTo v u w) → Knows spec j.0 w

@@ -116,29 +116,43 @@ module _ (gpu : GpuState) (job : Draft) (b : ℕ) (a a' : DeviceAcquire) (k : Ho
   pub shows_claimed : Claimed b a a' → Claims b old new
   shows_claimed t =
       let x = t.3.0 in
-      let ms = t.3.1 in
-      (lacks_kept b a.held.items t.1, (x.kept, ms, may_wait ms t.3.2,
-        parts job (pass_of gpu.home (view a')) (record old.pass { had = old.pass.had ++ (b, old.ticket) ∷ []; met = old.pass.met ++ ms }) a'.ticket a.ticket (kept_of a'.held.items) (old.held ++ (b, x.kept) ∷ [])
-        (ap (λ (z : Seeing). pass_of gpu.home z) t.3.3 ∙ ap (λ n. record old.pass { had = old.pass.had ++ (b, n) ∷ []; met = old.pass.met ++ ms }) k.holds.ticket.0)
-        t.2.0 (ap (λ hs. kept_of hs) t.3.4 ∙ kept_append a.held.items ((b, x) ∷ []))))
+      let ms = t.3.1 in (
+        lacks_kept b a.held.items t.1,
+        (
+          x.kept,
+          ms,
+          may_wait ms t.3.2,
+          parts job (pass_of gpu.home (view a')) (record old.pass { had = old.pass.had ++ (b, old.ticket) ∷ []; met = old.pass.met ++ ms }) a'.ticket a.ticket (kept_of a'.held.items) (old.held ++ (b, x.kept) ∷ [])
+              (ap (λ (z : Seeing). pass_of gpu.home z) t.3.3 ∙ ap (λ n. record old.pass { had = old.pass.had ++ (b, n) ∷ []; met = old.pass.met ++ ms }) k.holds.ticket.0)
+              t.2.0 (ap (λ hs. kept_of hs) t.3.4 ∙ kept_append a.held.items ((b, x) ∷ [])),
+        ),
+      )
 
   pub shows_tried : (r : Result (Unit {0}) TryLockError) → AnswersTry b a a' r → TriesLock b old new r
   shows_tried (Ok u) t =
-      let x = t.3.0 in
-      (lacks_kept b a.held.items t.1, (x.kept,
-        parts job (pass_of gpu.home (view a')) (record old.pass { had = old.pass.had ++ (b, old.ticket) ∷ [] }) a'.ticket a.ticket (kept_of a'.held.items) (old.held ++ (b, x.kept) ∷ [])
-        (ap (λ (z : Seeing). pass_of gpu.home z) t.3.1 ∙ ap (λ n. record old.pass { had = old.pass.had ++ (b, n) ∷ [] }) k.holds.ticket.0)
-        t.2.0 (ap (λ hs. kept_of hs) t.3.2 ∙ kept_append a.held.items ((b, x) ∷ []))))
+      let x = t.3.0 in (
+        lacks_kept b a.held.items t.1,
+        (
+          x.kept,
+          parts job (pass_of gpu.home (view a')) (record old.pass { had = old.pass.had ++ (b, old.ticket) ∷ [] }) a'.ticket a.ticket (kept_of a'.held.items) (old.held ++ (b, x.kept) ∷ [])
+              (ap (λ (z : Seeing). pass_of gpu.home z) t.3.1 ∙ ap (λ n. record old.pass { had = old.pass.had ++ (b, n) ∷ [] }) k.holds.ticket.0)
+              t.2.0 (ap (λ hs. kept_of hs) t.3.2 ∙ kept_append a.held.items ((b, x) ∷ [])),
+        ),
+      )
   shows_tried (Err Sealed) t = not_sealed t.0
   shows_tried (Err Already) t = (has_kept b t.1.0 a.held.items t.1.1, ap (λ (z : DeviceAcquire). submission_of gpu.home job z) t.2)
-  shows_tried (Err (Older h)) t =
-      (lacks_kept b a.held.items t.1, t.3,
-        parts job (pass_of gpu.home (view a')) (record old.pass { met = old.pass.met ++ (b, h) ∷ [] }) a'.ticket a.ticket (kept_of a'.held.items) old.held
-        (ap (λ (z : Seeing). pass_of gpu.home z) t.4) t.2.0 (ap (λ l. kept_of l.items) t.5))
-  shows_tried (Err (Younger h)) t =
-      (lacks_kept b a.held.items t.1, t.3,
-        parts job (pass_of gpu.home (view a')) (record old.pass { met = old.pass.met ++ (b, h) ∷ [] }) a'.ticket a.ticket (kept_of a'.held.items) old.held
-        (ap (λ (z : Seeing). pass_of gpu.home z) t.4) t.2.0 (ap (λ l. kept_of l.items) t.5))
+  shows_tried (Err (Older h)) t = (
+    lacks_kept b a.held.items t.1,
+    t.3,
+    parts job (pass_of gpu.home (view a')) (record old.pass { met = old.pass.met ++ (b, h) ∷ [] }) a'.ticket a.ticket (kept_of a'.held.items) old.held
+        (ap (λ (z : Seeing). pass_of gpu.home z) t.4) t.2.0 (ap (λ l. kept_of l.items) t.5),
+  )
+  shows_tried (Err (Younger h)) t = (
+    lacks_kept b a.held.items t.1,
+    t.3,
+    parts job (pass_of gpu.home (view a')) (record old.pass { met = old.pass.met ++ (b, h) ∷ [] }) a'.ticket a.ticket (kept_of a'.held.items) old.held
+        (ap (λ (z : Seeing). pass_of gpu.home z) t.4) t.2.0 (ap (λ l. kept_of l.items) t.5),
+  )
 
   pub shows_locked : (r : Result (Unit {0}) LockError) → AnswersLock b a a' r → Locks b old new r
   shows_locked (Ok u) t = shows_claimed t
@@ -146,10 +160,17 @@ module _ (gpu : GpuState) (job : Draft) (b : ℕ) (a a' : DeviceAcquire) (k : Ho
   shows_locked (Err lock.Already) t = (has_kept b t.1.0 a.held.items t.1.1, ap (λ (z : DeviceAcquire). submission_of gpu.home job z) t.2)
   shows_locked (Err (lock.Backoff h)) t =
       let ms = t.4.0 in
-      let w = t.4.2 in
-      (lacks_kept b a.held.items t.1, t.2, subst (λ n. 0 < n) (sym same_count) t.3, (ms, may_wait ms t.4.1,
-        parts job (pass_of gpu.home (view a')) (record old.pass { met = old.pass.met ++ (ms ++ (b, h) ∷ []) }) a'.ticket a.ticket (kept_of a'.held.items) old.held
-        (ap (λ (z : Seeing). pass_of gpu.home z) w.2) w.0.0 (ap (λ l. kept_of l.items) w.1)))
+      let w = t.4.2 in (
+        lacks_kept b a.held.items t.1,
+        t.2,
+        subst (λ n. 0 < n) (sym same_count) t.3,
+        (
+          ms,
+          may_wait ms t.4.1,
+          parts job (pass_of gpu.home (view a')) (record old.pass { met = old.pass.met ++ (ms ++ (b, h) ∷ []) }) a'.ticket a.ticket (kept_of a'.held.items) old.held
+              (ap (λ (z : Seeing). pass_of gpu.home z) w.2) w.0.0 (ap (λ l. kept_of l.items) w.1),
+        ),
+      )
 
 -- ---- several in turn
 
@@ -173,7 +194,9 @@ went_trans gpu a b c p q = record {
 -- what is given back shows the same
 pub went_back : (gpu : GpuState) (a a' : DeviceAcquire) → Holding gpu a' → a'.ticket ≡ a.ticket → a'.sealed ≡ a.sealed → pass_of gpu.home (view a') ≡ pass_of gpu.home (view a) → WentOn gpu a a'
 went_back gpu a a' k t s e = record {
-  holding = k; ticket = t; sealed = s;
+  holding = k;
+  ticket = t;
+  sealed = s;
   pass = ap (λ (z : PassState). record z { had = (view a').lock.had; met = (view a').lock.met }) e;
 }
 

@@ -151,11 +151,11 @@ covers d job held deps lawful is_job all fit is = record {
       let adds : usage_at e.0 x.job ≡ Some (added_usage a.1) = subst (λ n. usage_at n x.job ≡ Some (added_usage a.1)) m.4.same (declared_adds d.spec x.job m.0 a (lawful.records i x at).job m.4.first) in
       let any = (fit e.0 h.0 h.1).covers i x (added_usage a.1) at adds (no_outcome x.phase going) in
       let found = any_filter (stands_for i x (added_usage a.1)) (λ en. is_as_strong en.usage (wanted_usage e.1)) h.0.entries any
-          (λ en s. usage_trans en.usage (added_usage a.1) (wanted_usage e.1)
-          (and_parts ((en.entity == x.job.entity) && nat_le i en.fence) (is_as_strong en.usage (added_usage a.1)) s).1 m.4.waits) in
+      (λ en s. usage_trans en.usage (added_usage a.1) (wanted_usage e.1)
+      (and_parts ((en.entity == x.job.entity) && nat_le i en.fence) (is_as_strong en.usage (added_usage a.1)) s).1 m.4.waits) in
       let en : Entry = found.0 in
       let two = and_parts (en.entity == x.job.entity) (nat_le i en.fence)
-          (and_parts ((en.entity == x.job.entity) && nat_le i en.fence) (is_as_strong en.usage (added_usage a.1)) found.2).0 in
+      (and_parts ((en.entity == x.job.entity) && nat_le i en.fence) (is_as_strong en.usage (added_usage a.1)) found.2).0 in
       let there = is.reached e.0 h.0 e.1 en h.1 (access_by d.spec job m.1 e is_job m.4.second) found.1 in
       let fence = leb-true i en.fence two.1 in
       let later = there.2 in
@@ -172,7 +172,7 @@ covers d job held deps lawful is_job all fit is = record {
         let early = adds_declared of_job.0.job b e.usage of_job.2 in
         let late = adds_declared job b (added_usage a) (ap (option_map added_usage) at) in
         let waits : must_wait early.0.1 late.0.1 ≡ true = subst (λ u. is_as_strong u (wanted_usage late.0.1) ≡ true) (sym early.3)
-            (subst (λ w. is_as_strong e.usage (wanted_usage w) ≡ true) (sym (same_access late.0.1 a late.3)) parts.1) in
+        (subst (λ w. is_as_strong e.usage (wanted_usage w) ≡ true) (sym (same_access late.0.1 a late.3)) parts.1) in
         (of_job.0, of_job.1, of_job.3, conflicts_at of_job.0.job job early.0 late.0 early.1 late.1 (early.2 ∙ sym late.2) waits)
 
 -- ---- what is held fits the device that was found

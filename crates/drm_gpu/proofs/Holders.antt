@@ -59,10 +59,10 @@ unused job held b all none =
     elim (usage_at b job) as (λ o. usage_at b job ≡ o → usage_at b job ≡ None) [
       | None ↦ λ e. e
       | Some u ↦ λ e.
-        let d = adds_declared job b u e in
-        let k = place_of job.declared d.0 d.1 in
-        let h = all k.0 d.0 k.1 in
-        absurd (none h.0 (subst (λ n. In (n, h.0) held) d.2 h.1))
+          let d = adds_declared job b u e in
+          let k = place_of job.declared d.0 d.1 in
+          let h = all k.0 d.0 k.1 in
+          absurd (none h.0 (subst (λ n. In (n, h.0) held) d.2 h.1))
     ] refl
 
 -- an arming with what it holds leaves what others hold
@@ -99,10 +99,16 @@ shown_view spec p q r r' xs ys v u w k on e post view =
     let mine : w.pivot.mine ≡ v.pivot.mine ++ (p, q) ∷ [] =
     ap (λ (z : Seeing). z.pivot.mine) view ∙ (ap (λ (z : Seeing). calls_with (true && not z.pivot.posted) z.pivot.mine r' q) post ∙ ap (λ n. v.pivot.mine ++ (n, q) ∷ []) is) in
     let knows : Knows spec q w = knows_called spec p q v w k on (ap (λ (z : Seeing). z.pivot.seen) view) mine (ap (λ (z : Seeing). z.task) view ∙ ap (λ (z : Seeing). z.task) post) in
-    let last : last_of w ≡ q = last_is spec q w knows in
-    ((subst (λ d. Knows spec d w) (sym last) knows, last),
-      (mine, ap (λ (z : Seeing). z.looked) view ∙ ap (λ (z : Seeing). z.looked) post, ap (λ (z : Seeing). z.lock.had) view ∙ ap (λ (z : Seeing). z.lock.had) post,
-      ap (λ (z : Seeing). z.lock.met) view ∙ ap (λ (z : Seeing). z.lock.met) post, ap (λ (z : Seeing). z.part) view ∙ ap (λ (z : Seeing). z.part) post))
+    let last : last_of w ≡ q = last_is spec q w knows in (
+      (subst (λ d. Knows spec d w) (sym last) knows, last),
+      (
+        mine,
+        ap (λ (z : Seeing). z.looked) view ∙ ap (λ (z : Seeing). z.looked) post,
+        ap (λ (z : Seeing). z.lock.had) view ∙ ap (λ (z : Seeing). z.lock.had) post,
+        ap (λ (z : Seeing). z.lock.met) view ∙ ap (λ (z : Seeing). z.lock.met) post,
+        ap (λ (z : Seeing). z.part) view ∙ ap (λ (z : Seeing). z.part) post,
+      ),
+    )
 
 -- one that owes what it holds
 pub owes_held : (fits : ℕ → MarkedDevice → WithRoom → Type 0) (a : DeviceAcquire) → IsApart a.held.items → (view a).lock.owes ≡ a.held.items → IsAsOwed fits a

@@ -12,9 +12,10 @@ use Rattle.drm_gpu.proofs.Chains.{saw, seated_again}
 pub still_seated : (f n : ℕ) (s t : DeviceSeat) → IsPassSeat (gpu_of s.place.table_id (sees s)) s → IsSamePass s t → sees t ≡ with_look f n (sees s) → IsPassSeat (gpu_of t.place.table_id (sees t)) t
 still_seated f n s t k same view =
     let o = k.idle.0 in
-    seated_again s.place.table_id (last_of (sees s)).state.spec (sees s) t k.knows
-    ((same.0, same.2 ∙ o.1, ap (λ (z : Seeing). z.lock.owes) view ∙ o.2, ap (λ (z : Seeing). z.pivot.inside) view ∙ o.3, (o.4.0, o.4.1, ap (λ (z : Seeing). z.pivot.seen) view ∙ o.4.2)),
-      ap (λ (z : Seeing). z.task) view ∙ k.idle.1)
+    seated_again s.place.table_id (last_of (sees s)).state.spec (sees s) t k.knows (
+      (same.0, same.2 ∙ o.1, ap (λ (z : Seeing). z.lock.owes) view ∙ o.2, ap (λ (z : Seeing). z.pivot.inside) view ∙ o.3, (o.4.0, o.4.1, ap (λ (z : Seeing). z.pivot.seen) view ∙ o.4.2)),
+      ap (λ (z : Seeing). z.task) view ∙ k.idle.1,
+    )
     (ap (λ (z : Seeing). z.pivot) view) (ap (λ (z : Seeing). z.task) view)
 
 pub looks_at : (f n : ℕ) (p : MarkedDevice) (s t : DeviceSeat) (old : PassState) → pass_of s.place.table_id (sees s) ≡ old → IsPassSeat (gpu_of s.place.table_id (sees s)) s → IsSamePass s t

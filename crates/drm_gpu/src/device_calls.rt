@@ -63,12 +63,7 @@ impl Gpu {
     /// # Errors
     ///
     /// Those of the device's `step`. Then nothing has changed.
-    pub fn step<R: Wait>(
-        &self,
-        pass: &mut Pass,
-        ring: RingId,
-        rt: &R,
-    ) -> Result<Stepped, Refusal>
+    pub fn step<R: Wait>(&self, pass: &mut Pass, ring: RingId, rt: &R) -> Result<Stepped, Refusal>
         requires pass { pass.old.gpu ≡ self.now }
         requires ring { ring < length self.now.spec.rings }
         ensures call { Calls (StepIs ring result) pass.old pass.new }
@@ -127,12 +122,7 @@ impl Gpu {
     }
 
     /// Stops the entity (`drm_sched_entity_kill`).
-    pub fn cancel<R: Wait>(
-        &self,
-        pass: &mut Pass,
-        entity: EntityId,
-        rt: &R,
-    ) -> Result<(), Refusal>
+    pub fn cancel<R: Wait>(&self, pass: &mut Pass, entity: EntityId, rt: &R) -> Result<(), Refusal>
         requires pass { pass.old.gpu ≡ self.now }
         requires entity { entity < length self.now.spec.entities }
         ensures call { Calls (CancelIs entity result) pass.old pass.new }

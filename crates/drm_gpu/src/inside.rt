@@ -73,7 +73,12 @@ impl Gpu {
     }
 
     // `leave` for a caller that holds values, which fit the device.
-    pub(crate) fn leave_with(&self, acquire: &mut DeviceAcquire, device: Device, found: &Snapshot<Device>)
+    pub(crate) fn leave_with(
+        &self,
+        acquire: &mut DeviceAcquire,
+        device: Device,
+        found: &Snapshot<Device>,
+    )
         requires entered { EnteredWith self.now found.now.value acquire.old }
         requires good { IsGood device }
         requires onward { GrowsTo found.now.value device }

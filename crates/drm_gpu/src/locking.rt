@@ -237,6 +237,26 @@ impl Gpu {
         }
     }
 
+    // Draws a ticket for a readback.
+    fn draw<R: Wait>(
+        &self,
+        alloc: Global,
+        pass: Pass,
+        rt: &R,
+    ) -> Result<DeviceAcquire, BeginReadError>
+        requires { pass.gpu ≡ self.now }
+        ensures holding { IfOk result (λ a. Holding self.now a × (a.sealed ≡ false) × (a.held.items ≡ [])) }
+        ensures pass { IfOk result (λ a. pass_of self.now.home (view a) ≡ pass) }
+        ensures refused { IfErr result (IsBackFromRead pass) }
+    {
+        let Pass { seat } = pass;
+        match self.board.begin(seat, rt, alloc) {
+            Ok(acquire) => Ok(acquire),
+            Err(TicketError::Memory(seat)) => Err(BeginReadError::Memory(Pass { seat })),
+            Err(TicketError::TicketsOut(seat)) => Err(BeginReadError::TicketsOut(Pass { seat })),
+        }
+    }
+
     /// Begins to read a buffer back: draws a ticket and locks the buffer's reservation.
     ///
     /// # Errors
@@ -254,16 +274,7 @@ impl Gpu {
         ensures begun { IfOk result (λ r. (r.buffer ≡ buffer) × (r.pass ≡ record pass { had = r.pass.had; met = r.pass.met })) }
         ensures refused { IfErr result (IsBackFromRead pass) }
     {
-        let Pass { seat } = pass;
-        let mut acquire = match self.board.begin(seat, rt, alloc) {
-            Ok(acquire) => acquire,
-            Err(TicketError::Memory(seat)) => {
-                return Err(BeginReadError::Memory(Pass { seat }));
-            }
-            Err(TicketError::TicketsOut(seat)) => {
-                return Err(BeginReadError::TicketsOut(Pass { seat }));
-            }
-        };
+        let mut acquire = self.draw(alloc, pass, rt)?;
         lock_first(self, &mut acquire, buffer, rt);
         Ok(Reading {
             gpu: self,
@@ -346,11 +357,7 @@ impl<'g> Locking<'g> {
         } = self;
         hold_all(gpu, &mut acquire, &job, rt);
         acquire.done();
-        Locked {
-            gpu,
-            acquire,
-            job,
-        }
+        Locked { gpu, acquire, job }
     }
 
     /// Locks no more (`ww_acquire_done`), where every buffer that the job declares is held.
@@ -371,22 +378,14 @@ impl<'g> Locking<'g> {
             job,
         } = self;
         acquire.done();
-        Ok(Locked {
-            gpu,
-            acquire,
-            job,
-        })
+        Ok(Locked { gpu, acquire, job })
     }
 
     /// Gives everything back, and the job unchanged.
     pub fn abandon(self) -> (Pass, Job)
         ensures { (result.0 ≡ self.entry.pass) × (result.1 ≡ self.entry.job) }
     {
-        let Locking {
-            gpu,
-            acquire,
-            job,
-        } = self;
+        let Locking { gpu, acquire, job } = self;
         (give_up(gpu, acquire), job)
     }
 }
@@ -403,11 +402,7 @@ impl<'g> Locked<'g> {
     pub fn abandon(self) -> (Pass, Job)
         ensures { (result.0 ≡ self.entry.pass) × (result.1 ≡ self.entry.job) }
     {
-        let Locked {
-            gpu,
-            acquire,
-            job,
-        } = self;
+        let Locked { gpu, acquire, job } = self;
         (give_up(gpu, acquire), job)
     }
 }

@@ -131,11 +131,7 @@ impl<'g> Locked<'g> {
                 acquire,
                 plan: Plan { job, deps },
             }),
-            Err(AllocError) => Err(Locked {
-                gpu,
-                acquire,
-                job,
-            }),
+            Err(AllocError) => Err(Locked { gpu, acquire, job }),
         }
     }
 }
@@ -172,14 +168,7 @@ impl<'g> Planned<'g> {
             }
             Err((plan, refusal)) => {
                 gpu.leave_with(&mut acquire, device, &found);
-                Err((
-                    Planned {
-                        gpu,
-                        acquire,
-                        plan,
-                    },
-                    refusal,
-                ))
+                Err((Planned { gpu, acquire, plan }, refusal))
             }
         }
     }
@@ -195,11 +184,7 @@ impl<'g> Planned<'g> {
     pub fn abandon(self) -> (Pass, Job)
         ensures { (result.0 ≡ self.entry.submission.pass) × (result.1 ≡ self.entry.submission.job) }
     {
-        let Planned {
-            gpu,
-            acquire,
-            plan,
-        } = self;
+        let Planned { gpu, acquire, plan } = self;
         let Plan { job, deps: _ } = plan;
         (give_up(gpu, acquire), job)
     }

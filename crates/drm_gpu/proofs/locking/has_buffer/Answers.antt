@@ -23,8 +23,8 @@ loop-place-preserved c k h less at key =
     let other : r.0 ≢ c.args.buffer = search rules in
     dite (ℕ_discrete k i)
     (λ e. let whole : Some r ≡ Some h = sym (slice_get-get_or xs i r c.loop-place-test.true ∙ ap Some (sym c.index-held-place.is)) ∙ (ap (slice_get xs) (sym e) ∙ at) in
-      let is : r ≡ h = cc (whole) in
-      other (ap (λ (z : ℕ × WithRoom). z.0) is ∙ key))
+    let is : r ≡ h = cc (whole) in
+    other (ap (λ (z : ℕ × WithRoom). z.0) is ∙ key))
     (λ ne. c.loop-place.invariant k h (omega (arith, less, ne)) at key)
 
 pub returns-clause-lacks : goal.returns-clause-lacks

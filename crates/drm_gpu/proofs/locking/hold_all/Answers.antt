@@ -20,7 +20,7 @@ loop-preserved g c =
     let free = c.release_all.new.acquire in
     went_trans gpu a free c.lock_first.new.acquire
     (went_trans gpu a tried free (went_trans gpu a c.loop.acquire tried c.loop.invariant c.lock_declared.ensures.on)
-      (went_back gpu tried free c.release_all.ensures.holding.0 c.release_all.ensures.same.0 c.release_all.ensures.same.1 c.release_all.ensures.pass))
+    (went_back gpu tried free c.release_all.ensures.holding.0 c.release_all.ensures.same.0 c.release_all.ensures.same.1 c.release_all.ensures.pass))
     c.lock_first.ensures.on
 
 pub returns-in_default-clause-on : goal.returns-in_default-clause-on

@@ -26,9 +26,9 @@ loop-place-preserved c k d less at =
     let lt : i < length xs = subst (λ l. i < length l) c.declared-place-end.ensures c.loop-place-test.true in
     dite (ℕ_discrete k i)
     (λ e. let x = c.has_buffer.ensures.held c.if-not-has_buffer.false in
-      let is : Some (get_or xs i n) ≡ Some d = sym (slice_get-get_or xs i n lt) ∙ (ap (slice_get xs) (sym e) ∙ at) in
-      let same : get_or xs i n ≡ d = cc (is) in
-      (x.0, subst (λ m. In (m, x.0) c.args.held.now) (ap (λ l. (get_or l i n).0) c.declared.ensures ∙ ap (λ (z : ℕ × Access). z.0) same) x.1))
+    let is : Some (get_or xs i n) ≡ Some d = sym (slice_get-get_or xs i n lt) ∙ (ap (slice_get xs) (sym e) ∙ at) in
+    let same : get_or xs i n ≡ d = cc (is) in
+    (x.0, subst (λ m. In (m, x.0) c.args.held.now) (ap (λ l. (get_or l i n).0) c.declared.ensures ∙ ap (λ (z : ℕ × Access). z.0) same) x.1))
     (λ ne. c.loop-place.invariant k d (omega (arith, less, ne)) at)
 
 pub returns-clause-all : goal.returns-clause-all

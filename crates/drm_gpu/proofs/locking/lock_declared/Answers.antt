@@ -46,9 +46,9 @@ loop-place-preserved g c =
       on = went_trans c.args.gpu.now c.args.acquire.now c.loop-place.acquire c.hold.new.acquire c.loop-place.invariant.on c.hold.ensures.on;
       held = λ k d less at. dite (ℕ_discrete k i)
           (λ e. let x = c.hold.ensures.held c.if-not-hold.false in
-            let is : Some (get_or xs i n) ≡ Some d = sym (slice_get-get_or xs i n lt) ∙ (ap (slice_get xs) (sym e) ∙ at) in
-            let same : get_or xs i n ≡ d = cc (is) in
-            (x.0, subst (λ m. In (m, x.0) c.hold.new.acquire.held.items) (ap (λ l. (get_or l i n).0) c.declared.ensures ∙ ap (λ (z : ℕ × Access). z.0) same) x.1))
+          let is : Some (get_or xs i n) ≡ Some d = sym (slice_get-get_or xs i n lt) ∙ (ap (slice_get xs) (sym e) ∙ at) in
+          let same : get_or xs i n ≡ d = cc (is) in
+          (x.0, subst (λ m. In (m, x.0) c.hold.new.acquire.held.items) (ap (λ l. (get_or l i n).0) c.declared.ensures ∙ ap (λ (z : ℕ × Access). z.0) same) x.1))
           (λ ne. let x = c.loop-place.invariant.held k d (omega (arith, less, ne)) at in (x.0, c.hold.ensures.keeps d.0 x.0 x.1));
     }
 

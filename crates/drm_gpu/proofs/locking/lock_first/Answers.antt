@@ -5,10 +5,11 @@ use Rattle.drm_gpu.proofs.Claims.{went_claimed}
 use Rattle.drm_gpu.proofs.locking.lock_first.Goals as goal
 
 pub lock_slow-requires : goal.lock_slow-requires
-lock_slow-requires g c =
-    (subst (λ z. HoldsOutside z c.args.acquire.now) (sym (ap (λ (g : GpuState). g.home) c.gpu.view_is)) c.requires.holding.0.holds,
-      subst (λ n. c.args.buffer < n) (sym (c.gpu.invariant.1 ∙ ap (λ (g : GpuState). length g.spec.buffers) c.gpu.view_is)) c.requires.buffer,
-      c.requires.holding.2)
+lock_slow-requires g c = (
+  subst (λ z. HoldsOutside z c.args.acquire.now) (sym (ap (λ (g : GpuState). g.home) c.gpu.view_is)) c.requires.holding.0.holds,
+  subst (λ n. c.args.buffer < n) (sym (c.gpu.invariant.1 ∙ ap (λ (g : GpuState). length g.spec.buffers) c.gpu.view_is)) c.requires.buffer,
+  c.requires.holding.2,
+)
 
 pub returns-clause-on : goal.returns-clause-on
 returns-clause-on g c =

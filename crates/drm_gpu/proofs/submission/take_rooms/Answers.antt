@@ -29,8 +29,8 @@ loop-resv-preserved c =
       kept = kept_set hs i c.held-item.result c.reserve.new.self (omega (arith, test, same, len)) c.reserve.ensures.kept ∙ c.loop-resv.invariant.kept;
       room = λ k h lt at. dite (ℕ_discrete k i)
           (λ e. let is : Some new ≡ Some h = sym (get_set_same hs i old new at_hs) ∙ (ap (slice_get (set hs i new)) (sym e) ∙ at) in
-            let here : new ≡ h = cc (is) in
-            subst (λ x. IsTrue x.1.has_room) here c.in_ok-reserve.ensures.ok)
+          let here : new ≡ h = cc (is) in
+          subst (λ x. IsTrue x.1.has_room) here c.in_ok-reserve.ensures.ok)
           (λ ne. c.loop-resv.invariant.room k h (omega (arith, lt, ne)) (sym (get_set_other hs i k new (λ e. ne e)) ∙ at));
     }
 

@@ -13,12 +13,15 @@ invariant_of-result g c =
     let a = c.in-Ok.acquire in
     let v = sees c.pass.inside.seat in
     let seen = c.in-Ok.ensures.view in
-    let k : Knows gpu.spec (last_of v) v = subst (λ (z : GpuState). Knows z.spec (last_of v) v) (ap (λ (o : PassState). o.gpu) c.pass.view_is ∙ c.requires.pass) c.pass.invariant.knows in
-    (record {
-      holds = subst (λ z. HoldsOutside z a) (ap (λ (g : GpuState). g.home) c.self.view_is) c.in-Ok.ensures.holds;
-      knows = knows_same gpu.spec (last_of v) v (view a) k (ap (λ (z : Seeing). z.pivot) seen) (ap (λ (z : Seeing). z.task) seen);
-      owed = λ b x y i j p f. absurd (subst (In (b, y)) c.in-Ok.ensures.fresh.1 j);
-    }, c.in-Ok.ensures.fresh.0, c.requires.job)
+    let k : Knows gpu.spec (last_of v) v = subst (λ (z : GpuState). Knows z.spec (last_of v) v) (ap (λ (o : PassState). o.gpu) c.pass.view_is ∙ c.requires.pass) c.pass.invariant.knows in (
+      record {
+        holds = subst (λ z. HoldsOutside z a) (ap (λ (g : GpuState). g.home) c.self.view_is) c.in-Ok.ensures.holds;
+        knows = knows_same gpu.spec (last_of v) v (view a) k (ap (λ (z : Seeing). z.pivot) seen) (ap (λ (z : Seeing). z.task) seen);
+        owed = λ b x y i j p f. absurd (subst (In (b, y)) c.in-Ok.ensures.fresh.1 j);
+      },
+      c.in-Ok.ensures.fresh.0,
+      c.requires.job,
+    )
 
 pub invariant_of-result-in-Err-TicketsOut : goal.invariant_of-result-in-Err-TicketsOut
 invariant_of-result-in-Err-TicketsOut g c =

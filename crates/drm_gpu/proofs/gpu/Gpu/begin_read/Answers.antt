@@ -1,39 +1,13 @@
-use Rattle.std.proofs.Common.{◌≡◌, ◌∙◌, refl, ap, sym, subst}
-use Rattle.ww_lock.specs.Acquiring.{HoldsOutside, view}
-use Rattle.ww_lock.specs.Begun.{sees}
-use Rattle.drm_gpu.specs.Passes.{GpuState, PassState, Seeing, Knows, last_of, pass_of}
-use Rattle.drm_gpu.specs.Submissions.{Holding}
-use Rattle.drm_gpu.proofs.Chains.{seated_again}
-use Rattle.drm_gpu.proofs.Holders.{holds_nothing}
+use Rattle.std.proofs.Common.{◌≡◌, ◌∙◌, ap, refl}
+use Rattle.ww_lock.specs.Acquiring.{view}
+use Rattle.drm_gpu.specs.Passes.{PassState}
 use Rattle.drm_gpu.proofs.gpu.Gpu.begin_read.Goals as goal
-
-pub lock_first-requires-clause-holding : goal.lock_first-requires-clause-holding
-lock_first-requires-clause-holding g c =
-    let gpu = c.args.self.now in
-    let a = c.in-Ok.acquire in
-    let v = sees c.pass.inside.seat in
-    let seen = c.in-Ok.ensures.view in
-    let k : Knows gpu.spec (last_of v) v = subst (λ (z : GpuState). Knows z.spec (last_of v) v) (ap (λ (o : PassState). o.gpu) c.pass.view_is ∙ c.requires.pass) c.pass.invariant.knows in
-    (holds_nothing gpu v a (subst (λ z. HoldsOutside z a) (ap (λ (g : GpuState). g.home) c.self.view_is) c.in-Ok.ensures.holds) k (ap (λ (z : Seeing). z.pivot) seen) (ap (λ (z : Seeing). z.task) seen) c.in-Ok.ensures.fresh.1,
-      c.in-Ok.ensures.fresh.0, c.in-Ok.ensures.fresh.1)
 
 pub invariant_of-result : goal.invariant_of-result
 invariant_of-result g c =
-    (c.lock_first.ensures.on.holding, c.lock_first.ensures.on.sealed ∙ c.in-Ok.ensures.fresh.0, c.requires.buffer, c.lock_first.ensures.held)
+    (c.lock_first.ensures.on.holding, c.lock_first.ensures.on.sealed ∙ c.in_ok-acquire.ensures.holding.1, c.requires.buffer, c.lock_first.ensures.held)
 
 pub returns-clause-begun : goal.returns-clause-begun
 returns-clause-begun g c =
-    let home = c.args.self.now.home in
-    let v = sees c.pass.inside.seat in
     let last = c.lock_first.new.acquire in
-    let same : pass_of home (view c.in-Ok.acquire) ≡ c.args.pass = ap (λ z. pass_of home z) c.in-Ok.ensures.view
-    ∙ (ap (λ h. pass_of h v) (sym (ap (λ (g : GpuState). g.home) (ap (λ (o : PassState). o.gpu) c.pass.view_is ∙ c.requires.pass))) ∙ c.pass.view_is) in
-    (refl, c.lock_first.ensures.on.pass ∙ ap (λ (o : PassState). record o { had = (view last).lock.had; met = (view last).lock.met }) same)
-
-pub invariant_of-result-in-Err-TicketsOut : goal.invariant_of-result-in-Err-TicketsOut
-invariant_of-result-in-Err-TicketsOut g c =
-    let idle = rw c.in-Err-TicketsOut.field-0-is at c.in-Err-TicketsOut.ensures.idle in
-    let back = rw c.in-Err-TicketsOut.field-0-is at c.in-Err-TicketsOut.ensures.refused in
-    let v = sees c.pass.inside.seat in
-    let k = c.pass.invariant.knows in
-    seated_again c.self.inside.board.table.shared.table_id (last_of v).state.spec v c.in-Err-TicketsOut.seat k (idle k.no_task) (ap (λ m. m.0.pivot) back.2) (ap (λ m. m.0.task) back.2)
+    (refl, c.lock_first.ensures.on.pass ∙ ap (λ (o : PassState). record o { had = (view last).lock.had; met = (view last).lock.met }) c.in_ok-acquire.ensures.pass)

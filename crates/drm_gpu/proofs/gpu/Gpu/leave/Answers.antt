@@ -8,9 +8,15 @@ pub leave-requires-clause-seat : goal.leave-requires-clause-seat
 leave-requires-clause-seat c = subst (λ z. IsInside z c.args.seat.now) (sym (ap (λ (g : GpuState). g.home) c.self.view_is)) c.requires.entered.inside
 
 pub leave-requires-clause-facts : goal.leave-requires-clause-facts
-leave-requires-clause-facts c =
-    (c.args.found.now.value, c.requires.entered.knows.seen, c.requires.good, c.requires.onward, (λ b x f. c.requires.keeps.fits b x.kept f), (λ f. c.requires.keeps.words f),
-      still_busy c.args.found.now.value c.args.device c.requires.marks)
+leave-requires-clause-facts c = (
+  c.args.found.now.value,
+  c.requires.entered.knows.seen,
+  c.requires.good,
+  c.requires.onward,
+  (λ b x f. c.requires.keeps.fits b x.kept f),
+  (λ f. c.requires.keeps.words f),
+  still_busy c.args.found.now.value c.args.device c.requires.marks,
+)
 
 pub leave-requires-clause-posted : goal.leave-requires-clause-posted
 leave-requires-clause-posted c is = absurd (let never : false ≡ true = sym c.requires.entered.fresh ∙ is in cc (never))

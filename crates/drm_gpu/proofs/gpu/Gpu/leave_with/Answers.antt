@@ -12,9 +12,16 @@ pub leave_with-requires-clause-holds : goal.leave_with-requires-clause-holds
 leave_with-requires-clause-holds c = subst (λ z. HoldsInside z c.args.acquire.now) (sym (ap (λ (g : GpuState). g.home) c.self.view_is)) c.requires.entered.holds
 
 pub leave_with-requires-clause-facts : goal.leave_with-requires-clause-facts
-leave_with-requires-clause-facts c =
-    (c.args.found.now.value, c.requires.entered.knows.seen, c.requires.good, c.requires.onward, fits_kept_of c.args.device c.args.acquire.now.held.items c.requires.fit,
-      (λ b x none f. c.requires.keeps.fits b x.kept f), (λ f. c.requires.keeps.words f), still_busy c.args.found.now.value c.args.device c.requires.marks)
+leave_with-requires-clause-facts c = (
+  c.args.found.now.value,
+  c.requires.entered.knows.seen,
+  c.requires.good,
+  c.requires.onward,
+  fits_kept_of c.args.device c.args.acquire.now.held.items c.requires.fit,
+  (λ b x none f. c.requires.keeps.fits b x.kept f),
+  (λ f. c.requires.keeps.words f),
+  still_busy c.args.found.now.value c.args.device c.requires.marks,
+)
 
 pub leave_with-requires-clause-posted : goal.leave_with-requires-clause-posted
 leave_with-requires-clause-posted c is = absurd (let never : false ≡ true = sym c.requires.entered.fresh ∙ is in cc (never))
@@ -24,12 +31,14 @@ returns-clause-holding c =
     let x = c.leave_with.ensures.view in
     let a = c.leave_with.new.acquire in
     let out = subst (λ z. HoldsOutside z a) (ap (λ (g : GpuState). g.home) c.self.view_is) c.leave_with.ensures.holds in
-    let l = left_view c.args.self.now.spec c.args.found.now.value c.args.device x.0 c.args.acquire.now.held.items (view c.args.acquire.now) (view a) c.requires.entered.knows c.requires.entered.fresh c.requires.onward x.1 x.2 in
-    (record {
-      holds = out;
-      knows = l.0.0;
-      owed = owes_held (λ b (d : MarkedDevice) (r : WithRoom). Fits b d.state.journal r.kept) a out.apart (ap (λ (z : Seeing). z.lock.owes) x.2 ∙ ap (λ h. h.items) (sym c.leave_with.ensures.same.1));
-    }, l.0.1)
+    let l = left_view c.args.self.now.spec c.args.found.now.value c.args.device x.0 c.args.acquire.now.held.items (view c.args.acquire.now) (view a) c.requires.entered.knows c.requires.entered.fresh c.requires.onward x.1 x.2 in (
+      record {
+        holds = out;
+        knows = l.0.0;
+        owed = owes_held (λ b (d : MarkedDevice) (r : WithRoom). Fits b d.state.journal r.kept) a out.apart (ap (λ (z : Seeing). z.lock.owes) x.2 ∙ ap (λ h. h.items) (sym c.leave_with.ensures.same.1));
+      },
+      l.0.1,
+    )
 
 pub returns-clause-same : goal.returns-clause-same
 returns-clause-same c = let s = c.leave_with.ensures.same in (s.0.0, s.0.1, s.1)

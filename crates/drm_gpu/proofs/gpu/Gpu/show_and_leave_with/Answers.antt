@@ -23,17 +23,30 @@ post_with-requires-clause-holds c =
 pub post_with-requires-clause-facts : goal.post_with-requires-clause-facts
 post_with-requires-clause-facts c =
     let d = c.requires.shown in
-    let a = c.args.acquire.now in
-    (c.args.found.now.value, c.requires.entered.knows.seen, c.requires.good, c.requires.onward, fits_kept_of c.args.device a.held.items c.requires.fit,
+    let a = c.args.acquire.now in (
+      c.args.found.now.value,
+      c.requires.entered.knows.seen,
+      c.requires.good,
+      c.requires.onward,
+      fits_kept_of c.args.device a.held.items c.requires.fit,
       (λ b x none f. d.fits b x.kept (not_held b (view a).lock.owes a.held.items c.requires.entered.holds.keys none) f),
-      sym d.word, (λ f ne. d.words f ne), still_busy c.args.found.now.value c.args.device c.requires.marks)
+      sym d.word,
+      (λ f ne. d.words f ne),
+      still_busy c.args.found.now.value c.args.device c.requires.marks,
+    )
 
 pub leave_with-requires-clause-facts : goal.leave_with-requires-clause-facts
 leave_with-requires-clause-facts c =
-    let a = c.args.acquire.now in
-    (c.args.device, ap (λ (z : Seeing). z.pivot.seen) c.post_with.ensures.view.2, c.requires.good, grows_itself c.args.device,
+    let a = c.args.acquire.now in (
+      c.args.device,
+      ap (λ (z : Seeing). z.pivot.seen) c.post_with.ensures.view.2,
+      c.requires.good,
+      grows_itself c.args.device,
       fits_kept_of c.args.device c.post_with.new.acquire.held.items (subst (λ h. Fitting c.args.device (kept_of h.items)) (sym c.post_with.ensures.same.1) c.requires.fit),
-      (λ b x none f. f), (λ f. refl), λ t h. h)
+      (λ b x none f. f),
+      (λ f. refl),
+      λ t h. h,
+    )
 
 pub leave_with-requires-clause-posted : goal.leave_with-requires-clause-posted
 leave_with-requires-clause-posted c is = ap (λ (z : Seeing). z.pivot.seen) c.post_with.ensures.view.2
@@ -45,12 +58,14 @@ returns-clause-holding c =
     let a = c.leave_with.new.acquire in
     let out = subst (λ z. HoldsOutside z a) (ap (λ (g : GpuState). g.home) c.self.view_is) c.leave_with.ensures.holds in
     let l = shown_view c.args.self.now.spec c.args.found.now.value c.args.device x.0 y.0 c.args.acquire.now.held.items c.post_with.new.acquire.held.items (view c.args.acquire.now) (view c.post_with.new.acquire) (view a)
-    c.requires.entered.knows c.requires.onward x.1 x.2 y.2 in
-    (record {
-      holds = out;
-      knows = l.0.0;
-      owed = owes_held (λ b (d : MarkedDevice) (r : WithRoom). Fits b d.state.journal r.kept) a out.apart (ap (λ (z : Seeing). z.lock.owes) y.2 ∙ ap (λ h. h.items) (sym c.leave_with.ensures.same.1));
-    }, l.0.1)
+    c.requires.entered.knows c.requires.onward x.1 x.2 y.2 in (
+      record {
+        holds = out;
+        knows = l.0.0;
+        owed = owes_held (λ b (d : MarkedDevice) (r : WithRoom). Fits b d.state.journal r.kept) a out.apart (ap (λ (z : Seeing). z.lock.owes) y.2 ∙ ap (λ h. h.items) (sym c.leave_with.ensures.same.1));
+      },
+      l.0.1,
+    )
 
 pub returns-clause-same : goal.returns-clause-same
 returns-clause-same c = let s = c.leave_with.ensures.same in let t = c.post_with.ensures.same in (s.0.0 ∙ t.0.0, s.0.1 ∙ t.0.1, s.1 ∙ t.1)

@@ -7,9 +7,11 @@ use Rattle.drm_gpu.proofs.locking.Locking.is_held.Goals as goal
 
 pub returns-clause-held : goal.returns-clause-held
 returns-clause-held c t =
-    let x = c.has_buffer.ensures.held t in
-    (x.0.kept, subst (In (c.args.buffer, x.0.kept)) (ap (λ (s : Submission). s.held) c.self.view_is)
-      (in_kept_of c.args.buffer x.0 c.self.inside.acquire.held.items (subst (In (c.args.buffer, x.0)) c.held.ensures x.1)))
+    let x = c.has_buffer.ensures.held t in (
+      x.0.kept,
+      subst (In (c.args.buffer, x.0.kept)) (ap (λ (s : Submission). s.held) c.self.view_is)
+          (in_kept_of c.args.buffer x.0 c.self.inside.acquire.held.items (subst (In (c.args.buffer, x.0)) c.held.ensures x.1)),
+    )
 
 pub returns-clause-lacks : goal.returns-clause-lacks
 returns-clause-lacks c t x has =

@@ -15,17 +15,21 @@ invariant_of-result g c =
     let a = c.hold_all.new.acquire in
     let b = c.done.new.self in
     let e = c.done.ensures in
-    let k = c.hold_all.ensures.on.holding in
-    (done_on gpu a b k (e.holds false gpu.home k.holds) e.sealed, ap (λ (z : DeviceAcquire). z.sealed) e.sealed, c.self.invariant.2,
-      subst (λ (z : DeviceAcquire). HoldsAll c.self.inside.job (kept_of z.held.items)) (sym e.sealed) c.hold_all.ensures.all)
+    let k = c.hold_all.ensures.on.holding in (
+      done_on gpu a b k (e.holds false gpu.home k.holds) e.sealed,
+      ap (λ (z : DeviceAcquire). z.sealed) e.sealed,
+      c.self.invariant.2,
+      subst (λ (z : DeviceAcquire). HoldsAll c.self.inside.job (kept_of z.held.items)) (sym e.sealed) c.hold_all.ensures.all,
+    )
 
 pub returns-clause-same : goal.returns-clause-same
 returns-clause-same g c =
     let home = c.self.inside.gpu.now.home in
     let e = c.done.ensures.sealed in
     let on = c.hold_all.ensures.on in
-    let seen = ap (λ (z : DeviceAcquire). view z) e in
-    (ap (λ (s : Submission). s.job) c.self.view_is,
+    let seen = ap (λ (z : DeviceAcquire). view z) e in (
+      ap (λ (s : Submission). s.job) c.self.view_is,
       ap (λ (z : DeviceAcquire). z.ticket) e ∙ (on.ticket ∙ ap (λ (s : Submission). s.ticket) c.self.view_is),
       subst (λ v. pass_of home v ≡ record c.args.self.pass { had = v.lock.had; met = v.lock.met }) (sym seen)
-      (on.pass ∙ ap (λ (s : Submission). record s.pass { had = (view c.hold_all.new.acquire).lock.had; met = (view c.hold_all.new.acquire).lock.met }) c.self.view_is))
+          (on.pass ∙ ap (λ (s : Submission). record s.pass { had = (view c.hold_all.new.acquire).lock.had; met = (view c.hold_all.new.acquire).lock.met }) c.self.view_is),
+    )

@@ -19,9 +19,11 @@ release-requires-clause-fits c x y i j p f = c.self.invariant.0.owed c.args.buff
 pub invariant_of-self : goal.invariant_of-self
 invariant_of-self c =
     let a = c.release.new.acquire in
-    let e = c.release.ensures in
-    (released c.self.inside.gpu.now c.args.buffer c.self.inside.acquire a c.self.invariant.0 (subst (λ z. HoldsOutside z a) (ap (λ (g : GpuState). g.home) c.gpu.view_is) e.holds) e.view e.held,
-      e.same.1 ∙ c.self.invariant.1, c.self.invariant.2)
+    let e = c.release.ensures in (
+      released c.self.inside.gpu.now c.args.buffer c.self.inside.acquire a c.self.invariant.0 (subst (λ z. HoldsOutside z a) (ap (λ (g : GpuState). g.home) c.gpu.view_is) e.holds) e.view e.held,
+      e.same.1 ∙ c.self.invariant.1,
+      c.self.invariant.2,
+    )
 
 pub returns : goal.returns
 returns c =
@@ -32,4 +34,4 @@ returns c =
     let e = c.release.ensures in
     subst (λ (s : Submission). submission_of home job b ≡ record s { held = without c.args.buffer s.held }) c.self.view_is
     (parts job (pass_of home (view b)) (pass_of home (view a)) b.ticket a.ticket (kept_of b.held.items) (without c.args.buffer (kept_of a.held.items))
-      (ap (λ (v : Seeing). pass_of home v) e.view) e.same.0 (ap (λ hs. kept_of hs) e.held ∙ kept_without c.args.buffer a.held.items))
+    (ap (λ (v : Seeing). pass_of home v) e.view) e.same.0 (ap (λ hs. kept_of hs) e.held ∙ kept_without c.args.buffer a.held.items))

@@ -68,4 +68,4 @@ returns-clause-call g c =
     (ap (λ (s : ReadingState). s.pass) c.self.view_is) c.self.invariant.0.knows c.enter_with-device.ensures.found c.enter_with-device.ensures.same.1 c.of-found.ensures (grows_itself d)
     (c.leave_with.ensures.holding.0.knows, c.leave_with.ensures.holding.1) c.leave_with.ensures.call
     (subst (λ (s : ReadingState). ReadIs s r old new d d) c.self.view_is
-      (read_is (record { pass = c.args.self.now.pass; buffer = b; held = kept_of c.self.inside.acquire.held.items }) x has old new d r e.read e.writers e.busy e.writing))
+    (read_is (record { pass = c.args.self.now.pass; buffer = b; held = kept_of c.self.inside.acquire.held.items }) x has old new d r e.read e.writers e.busy e.writing))

@@ -44,8 +44,8 @@ show_and_leave_with-requires-clause-entered g c =
     let e = c.enter_with-device.ensures.entered in
     subst (λ d. EnteredWith gpu d c.put_values.new.self) (sym c.of-found.ensures)
     (put_back gpu c.enter_with-device.result c.enter_with-device.new.acquire c.put_values.new.self e
-      (ap (λ (a : DeviceAcquire). view a) c.put_values.ensures.values ∙ ap (λ (a : DeviceAcquire). view a) c.take_values-held.ensures.left)
-      (c.put_values.ensures.holds true gpu.home (c.take_values-held.ensures.lent true gpu.home e.holds).0))
+    (ap (λ (a : DeviceAcquire). view a) c.put_values.ensures.values ∙ ap (λ (a : DeviceAcquire). view a) c.take_values-held.ensures.left)
+    (c.put_values.ensures.holds true gpu.home (c.take_values-held.ensures.lent true gpu.home e.holds).0))
 
 pub show_and_leave_with-requires-clause-shown : goal.show_and_leave_with-requires-clause-shown
 show_and_leave_with-requires-clause-shown g c =
@@ -101,8 +101,8 @@ leave_with-requires-clause-entered g c =
     let e = c.enter_with-device.ensures.entered in
     subst (λ d. EnteredWith gpu d c.put_values.new.self) (sym c.of-found.ensures)
     (put_back gpu c.enter_with-device.result c.enter_with-device.new.acquire c.put_values.new.self e
-      (ap (λ (a : DeviceAcquire). view a) c.put_values.ensures.values ∙ ap (λ (a : DeviceAcquire). view a) c.take_values-held.ensures.left)
-      (c.put_values.ensures.holds true gpu.home (c.take_values-held.ensures.lent true gpu.home e.holds).0))
+    (ap (λ (a : DeviceAcquire). view a) c.put_values.ensures.values ∙ ap (λ (a : DeviceAcquire). view a) c.take_values-held.ensures.left)
+    (c.put_values.ensures.holds true gpu.home (c.take_values-held.ensures.lent true gpu.home e.holds).0))
 
 pub leave_with-requires-clause-keeps : goal.leave_with-requires-clause-keeps
 leave_with-requires-clause-keeps g c =
@@ -123,11 +123,14 @@ invariant_of-result-in-Err g c =
     let taken = c.take_values-held.ensures.values ∙ c.enter_with-device.ensures.same.0.2 in
     let last = c.leave_with.new.acquire in
     let held = c.leave_with.ensures.same.2 ∙ (ap (λ (a : DeviceAcquire). a.held) c.put_values.ensures.values ∙ (c.in-Err.ensures.refused.3 ∙ taken)) in
-    let sealed : last.sealed ≡ true = c.leave_with.ensures.same.1 ∙ (ap (λ (a : DeviceAcquire). a.sealed) c.put_values.ensures.values ∙ (ap (λ (a : DeviceAcquire). a.sealed) c.take_values-held.ensures.left ∙ (c.enter_with-device.ensures.same.0.1 ∙ c.self.invariant.1))) in
-    (c.leave_with.ensures.holding.0, sealed, subst (λ (p : Plan). IsJob gpu.spec p.job) (sym plan) c.self.invariant.2,
+    let sealed : last.sealed ≡ true = c.leave_with.ensures.same.1 ∙ (ap (λ (a : DeviceAcquire). a.sealed) c.put_values.ensures.values ∙ (ap (λ (a : DeviceAcquire). a.sealed) c.take_values-held.ensures.left ∙ (c.enter_with-device.ensures.same.0.1 ∙ c.self.invariant.1))) in (
+      c.leave_with.ensures.holding.0,
+      sealed,
+      subst (λ (p : Plan). IsJob gpu.spec p.job) (sym plan) c.self.invariant.2,
       subst (λ (p : Plan). HoldsAll p.job (kept_of last.held.items)) (sym plan) (subst (λ h. HoldsAll c.self.inside.plan.job (kept_of h.items)) (sym held) c.self.invariant.3),
       subst (λ (p : Plan). IsCollected p.job (kept_of last.held.items) p.deps) (sym plan) (subst (λ h. IsCollected c.self.inside.plan.job (kept_of h.items) c.self.inside.plan.deps) (sym held) c.self.invariant.4),
-      subst (λ (p : Plan). HaveRoom p.job last.held.items) (sym plan) (subst (λ h. HaveRoom c.self.inside.plan.job h.items) (sym held) c.self.invariant.5))
+      subst (λ (p : Plan). HaveRoom p.job last.held.items) (sym plan) (subst (λ h. HaveRoom c.self.inside.plan.job h.items) (sym held) c.self.invariant.5),
+    )
 
 pub returns-clause-refused : goal.returns-clause-refused
 returns-clause-refused g c =
@@ -139,14 +142,15 @@ returns-clause-refused g c =
     let taken = c.take_values-held.ensures.values ∙ c.enter_with-device.ensures.same.0.2 in
     let same = ap (λ (a : DeviceAcquire). view a) c.put_values.ensures.values ∙ ap (λ (a : DeviceAcquire). view a) c.take_values-held.ensures.left in
     let ticket : last.ticket ≡ c.args.self.submission.ticket = c.leave_with.ensures.same.0 ∙ (ap (λ (a : DeviceAcquire). a.ticket) c.put_values.ensures.values ∙ (ap (λ (a : DeviceAcquire). a.ticket) c.take_values-held.ensures.left
-      ∙ (c.enter_with-device.ensures.same.0.0 ∙ ap (λ (p : PlannedSubmission). p.submission.ticket) c.self.view_is))) in
+    ∙ (c.enter_with-device.ensures.same.0.0 ∙ ap (λ (p : PlannedSubmission). p.submission.ticket) c.self.view_is))) in
     let job : c.in-Err.plan.job ≡ c.args.self.submission.job = ap (λ (p : Plan). p.job) refused.1 ∙ ap (λ (p : PlannedSubmission). p.submission.job) c.self.view_is in
     let deps : c.in-Err.plan.deps ≡ c.args.self.deps = ap (λ (p : Plan). p.deps) refused.1 ∙ ap (λ (p : PlannedSubmission). p.deps) c.self.view_is in
     let held : kept_of last.held.items ≡ c.args.self.submission.held =
-    ap (λ h. kept_of h.items) (c.leave_with.ensures.same.2 ∙ (ap (λ (a : DeviceAcquire). a.held) c.put_values.ensures.values ∙ (refused.3 ∙ taken))) ∙ ap (λ (p : PlannedSubmission). p.submission.held) c.self.view_is in
-    (called_with (ArmRefused c.args.self.submission.job c.in-Err.refusal) gpu c.args.self.submission.pass (view c.self.inside.acquire) (view c.put_values.new.self) (view last) d c.of-found.result.value e
-      (ap (λ (p : PlannedSubmission). p.submission.pass) c.self.view_is) c.self.invariant.0.knows c.enter_with-device.ensures.found
-      (subst (λ v. IsSameBut (view c.self.inside.acquire) v) (sym same) c.enter_with-device.ensures.same.1) c.of-found.ensures c.arm-answer.ensures.grows
-      (c.leave_with.ensures.holding.0.knows, c.leave_with.ensures.holding.1) c.leave_with.ensures.call
-      (subst (λ (p : PlannedSubmission). arm_refusal d.state p.submission.job ≡ Some c.in-Err.refusal) c.self.view_is refused.0, refused.2),
-      λ i. record { submission = record { pass = pass_of gpu.home (view last); ticket = ticket i; job = job i; held = held i }; deps = deps i })
+    ap (λ h. kept_of h.items) (c.leave_with.ensures.same.2 ∙ (ap (λ (a : DeviceAcquire). a.held) c.put_values.ensures.values ∙ (refused.3 ∙ taken))) ∙ ap (λ (p : PlannedSubmission). p.submission.held) c.self.view_is in (
+      called_with (ArmRefused c.args.self.submission.job c.in-Err.refusal) gpu c.args.self.submission.pass (view c.self.inside.acquire) (view c.put_values.new.self) (view last) d c.of-found.result.value e
+          (ap (λ (p : PlannedSubmission). p.submission.pass) c.self.view_is) c.self.invariant.0.knows c.enter_with-device.ensures.found
+          (subst (λ v. IsSameBut (view c.self.inside.acquire) v) (sym same) c.enter_with-device.ensures.same.1) c.of-found.ensures c.arm-answer.ensures.grows
+          (c.leave_with.ensures.holding.0.knows, c.leave_with.ensures.holding.1) c.leave_with.ensures.call
+          (subst (λ (p : PlannedSubmission). arm_refusal d.state p.submission.job ≡ Some c.in-Err.refusal) c.self.view_is refused.0, refused.2),
+      λ i. record { submission = record { pass = pass_of gpu.home (view last); ticket = ticket i; job = job i; held = held i }; deps = deps i },
+    )
