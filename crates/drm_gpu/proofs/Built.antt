@@ -1,5 +1,5 @@
 -- What holds of a device that was just built.
-use Rattle.std.proofs.Common.{◌≡◌, ◌<◌, ◌≤◌, ◌+◌, ℕ, zero, suc, Bool, true, false, not, ◌&&◌, List, [], ◌∷◌, length, map, replicate, drop, refl, sym, ap, ◌∙◌, subst, Some, None, Option, arith, slice_get}
+use Rattle.std.proofs.Common.{◌≡◌, ◌<◌, ◌≤◌, ◌+◌, ℕ, zero, suc, Bool, true, false, not, List, [], ◌∷◌, length, map, replicate, drop, refl, sym, ap, ◌∙◌, subst, Some, None, Option, arith, slice_get}
 use Rattle.std.specs.Prelude.{nat_le}
 use Rattle.std.proofs.lemmas.Bool.{and_parts, leb-true}
 use Rattle.std.proofs.lemmas.List.Elements.{All-nil}
@@ -9,7 +9,6 @@ use Rattle.drm_types.specs.declared.spec.DeviceSpec.{DeviceSpec}
 use Rattle.drm_types.specs.Firsts.{when, first_of}
 use Rattle.drm_types.specs.Limits.{is_between, whole, each, are_rings, spec_fault}
 use Rattle.drm_resv.specs.Reservation.{Reservation, WithRoom}
-use Rattle.drm_core.specs.declared.journal.JobRecord.{JobRecord}
 use Rattle.drm_core.specs.Keeps.{word_at}
 use Rattle.drm_core.specs.Reservation.{IsOfJob, Fits}
 use Rattle.ww_lock.specs.Lifetime.{AllFit}

@@ -1,5 +1,5 @@
 -- What a call tells of its pass.
-use Rattle.std.proofs.Common.{◌≡◌, ℕ, List, [], ◌∷◌, ◌++◌, refl, sym, ap, ◌∙◌, subst, Some, None, Result, Ok, Err}
+use Rattle.std.proofs.Common.{◌≡◌, ℕ, [], ◌∷◌, ◌++◌, sym, ap, ◌∙◌, subst, Some, None, Result, Ok, Err}
 use Rattle.std.specs.Prelude.{IfOk, IfErr, OnOk, IsPermutation}
 use Rattle.atomic_table.specs.Seated.{TableId}
 use Rattle.ww_lock.specs.Begun.{IsJoined, sees}

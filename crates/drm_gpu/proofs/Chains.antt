@@ -1,9 +1,9 @@
 -- What a pass knows goes on to hold.
-use Rattle.std.proofs.Common.{◌≡◌, ℕ, List, [], ◌∷◌, ◌++◌, refl, sym, ap, ◌∙◌, subst, ⊎_elim, inl, inr, false}
-use Rattle.std.specs.Prelude.{None, true, not, ◌&&◌}
+use Rattle.std.proofs.Common.{◌≡◌, List, [], ◌∷◌, ◌++◌, refl, sym, ap, ◌∙◌, subst, ⊎_elim, inl, inr}
+use Rattle.std.specs.Prelude.{true, not, ◌&&◌}
 use Rattle.atomic_table.specs.Seated.{TableId}
 use Rattle.ww_lock.specs.Rule.{In}
-use Rattle.ww_lock.specs.Steps.{IsChain, right_half, with_entry, with_exit, with_post, calls_with}
+use Rattle.ww_lock.specs.Steps.{IsChain, right_half, with_exit, with_post, calls_with}
 use Rattle.ww_lock.specs.declared.board.TaskChange.TheVariants.{Same}
 use Rattle.ww_lock.specs.Begun.{IsJoined, IsIdle, IsOutside, sees}
 use Rattle.drm_types.specs.declared.spec.DeviceSpec.{DeviceSpec}

@@ -1,17 +1,16 @@
 -- What is collected from held reservations covers each device that they fit.
-use Rattle.std.proofs.Common.{◌≡◌, ℕ, suc, ◌<◌, ◌≤◌, ◌==◌, Bool, true, false, cond, ◌&&◌, List, [], ◌∷◌, length, refl, sym, ap, ◌∙◌, subst, ⊎_elim, inl, inr, arith, Option, Some, None, slice_get}
-use Rattle.std.specs.Prelude.{Contains, All, fold, option_map, nat_le, find}
+use Rattle.std.proofs.Common.{◌≡◌, ℕ, suc, ◌==◌, Bool, true, false, cond, ◌&&◌, List, [], ◌∷◌, refl, sym, ap, ◌∙◌, subst, ⊎_elim, inl, inr, arith, Option, Some, None, slice_get}
+use Rattle.std.specs.Prelude.{Contains, All, fold, option_map, nat_le}
 use Rattle.std.specs.Option.{option_map_or}
 use Rattle.std.specs.List.{list_any, filter}
 use Rattle.std.proofs.lemmas.Bool.{or_cases, and_parts, eqb-true, leb-true, both_ways}
 use Rattle.std.proofs.lemmas.List.Elements.{All-contains, All-nil, All-weaker}
 use Rattle.drm_types.specs.declared.access.Access.{Access}
 use Rattle.drm_types.specs.declared.access.Access.TheVariants as access
-use Rattle.drm_types.specs.declared.access.Usage.{Usage}
 use Rattle.drm_types.specs.declared.spec.DeviceSpec.{DeviceSpec}
 use Rattle.drm_types.specs.Usages.{added_usage, wanted_usage, is_as_strong}
 use Rattle.drm_job.specs.declared.Draft.{Draft}
-use Rattle.drm_job.specs.Conflicts.{must_wait, conflicts}
+use Rattle.drm_job.specs.Conflicts.{must_wait}
 use Rattle.drm_job.specs.Fault.{IsJob}
 use Rattle.drm_job.specs.Uses.{access_of}
 use Rattle.drm_job.proofs.Apart.{conflicts_at}
@@ -22,7 +21,6 @@ use Rattle.drm_resv.specs.declared.entry.Entry.{Entry}
 use Rattle.drm_resv.specs.Entries.{entries_of}
 use Rattle.drm_resv.specs.Noting.{all_noted}
 use Rattle.drm_resv.specs.Reservation.{Reservation, WithRoom}
-use Rattle.drm_core.specs.declared.journal.JobRecord.{JobRecord}
 use Rattle.drm_core.specs.Cores.{MeetsPlan, DepsCover}
 use Rattle.drm_core.specs.Lawful.{IsLawfulDevice}
 use Rattle.drm_core.specs.Reservation.{usage_at, stands_for, IsOfJob, Fits}

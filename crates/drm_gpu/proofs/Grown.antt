@@ -1,5 +1,5 @@
 -- A device that is left as it was found.
-use Rattle.std.proofs.Common.{◌≡◌, refl}
+use Rattle.std.proofs.Common.{refl}
 use Rattle.drm_core.specs.Keeps.{Keeps}
 use Rattle.drm_core.specs.Marks.{MarkedDevice}
 use Rattle.drm_gpu.specs.Passes.{GrowsTo}

@@ -1,28 +1,26 @@
 -- What a caller that holds values knows goes on to hold.
-use Rattle.std.proofs.Common.{◌≡◌, ◌<◌, ℕ, zero, suc, length, slice_index_or, arith, List, [], ◌∷◌, ◌++◌, map, refl, sym, ap, ◌∙◌, subst, ⊎_elim, inl, inr, false, Some, None, Result, Ok, Err, slice_get}
+use Rattle.std.proofs.Common.{◌≡◌, ◌<◌, ℕ, length, slice_index_or, arith, List, [], ◌∷◌, ◌++◌, map, refl, sym, ap, ◌∙◌, subst, ⊎_elim, inl, inr, false, Some, None}
 use Rattle.std.specs.Prelude.{Bool, true, not, ◌&&◌, ◌==◌, if◌then◌else◌}
-use Rattle.atomic_table.specs.Seated.{TableId}
-use Rattle.ww_lock.specs.Acquiring.{Holds, HoldsInside, HoldsOutside, HasLent, IsAsOwed, view}
-use Rattle.ww_lock.specs.Held.{IsSameKeys, IsApart, HasAt, Lacks}
+use Rattle.ww_lock.specs.Acquiring.{HoldsInside, HoldsOutside, IsAsOwed, view}
+use Rattle.ww_lock.specs.Held.{IsSameKeys, IsApart, HasAt}
 use Rattle.ww_lock.specs.Rule.{In}
 use Rattle.ww_lock.specs.Steps.{with_exit, with_post, with_release, without, calls_with, number_of}
 use Rattle.ww_lock.specs.declared.board.TaskChange.TheVariants.{Same}
-use Rattle.ww_lock.specs.Begun.{IsOutside, sees}
+use Rattle.ww_lock.specs.Begun.{IsOutside}
 use Rattle.drm_types.specs.declared.spec.DeviceSpec.{DeviceSpec}
 use Rattle.drm_job.specs.declared.Draft.{Draft}
 use Rattle.drm_resv.specs.Reservation.{Reservation, WithRoom}
-use Rattle.drm_core.specs.declared.journal.JobRecord.{JobRecord}
 use Rattle.drm_core.specs.Held.{kept_of, AllFit}
 use Rattle.drm_core.specs.Keeps.{KeepsArmed}
 use Rattle.drm_core.specs.Reservation.{Fits, usage_at}
 use Rattle.drm_core.proofs.Collecting.{adds_declared}
 use Rattle.drm_core.specs.Marks.{MarkedDevice}
-use Rattle.drm_gpu.specs.Passes.{Seeing, DeviceSeat, IsPassSeat, GpuState, PassState, Knows, IsFound, IsSameBut, Adds, Calls, GrowsTo, first_or, blank, last_of, gpu_of, pass_of}
+use Rattle.drm_gpu.specs.Passes.{Seeing, DeviceSeat, IsPassSeat, GpuState, PassState, Knows, IsFound, IsSameBut, Adds, Calls, GrowsTo, first_or, blank, last_of, pass_of}
 use Rattle.drm_gpu.specs.Submissions.{DeviceAcquire, Holding, HoldsAll, EnteredWith, Fitting, KeepsOthers}
 use Rattle.drm_gpu.proofs.Chains.{knows_called, knows_same, last_is}
 use Rattle.drm_gpu.proofs.Called.{calls_of}
 use Rattle.drm_gpu.proofs.Covering.{in_kept}
-use Rattle.drm_gpu.proofs.Lists.{elem_of, key_in, in_without, at_in, at_of, in_of, one_value, place_of}
+use Rattle.drm_gpu.proofs.Lists.{elem_of, key_in, in_without, at_of, in_of, one_value, place_of}
 
 -- ---- what is held, with its room and without
 

@@ -1,5 +1,5 @@
 -- What a readback tells.
-use Rattle.std.proofs.Common.{◌≡◌, ◌<◌, ℕ, List, [], length, get_or, false, true, refl, sym, ap, ◌∙◌, Some, None, Option, Result, Ok, Err, Bool}
+use Rattle.std.proofs.Common.{◌≡◌, ℕ, List, [], length, get_or, false, true, refl, sym, ap, ◌∙◌, Some, None, Option, Result, Ok, Err, Bool}
 use Rattle.std.specs.Prelude.{OnOk, IfErr, option_map}
 use Rattle.std.proofs.Math.ListN.{get_or-map}
 use Rattle.std.proofs.lemmas.List.{length-map}

@@ -1,11 +1,10 @@
 -- What is kept and collected, value by value.
-use Rattle.std.proofs.Common.{◌≡◌, ◌<◌, ◌≤◌, ◌+◌, ℕ, zero, suc, List, [], ◌∷◌, length, set, get_or, take, map, refl, sym, ap, ◌∙◌, subst, arith, Some, slice_get, slice_set}
+use Rattle.std.proofs.Common.{◌≡◌, ◌<◌, ℕ, zero, suc, List, [], ◌∷◌, length, set, get_or, refl, ap, arith}
 use Rattle.std.specs.Prelude.{fold}
-use Rattle.std.proofs.lemmas.List.Sums.{fold_more}
 use Rattle.drm_job.specs.declared.Draft.{Draft}
-use Rattle.drm_resv.specs.Reservation.{Reservation, WithRoom}
+use Rattle.drm_resv.specs.Reservation.{WithRoom}
 use Rattle.drm_core.specs.Held.{kept_of}
-use Rattle.drm_gpu.specs.Submissions.{collected_at, collected_from}
+use Rattle.drm_gpu.specs.Submissions.{collected_at}
 
 abbrev pub collected_by : Draft → List (ℕ × ℕ) → ℕ × WithRoom → List (ℕ × ℕ)
 collected_by job deps h = collected_at job deps (h.0, h.1.kept)

@@ -1,5 +1,5 @@
 -- What a fence word tells of its job.
-use Rattle.std.proofs.Common.{◌≡◌, ◌<◌, ℕ, zero, suc, List, refl, sym, ap, ◌∙◌, subst, Some, None, Option, arith, slice_get}
+use Rattle.std.proofs.Common.{◌≡◌, ◌<◌, ℕ, zero, suc, List, refl, sym, ap, ◌∙◌, Some, None, Option, arith, slice_get}
 use Rattle.std.specs.Prelude.{ℤ, pos, negsuc, option_map}
 use Rattle.std.specs.Option.{option_map_or}
 use Rattle.drm_types.specs.declared.outcome.Outcome.TheVariants.{Good, Cancelled, Stopped}

@@ -9,7 +9,7 @@ use Rattle.drm_fence.specs.declared.phase.Phase.TheVariants.{Queued, Scheduled, 
 use Rattle.drm_fence.specs.Phases.{has_ended}
 use Rattle.ww_lock.specs.Fences.{NotBack}
 use Rattle.drm_core.specs.declared.journal.JobRecord.{JobRecord}
-use Rattle.drm_core.specs.Grows.{GoesOn, RecordGrows, EntityGrows, EachInPlace, Grows}
+use Rattle.drm_core.specs.Grows.{GoesOn, RecordGrows, EntityGrows, EachInPlace}
 use Rattle.drm_core.specs.Keeps.{word_of}
 use Rattle.drm_core.specs.Marks.{MarkedDevice}
 use Rattle.drm_gpu.specs.Passes.{GrowsTo, word_shown}

@@ -1,5 +1,5 @@
 -- The states of a submission.
-use Rattle.std.specs.Prelude.{◌≡◌, ◌≢◌, ◌<◌, ◌≤◌, ℕ, Bool, false, List, [], ◌∷◌, ◌++◌, Some, None, Result, Ok, Err, All, Contains, IsTrue, slice_get, length, fold}
+use Rattle.std.specs.Prelude.{◌≡◌, ◌≢◌, ◌<◌, ◌≤◌, ℕ, false, List, [], ◌∷◌, ◌++◌, Some, None, Result, Ok, Err, All, Contains, slice_get, length, fold}
 use Rattle.std.specs.Option.{option_map_or}
 use Rattle.drm_resv.specs.Noting.{all_noted}
 use Rattle.atomic_table.specs.Seated.{TableId}
@@ -15,7 +15,6 @@ use Rattle.ww_lock.specs.Rule.{In}
 use Rattle.drm_types.specs.declared.access.Access.{Access}
 use Rattle.drm_types.specs.Usages.{wanted_usage}
 use Rattle.drm_job.specs.declared.Draft.{Draft}
-use Rattle.drm_job.specs.Fault.{IsJob, buffers_of}
 use Rattle.drm_job.specs.Uses.{access_of}
 use Rattle.drm_resv.specs.declared.entry.Entry.{Entry}
 use Rattle.drm_resv.specs.Entries.{entries_of}
@@ -23,8 +22,8 @@ use Rattle.drm_resv.specs.Reservation.{Reservation, WithRoom}
 use Rattle.drm_core.specs.declared.event.Refusal.{Refusal}
 use Rattle.drm_core.specs.Arming.{armed_device}
 use Rattle.drm_core.specs.Cores.{DepsCover}
-use Rattle.drm_core.specs.Held.{HaveRoom, kept_of, armed_held, AllFit}
-use Rattle.drm_core.specs.Refusals.{arm_refusal, busy_fence}
+use Rattle.drm_core.specs.Held.{kept_of, armed_held, AllFit}
+use Rattle.drm_core.specs.Refusals.{arm_refusal}
 use Rattle.drm_core.specs.Reservation.{Fits}
 use Rattle.drm_core.specs.Marks.{MarkedDevice, Task}
 use Rattle.drm_gpu.specs.Passes.{GpuState, PassState, Knows, last_of, pass_of, word_shown}

@@ -1,7 +1,6 @@
-use Rattle.std.proofs.Common.{◌≡◌, ◌∙◌, ap, sym, subst}
+use Rattle.std.proofs.Common.{◌∙◌, ap, sym, subst}
 use Rattle.ww_lock.specs.Acquiring.{view}
-use Rattle.ww_lock.specs.Begun.{sees}
-use Rattle.drm_gpu.specs.Passes.{Seeing, GpuState, IsPassSeat, gpu_of, pass_of}
+use Rattle.drm_gpu.specs.Passes.{IsPassSeat, pass_of}
 use Rattle.drm_gpu.proofs.Called.{at_gpu}
 use Rattle.drm_gpu.proofs.Holders.{ended}
 use Rattle.drm_gpu.proofs.locking.give_up.Goals as goal

@@ -1,4 +1,4 @@
-use Rattle.std.proofs.Common.{◌≡◌, ◌∙◌, ap, sym, subst, Result, Err}
+use Rattle.std.proofs.Common.{◌≡◌, ap, sym, subst, Err}
 use Rattle.ww_lock.specs.Acquiring.{HoldsOutside}
 use Rattle.ww_lock.specs.Rule.{In}
 use Rattle.ww_lock.specs.declared.locks.LockError.TheVariants as lock

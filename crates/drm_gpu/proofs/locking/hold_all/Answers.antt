@@ -1,4 +1,4 @@
-use Rattle.std.proofs.Common.{◌≡◌, ◌∙◌}
+use Rattle.std.proofs.Common.{◌∙◌}
 use Rattle.drm_gpu.proofs.Claims.{went_itself, went_trans, went_back}
 use Rattle.drm_gpu.proofs.locking.hold_all.Goals as goal
 

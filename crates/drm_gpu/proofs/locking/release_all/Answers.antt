@@ -1,5 +1,5 @@
-use Rattle.std.proofs.Common.{◌≡◌, ◌<◌, ◌∙◌, ap, sym, subst, length, slice_index_or}
-use Rattle.ww_lock.specs.Acquiring.{HoldsOutside, view}
+use Rattle.std.proofs.Common.{◌<◌, ◌∙◌, ap, sym, subst, length, slice_index_or}
+use Rattle.ww_lock.specs.Acquiring.{HoldsOutside}
 use Rattle.ww_lock.specs.Held.{HasAt}
 use Rattle.drm_gpu.specs.Passes.{GpuState, Seeing, pass_of}
 use Rattle.drm_gpu.proofs.Holders.{first_at, released}

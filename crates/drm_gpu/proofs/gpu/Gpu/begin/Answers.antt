@@ -1,4 +1,4 @@
-use Rattle.std.proofs.Common.{◌≡◌, ◌∙◌, ap, sym, subst}
+use Rattle.std.proofs.Common.{◌∙◌, ap, subst}
 use Rattle.ww_lock.specs.Acquiring.{HoldsOutside, view}
 use Rattle.ww_lock.specs.Begun.{sees}
 use Rattle.ww_lock.specs.Rule.{In}

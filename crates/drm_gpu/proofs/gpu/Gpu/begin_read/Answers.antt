@@ -1,4 +1,4 @@
-use Rattle.std.proofs.Common.{◌≡◌, ◌∙◌, ap, refl}
+use Rattle.std.proofs.Common.{◌∙◌, ap, refl}
 use Rattle.ww_lock.specs.Acquiring.{view}
 use Rattle.drm_gpu.specs.Passes.{PassState}
 use Rattle.drm_gpu.proofs.gpu.Gpu.begin_read.Goals as goal

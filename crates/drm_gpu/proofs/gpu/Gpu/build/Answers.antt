@@ -1,4 +1,4 @@
-use Rattle.std.proofs.Common.{◌≡◌, ◌≤◌, ◌∙◌, ap, sym, subst, arith, length, None}
+use Rattle.std.proofs.Common.{◌≡◌, ◌∙◌, ap, sym, subst, arith, length, None}
 use Rattle.drm_types.specs.Limits.{spec_fault}
 use Rattle.drm_resv.specs.Reservation.{WithRoom}
 use Rattle.drm_core.specs.Marks.{MarkedDevice, unmarked}

@@ -4,7 +4,6 @@ use Rattle.ww_lock.specs.Lifetime.{HasAll}
 use Rattle.ww_lock.specs.Parts.{IsWhole}
 use Rattle.ww_lock.specs.Rule.{In}
 use Rattle.drm_types.specs.declared.spec.DeviceSpec.{DeviceSpec}
-use Rattle.drm_core.specs.Marks.{MarkedDevice}
 use Rattle.drm_gpu.specs.Passes.{GpuState, PassState, GrowsTo, last_of}
 use Rattle.drm_gpu.proofs.Chains.{saw}
 use Rattle.drm_gpu.proofs.Lists.{slice_of}

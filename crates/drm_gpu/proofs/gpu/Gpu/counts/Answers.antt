@@ -1,4 +1,4 @@
-use Rattle.std.proofs.Common.{◌≡◌, sym, subst, refl, ap}
+use Rattle.std.proofs.Common.{sym, subst, refl}
 use Rattle.drm_core.specs.Keeps.{Keeps}
 use Rattle.drm_core.specs.Marks.{MarkedDevice}
 use Rattle.drm_gpu.specs.Answers.{CountsAre}

@@ -1,5 +1,5 @@
-use Rattle.std.proofs.Common.{◌≡◌, ◌∙◌, ap, sym, subst}
-use Rattle.ww_lock.specs.Acquiring.{HoldsOutside, view}
+use Rattle.std.proofs.Common.{◌∙◌, ap, sym, subst}
+use Rattle.ww_lock.specs.Acquiring.{HoldsOutside}
 use Rattle.ww_lock.specs.Begun.{sees}
 use Rattle.drm_gpu.specs.Passes.{GpuState, PassState, Seeing, Knows, last_of, pass_of}
 use Rattle.drm_gpu.proofs.Chains.{seated_again}

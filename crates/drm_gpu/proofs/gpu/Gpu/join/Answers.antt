@@ -1,4 +1,4 @@
-use Rattle.std.proofs.Common.{◌≡◌, ◌∙◌, ap, sym, subst}
+use Rattle.std.proofs.Common.{◌∙◌, ap, sym, subst}
 use Rattle.ww_lock.specs.Begun.{IsIdle, sees}
 use Rattle.drm_gpu.specs.Passes.{GpuState, PassState, Knows, IsPassSeat, last_of}
 use Rattle.drm_gpu.proofs.Called.{at_gpu, joined_of}

@@ -1,5 +1,5 @@
 use Rattle.std.proofs.Common.{◌≡◌, ◌∙◌, true, false, ap, sym, subst}
-use Rattle.ww_lock.specs.Begun.{IsOutside, IsInside, sees}
+use Rattle.ww_lock.specs.Begun.{IsOutside, IsInside}
 use Rattle.drm_gpu.specs.Passes.{GpuState}
 use Rattle.drm_gpu.proofs.Chains.{left, still_busy}
 use Rattle.drm_gpu.proofs.gpu.Gpu.leave.Goals as goal

@@ -1,6 +1,5 @@
-use Rattle.std.proofs.Common.{◌≡◌, ◌<◌, ◌∙◌, ap, sym, subst}
-use Rattle.ww_lock.specs.Begun.{sees}
-use Rattle.drm_gpu.specs.Passes.{GpuState, PassState, last_of}
+use Rattle.std.proofs.Common.{◌<◌, ◌∙◌, ap, sym, subst}
+use Rattle.drm_gpu.specs.Passes.{GpuState, PassState}
 use Rattle.drm_gpu.proofs.Looking.{still_seated, looks_at}
 use Rattle.drm_gpu.proofs.gpu.Gpu.look_at.Goals as goal
 

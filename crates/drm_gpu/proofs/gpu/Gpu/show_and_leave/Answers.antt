@@ -1,5 +1,5 @@
-use Rattle.std.proofs.Common.{◌≡◌, ◌<◌, ◌∙◌, ap, sym, subst, refl}
-use Rattle.ww_lock.specs.Begun.{IsOutside, IsInside, sees}
+use Rattle.std.proofs.Common.{◌<◌, ◌∙◌, ap, sym, subst, refl}
+use Rattle.ww_lock.specs.Begun.{IsOutside, IsInside}
 use Rattle.drm_types.specs.declared.spec.DeviceSpec.{DeviceSpec}
 use Rattle.drm_gpu.proofs.Grown.{grows_itself}
 use Rattle.drm_gpu.specs.Passes.{GpuState, Seeing}

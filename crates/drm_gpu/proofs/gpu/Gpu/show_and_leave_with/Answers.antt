@@ -1,4 +1,4 @@
-use Rattle.std.proofs.Common.{◌≡◌, ◌<◌, ◌∙◌, ap, sym, subst, refl}
+use Rattle.std.proofs.Common.{◌<◌, ◌∙◌, ap, sym, subst, refl}
 use Rattle.ww_lock.specs.Acquiring.{HoldsOutside, HoldsInside, view}
 use Rattle.drm_types.specs.declared.spec.DeviceSpec.{DeviceSpec}
 use Rattle.drm_resv.specs.Reservation.{WithRoom}

@@ -1,5 +1,4 @@
-use Rattle.std.proofs.Common.{◌≡◌, ◌<◌, ◌≤◌, ◌∙◌, ap, sym, subst, arith, refl}
-use Rattle.drm_types.specs.declared.spec.DeviceSpec.{DeviceSpec}
+use Rattle.std.proofs.Common.{◌<◌, subst}
 use Rattle.drm_gpu.specs.Passes.{GpuState}
 use Rattle.drm_gpu.proofs.Built.{some_jobs}
 use Rattle.drm_gpu.proofs.gpu.Gpu.status.Goals as goal

@@ -1,6 +1,5 @@
 use Rattle.std.proofs.Common.{◌≡◌, ◌∙◌, ap, sym, subst, true, false}
 use Rattle.ww_lock.specs.Acquiring.{view}
-use Rattle.drm_resv.specs.Reservation.{Reservation}
 use Rattle.drm_core.specs.Held.{HaveRoom, kept_of}
 use Rattle.drm_gpu.specs.Passes.{Seeing, pass_of}
 use Rattle.drm_gpu.specs.Submissions.{DeviceAcquire, HoldsAll, IsCollected, collected_from}

@@ -1,4 +1,4 @@
-use Rattle.std.proofs.Common.{◌≡◌, ap, sym, subst}
+use Rattle.std.proofs.Common.{ap, sym, subst}
 use Rattle.ww_lock.specs.Rule.{In}
 use Rattle.drm_gpu.specs.Submissions.{Submission}
 use Rattle.drm_gpu.proofs.Covering.{in_kept}

@@ -1,4 +1,4 @@
-use Rattle.std.proofs.Common.{◌≡◌, ◌<◌, ◌∙◌, ap, sym, subst, length}
+use Rattle.std.proofs.Common.{◌<◌, ◌∙◌, ap, sym, subst, length}
 use Rattle.ww_lock.specs.Acquiring.{HoldsOutside}
 use Rattle.drm_types.specs.declared.spec.DeviceSpec.{DeviceSpec}
 use Rattle.drm_gpu.specs.Passes.{GpuState}

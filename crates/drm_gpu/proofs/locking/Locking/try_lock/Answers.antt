@@ -1,4 +1,4 @@
-use Rattle.std.proofs.Common.{◌≡◌, ◌∙◌, ap, sym, subst}
+use Rattle.std.proofs.Common.{◌∙◌, ap, subst}
 use Rattle.ww_lock.specs.Acquiring.{HoldsOutside}
 use Rattle.drm_gpu.specs.Passes.{GpuState}
 use Rattle.drm_gpu.specs.Submissions.{Submission, TriesLock, submission_of}

@@ -4,12 +4,11 @@ use Rattle.ww_lock.specs.Acquiring.{view}
 use Rattle.ww_lock.specs.Rule.{In}
 use Rattle.drm_types.specs.declared.spec.DeviceSpec.{DeviceSpec}
 use Rattle.drm_buffer.specs.Memory.{bytes_of}
-use Rattle.drm_resv.specs.Reservation.{Reservation, WithRoom}
 use Rattle.drm_core.specs.Held.{kept_of}
 use Rattle.drm_core.specs.Keeps.{Keeps}
 use Rattle.drm_core.specs.Marks.{MarkedDevice}
 use Rattle.drm_core.specs.Reservation.{Fits}
-use Rattle.drm_gpu.specs.Passes.{GrowsTo, last_of}
+use Rattle.drm_gpu.specs.Passes.{GrowsTo}
 use Rattle.drm_gpu.specs.Reading.{ReadingState, ReadIs}
 use Rattle.drm_gpu.specs.Submissions.{Fitting}
 use Rattle.drm_gpu.proofs.Grown.{grows_itself, keeps_itself}

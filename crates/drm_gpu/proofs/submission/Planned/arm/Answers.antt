@@ -1,15 +1,14 @@
-use Rattle.std.proofs.Common.{◌≡◌, ◌∙◌, ap, sym, subst, true, Some, None, map}
-use Rattle.ww_lock.specs.Acquiring.{HoldsInside, view}
+use Rattle.std.proofs.Common.{◌≡◌, ◌∙◌, ap, sym, subst, true, Some, map}
+use Rattle.ww_lock.specs.Acquiring.{view}
 use Rattle.ww_lock.specs.Steps.{number_of}
 use Rattle.drm_types.specs.declared.spec.DeviceSpec.{DeviceSpec}
 use Rattle.drm_job.specs.Fault.{IsJob}
-use Rattle.drm_resv.specs.Reservation.{Reservation, WithRoom}
 use Rattle.drm_core.specs.declared.cores.Plan.{Plan}
 use Rattle.drm_core.specs.Held.{HaveRoom, kept_of, armed_held}
 use Rattle.drm_core.specs.Keeps.{Keeps}
 use Rattle.drm_core.specs.Marks.{MarkedDevice}
 use Rattle.drm_core.specs.Refusals.{arm_refusal}
-use Rattle.drm_gpu.specs.Passes.{IsSameBut, last_of, pass_of}
+use Rattle.drm_gpu.specs.Passes.{IsSameBut, pass_of}
 use Rattle.drm_gpu.specs.Submissions.{PlannedSubmission, DeviceAcquire, EnteredWith, Fitting, HoldsAll, IsCollected, KeepsOthers, ArmIs, ArmRefused}
 use Rattle.drm_gpu.proofs.Covering.{covers}
 use Rattle.drm_gpu.proofs.Grown.{keeps_itself}
