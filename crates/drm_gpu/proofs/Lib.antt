@@ -1,0 +1,12 @@
+pub mod Lists
+pub mod Grown
+pub mod Chains
+pub mod Covering
+pub mod Called
+pub mod Holders
+pub mod Claims
+pub mod Rooms
+pub mod Read
+pub mod Statuses
+pub mod Built
+pub mod Looking

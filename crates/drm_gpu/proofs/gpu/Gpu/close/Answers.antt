@@ -1,0 +1,38 @@
+use Rattle.std.proofs.Common.{◌≡◌, ◌<◌, ◌∙◌, ap, sym, subst, ⊎_elim, length, Some}
+use Rattle.ww_lock.specs.Begun.{sees}
+use Rattle.ww_lock.specs.Lifetime.{HasAll}
+use Rattle.ww_lock.specs.Parts.{IsWhole}
+use Rattle.ww_lock.specs.Rule.{In}
+use Rattle.drm_types.specs.declared.spec.DeviceSpec.{DeviceSpec}
+use Rattle.drm_gpu.specs.Passes.{GpuState, PassState, GrowsTo, last_of}
+use Rattle.drm_gpu.proofs.Chains.{saw}
+use Rattle.drm_gpu.proofs.Lists.{slice_of}
+use Rattle.drm_gpu.proofs.gpu.Gpu.close.Goals as goal
+
+pub returns-clause-closed : goal.returns-clause-closed
+returns-clause-closed c =
+    let device = c.in-Ok-close.device in
+    let v = sees c.pass.inside.seat in
+    let k = c.pass.invariant.knows in
+    let idle = c.pass.invariant.idle in
+    let e = c.in-Ok-close.ensures in
+    let left = c.close-left.ensures in
+    let out = c.close.new.out in
+    let later : GrowsTo (last_of v) device = e.pivot.1 (last_of v) (saw (last_of v).state.spec (last_of v) v k) in
+    let described : c.self.inside.board.table.shared.key.pivot.value.state.spec ≡ device.state.spec =
+    ap (λ (g : GpuState). g.spec) c.self.view_is ∙ (sym (ap (λ (g : GpuState). g.spec) (ap (λ (o : PassState). o.gpu) c.pass.view_is ∙ c.requires)) ∙ sym later.spec) in
+    let count : length out.items ≡ c.self.inside.board.buffers = sym out.ok.0 ∙ e.length in
+    let has_all : IsWhole c.args.pass.part → HasAll v = λ whole. (subst (λ (o : PassState). IsWhole o.part) (sym c.pass.view_is) whole, idle.0.2, idle.0.3) in
+    record {
+      device = device;
+      lawful = e.pivot.0;
+      later = subst (λ (o : PassState). GrowsTo o.last device) c.pass.view_is later;
+      spec = left.left.0;
+      records = left.left.1;
+      bytes = left.left.2;
+      out = left.out;
+      fit = e.pivot.2;
+      count = count ∙ (c.self.invariant.1 ∙ ap (λ (s : DeviceSpec). length s.buffers) described);
+      last = λ whole. ⊎_elim (λ is. is) (λ no. absurd no) (subst (In device) k.seen (e.last (has_all whole))) ∙ ap (λ (o : PassState). o.last) c.pass.view_is;
+      all = λ whole b lt. let x = e.all (has_all whole) b (subst (λ n. b < n) count lt) in (x.0, slice_of out.items b (Some x.0) x.1);
+    }

@@ -1,0 +1,24 @@
+use Rattle.std.proofs.Common.{sym, subst, refl}
+use Rattle.drm_sched.specs.Keeps.{Keeps}
+use Rattle.drm_sched.specs.Marks.{MarkedDevice}
+use Rattle.drm_gpu.specs.Answers.{CountsAre}
+use Rattle.drm_gpu.specs.Passes.{GrowsTo}
+use Rattle.drm_gpu.proofs.Called.{called}
+use Rattle.drm_gpu.proofs.Grown.{grows_itself, keeps_itself}
+use Rattle.drm_gpu.proofs.gpu.Gpu.counts.Goals as goal
+
+pub leave-requires-clause-onward : goal.leave-requires-clause-onward
+leave-requires-clause-onward g c = subst (λ x. GrowsTo x c.enter-device.result) (sym c.of-found.ensures) (grows_itself c.enter-device.result)
+
+pub leave-requires-clause-keeps : goal.leave-requires-clause-keeps
+leave-requires-clause-keeps g c =
+    subst (λ (x : MarkedDevice). Keeps x.state c.enter-device.result.state) (sym c.of-found.ensures) (keeps_itself c.enter-device.result)
+
+pub returns : goal.returns
+returns g c =
+    let d = c.enter-device.result in
+    record {
+      call = called (CountsAre (c.armed.result, c.ended.result)) c.args.self.now c.args.pass.now c.pass.inside.seat.place.table_id c.pass.inside.seat c.enter-device.new.seat c.leave.new.seat d c.of-found.result.value d
+          c.pass.view_is c.requires.pass c.enter-device.ensures.found c.enter-device.ensures.same c.of-found.ensures (grows_itself d) c.leave.ensures.seat c.leave.ensures.call
+          (c.armed.ensures, c.ended.ensures, refl);
+    }

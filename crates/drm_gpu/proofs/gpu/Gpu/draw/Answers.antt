@@ -1,0 +1,33 @@
+use Rattle.std.proofs.Common.{◌∙◌, ap, sym, subst}
+use Rattle.ww_lock.specs.Acquiring.{HoldsOutside}
+use Rattle.ww_lock.specs.Begun.{sees}
+use Rattle.drm_gpu.specs.Passes.{GpuState, PassState, Seeing, Knows, last_of, pass_of}
+use Rattle.drm_gpu.proofs.Chains.{seated_again}
+use Rattle.drm_gpu.proofs.Holders.{holds_nothing}
+use Rattle.drm_gpu.proofs.gpu.Gpu.draw.Goals as goal
+
+pub returns-in-Ok-clause-holding : goal.returns-in-Ok-clause-holding
+returns-in-Ok-clause-holding g c =
+    let gpu = c.args.self.now in
+    let a = c.in-Ok.acquire in
+    let v = sees c.pass.inside.seat in
+    let seen = c.in-Ok.ensures.view in
+    let k : Knows gpu.spec (last_of v) v = subst (λ (z : GpuState). Knows z.spec (last_of v) v) (ap (λ (o : PassState). o.gpu) c.pass.view_is ∙ c.requires) c.pass.invariant.knows in (
+      holds_nothing gpu v a (subst (λ z. HoldsOutside z a) (ap (λ (g : GpuState). g.home) c.self.view_is) c.in-Ok.ensures.holds) k (ap (λ (z : Seeing). z.pivot) seen) (ap (λ (z : Seeing). z.task) seen) c.in-Ok.ensures.fresh.1,
+      c.in-Ok.ensures.fresh.0,
+      c.in-Ok.ensures.fresh.1,
+    )
+
+pub returns-in-Ok-clause-pass : goal.returns-in-Ok-clause-pass
+returns-in-Ok-clause-pass g c =
+    let v = sees c.pass.inside.seat in
+    ap (λ z. pass_of c.args.self.now.home z) c.in-Ok.ensures.view
+    ∙ (ap (λ h. pass_of h v) (sym (ap (λ (g : GpuState). g.home) (ap (λ (o : PassState). o.gpu) c.pass.view_is ∙ c.requires))) ∙ c.pass.view_is)
+
+pub invariant_of-result-in-Err-TicketsOut : goal.invariant_of-result-in-Err-TicketsOut
+invariant_of-result-in-Err-TicketsOut g c =
+    let idle = rw c.in-Err-TicketsOut.field-0-is at c.in-Err-TicketsOut.ensures.idle in
+    let back = rw c.in-Err-TicketsOut.field-0-is at c.in-Err-TicketsOut.ensures.refused in
+    let v = sees c.pass.inside.seat in
+    let k = c.pass.invariant.knows in
+    seated_again c.self.inside.board.table.shared.table_id (last_of v).state.spec v c.in-Err-TicketsOut.seat k (idle k.no_task) (ap (λ m. m.0.pivot) back.2) (ap (λ m. m.0.task) back.2)

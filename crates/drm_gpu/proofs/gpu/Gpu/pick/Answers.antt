@@ -1,0 +1,13 @@
+use Rattle.drm_gpu.specs.Answers.{PickIs}
+use Rattle.drm_gpu.proofs.Called.{called, pick_is}
+use Rattle.drm_gpu.proofs.gpu.Gpu.pick.Goals as goal
+
+pub returns : goal.returns
+returns g c =
+    let d = c.enter-device.result in
+    let a = c.pick-answer in
+    record {
+      call = called (PickIs c.args.ring c.args.now a.result) c.args.self.now c.args.pass.now c.pass.inside.seat.place.table_id c.pass.inside.seat c.enter-device.new.seat c.leave.new.seat d c.of-found.result.value a.new.self
+          c.pass.view_is c.requires.pass c.enter-device.ensures.found c.enter-device.ensures.same c.of-found.ensures a.ensures.grows c.leave.ensures.seat c.leave.ensures.call
+          (pick_is d a.new.self c.args.ring c.args.now a.result a.ensures.picked a.ensures.refused a.ensures.marks);
+    }

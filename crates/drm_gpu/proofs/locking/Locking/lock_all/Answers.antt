@@ -1,0 +1,35 @@
+use Rattle.std.proofs.Common.{◌≡◌, ◌∙◌, false, ap, sym, subst}
+use Rattle.ww_lock.specs.Acquiring.{view}
+use Rattle.drm_sched.specs.Held.{kept_of}
+use Rattle.drm_gpu.specs.Passes.{pass_of}
+use Rattle.drm_gpu.specs.Submissions.{Submission, DeviceAcquire, HoldsAll}
+use Rattle.drm_gpu.proofs.Claims.{done_on}
+use Rattle.drm_gpu.proofs.locking.Locking.lock_all.Goals as goal
+
+pub done-requires : goal.done-requires
+done-requires g c = c.hold_all.ensures.on.sealed ∙ c.self.invariant.1
+
+pub invariant_of-result : goal.invariant_of-result
+invariant_of-result g c =
+    let gpu = c.self.inside.gpu.now in
+    let a = c.hold_all.new.acquire in
+    let b = c.done.new.self in
+    let e = c.done.ensures in
+    let k = c.hold_all.ensures.on.holding in (
+      done_on gpu a b k (e.holds false gpu.home k.holds) e.sealed,
+      ap (λ (z : DeviceAcquire). z.sealed) e.sealed,
+      c.self.invariant.2,
+      subst (λ (z : DeviceAcquire). HoldsAll c.self.inside.job (kept_of z.held.items)) (sym e.sealed) c.hold_all.ensures.all,
+    )
+
+pub returns-clause-same : goal.returns-clause-same
+returns-clause-same g c =
+    let home = c.self.inside.gpu.now.home in
+    let e = c.done.ensures.sealed in
+    let on = c.hold_all.ensures.on in
+    let seen = ap (λ (z : DeviceAcquire). view z) e in (
+      ap (λ (s : Submission). s.job) c.self.view_is,
+      ap (λ (z : DeviceAcquire). z.ticket) e ∙ (on.ticket ∙ ap (λ (s : Submission). s.ticket) c.self.view_is),
+      subst (λ v. pass_of home v ≡ record c.args.self.pass { had = v.lock.had; met = v.lock.met }) (sym seen)
+          (on.pass ∙ ap (λ (s : Submission). record s.pass { had = (view c.hold_all.new.acquire).lock.had; met = (view c.hold_all.new.acquire).lock.met }) c.self.view_is),
+    )

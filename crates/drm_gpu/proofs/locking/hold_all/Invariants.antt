@@ -1,0 +1,5 @@
+use Rattle.drm_gpu.specs.Submissions.{WentOn}
+use Rattle.drm_gpu.proofs.locking.hold_all.Given as goal
+
+abbrev pub invariant-loop : goal.invariant-loop
+invariant-loop g l = WentOn l.fn.gpu l.fn.acquire l.acquire

@@ -1,0 +1,155 @@
+use Rattle.std.proofs.Common.{◌≡◌, ◌∙◌, ap, sym, subst, true, Some, map}
+use Rattle.ww_lock.specs.Acquiring.{view}
+use Rattle.ww_lock.specs.Steps.{number_of}
+use Rattle.drm_types.specs.declared.spec.DeviceSpec.{DeviceSpec}
+use Rattle.drm_job.specs.Fault.{IsJob}
+use Rattle.drm_sched.specs.declared.plans.Plan.{Plan}
+use Rattle.drm_sched.specs.Held.{HaveRoom, kept_of, armed_held}
+use Rattle.drm_sched.specs.Keeps.{Keeps}
+use Rattle.drm_sched.specs.Marks.{MarkedDevice}
+use Rattle.drm_sched.specs.Refusals.{arm_refusal}
+use Rattle.drm_gpu.specs.Passes.{IsSameBut, pass_of}
+use Rattle.drm_gpu.specs.Submissions.{PlannedSubmission, DeviceAcquire, EnteredWith, Fitting, HoldsAll, IsCollected, KeepsOthers, ArmIs, ArmRefused}
+use Rattle.drm_gpu.proofs.Covering.{covers}
+use Rattle.drm_gpu.proofs.Grown.{keeps_itself}
+use Rattle.drm_gpu.proofs.Holders.{all_fit, fit_after, keeps_others, put_back, called_with}
+use Rattle.drm_gpu.proofs.submission.Planned.arm.Goals as goal
+
+pub enter_with-device-requires : goal.enter_with-device-requires
+enter_with-device-requires g c = c.self.invariant.0
+
+pub arm-answer-requires-clause-job : goal.arm-answer-requires-clause-job
+arm-answer-requires-clause-job g c =
+    subst (λ (s : DeviceSpec). IsJob s c.self.inside.plan.job) (sym (c.enter_with-device.ensures.found.later.spec ∙ c.self.invariant.0.knows.described)) c.self.invariant.2
+
+pub arm-answer-requires-clause-covers : goal.arm-answer-requires-clause-covers
+arm-answer-requires-clause-covers g c =
+    let job = c.self.inside.plan.job in
+    covers c.enter_with-device.result.state job (kept_of c.self.inside.acquire.held.items) c.self.inside.plan.deps c.enter_with-device.ensures.found.lawful
+    (subst (λ (s : DeviceSpec). IsJob s job) (sym (c.enter_with-device.ensures.found.later.spec ∙ c.self.invariant.0.knows.described)) c.self.invariant.2)
+    c.self.invariant.3 c.enter_with-device.ensures.fit c.self.invariant.4
+
+pub arm-answer-requires-clause-room : goal.arm-answer-requires-clause-room
+arm-answer-requires-clause-room g c =
+    subst (λ h. HaveRoom c.self.inside.plan.job h.items) (sym (c.take_values-held.ensures.values ∙ c.enter_with-device.ensures.same.0.2)) c.self.invariant.5
+
+pub put_values-requires : goal.put_values-requires
+put_values-requires g c =
+    (c.take_values-held.ensures.lent true c.self.inside.gpu.now.home c.enter_with-device.ensures.entered.holds).1 ∙ sym c.arm-answer.ensures.order
+
+pub show_and_leave_with-requires-clause-entered : goal.show_and_leave_with-requires-clause-entered
+show_and_leave_with-requires-clause-entered g c =
+    let gpu = c.self.inside.gpu.now in
+    let e = c.enter_with-device.ensures.entered in
+    subst (λ d. EnteredWith gpu d c.put_values.new.self) (sym c.of-found.ensures)
+    (put_back gpu c.enter_with-device.result c.enter_with-device.new.acquire c.put_values.new.self e
+    (ap (λ (a : DeviceAcquire). view a) c.put_values.ensures.values ∙ ap (λ (a : DeviceAcquire). view a) c.take_values-held.ensures.left)
+    (c.put_values.ensures.holds true gpu.home (c.take_values-held.ensures.lent true gpu.home e.holds).0))
+
+pub show_and_leave_with-requires-clause-shown : goal.show_and_leave_with-requires-clause-shown
+show_and_leave_with-requires-clause-shown g c =
+    let d = c.enter_with-device.result in
+    let e = c.arm-answer.new.self in
+    let job = c.self.inside.plan.job in
+    let held = c.self.inside.acquire.held in
+    let new = c.put_values.new.self.held in
+    let taken = c.take_values-held.ensures.values ∙ c.enter_with-device.ensures.same.0.2 in
+    let keys : map number_of new.items ≡ map number_of held.items = ap (λ (a : DeviceAcquire). map number_of a.held.items) c.put_values.ensures.values ∙ (c.arm-answer.ensures.order ∙ ap (λ h. map number_of h.items) taken) in
+    subst (λ x. KeepsOthers (kept_of new.items) c.in-Ok.fence 1 x e) (sym c.of-found.ensures) (keeps_others job c.in-Ok.fence d e held.items new.items c.self.invariant.3 keys c.in-Ok.ensures.keeps)
+
+pub show_and_leave_with-requires-clause-fit : goal.show_and_leave_with-requires-clause-fit
+show_and_leave_with-requires-clause-fit g c =
+    let d = c.enter_with-device.result in
+    let e = c.arm-answer.new.self in
+    let taken = c.take_values-held.ensures.values ∙ c.enter_with-device.ensures.same.0.2 in
+    subst (λ (a : DeviceAcquire). Fitting e (kept_of a.held.items)) (sym c.put_values.ensures.values)
+    (fit_after d e (kept_of c.take_values-held.result.items) (kept_of c.arm-answer.new.held.items) c.in-Ok.ensures.fit (subst (λ h. Fitting d (kept_of h.items)) (sym taken) c.enter_with-device.ensures.fit))
+
+pub returns-in-Ok-clause-armed : goal.returns-in-Ok-clause-armed
+returns-in-Ok-clause-armed g c =
+    let gpu = c.self.inside.gpu.now in
+    let d = c.enter_with-device.result in
+    let e = c.arm-answer.new.self in
+    let job = c.self.inside.plan.job in
+    let held = c.self.inside.acquire.held in
+    let last = c.show_and_leave_with.new.acquire in
+    let taken = c.take_values-held.ensures.values ∙ c.enter_with-device.ensures.same.0.2 in
+    let same = ap (λ (a : DeviceAcquire). view a) c.put_values.ensures.values ∙ ap (λ (a : DeviceAcquire). view a) c.take_values-held.ensures.left in
+    let does : ArmIs job c.self.inside.plan.deps (kept_of held.items) (kept_of last.held.items) c.in-Ok.fence d e = record {
+      taken = c.in-Ok.ensures.armed.0;
+      number = c.in-Ok.ensures.armed.1;
+      armed = c.in-Ok.ensures.armed.2;
+      marks = c.arm-answer.ensures.marks;
+      covers = covers d.state job (kept_of held.items) c.self.inside.plan.deps c.enter_with-device.ensures.found.lawful
+          (subst (λ (s : DeviceSpec). IsJob s job) (sym (c.enter_with-device.ensures.found.later.spec ∙ c.self.invariant.0.knows.described)) c.self.invariant.2)
+          c.self.invariant.3 c.enter_with-device.ensures.fit c.self.invariant.4;
+      fit = all_fit d (kept_of held.items) c.enter_with-device.ensures.fit;
+      held = ap (λ h. kept_of h.items) (c.show_and_leave_with.ensures.same.2 ∙ ap (λ (a : DeviceAcquire). a.held) c.put_values.ensures.values)
+          ∙ (c.in-Ok.ensures.held ∙ ap (λ h. armed_held d.state.journal job (kept_of h.items)) taken);
+    } in
+    called_with (ArmIs c.args.self.submission.job c.args.self.deps c.args.self.submission.held (kept_of last.held.items) c.in-Ok.fence) gpu c.args.self.submission.pass
+    (view c.self.inside.acquire) (view c.put_values.new.self) (view last) d c.of-found.result.value e
+    (ap (λ (p : PlannedSubmission). p.submission.pass) c.self.view_is) c.self.invariant.0.knows c.enter_with-device.ensures.found
+    (subst (λ v. IsSameBut (view c.self.inside.acquire) v) (sym same) c.enter_with-device.ensures.same.1) c.of-found.ensures c.arm-answer.ensures.grows
+    (c.show_and_leave_with.ensures.holding.0.knows, c.show_and_leave_with.ensures.holding.1) c.show_and_leave_with.ensures.call
+    (subst (λ (p : PlannedSubmission). ArmIs p.submission.job p.deps p.submission.held (kept_of last.held.items) c.in-Ok.fence d e) c.self.view_is does)
+
+pub leave_with-requires-clause-entered : goal.leave_with-requires-clause-entered
+leave_with-requires-clause-entered g c =
+    let gpu = c.self.inside.gpu.now in
+    let e = c.enter_with-device.ensures.entered in
+    subst (λ d. EnteredWith gpu d c.put_values.new.self) (sym c.of-found.ensures)
+    (put_back gpu c.enter_with-device.result c.enter_with-device.new.acquire c.put_values.new.self e
+    (ap (λ (a : DeviceAcquire). view a) c.put_values.ensures.values ∙ ap (λ (a : DeviceAcquire). view a) c.take_values-held.ensures.left)
+    (c.put_values.ensures.holds true gpu.home (c.take_values-held.ensures.lent true gpu.home e.holds).0))
+
+pub leave_with-requires-clause-keeps : goal.leave_with-requires-clause-keeps
+leave_with-requires-clause-keeps g c =
+    let d = c.enter_with-device.result in
+    subst (λ (x : MarkedDevice). Keeps x.state c.arm-answer.new.self.state) (sym c.of-found.ensures)
+    (subst (λ (x : MarkedDevice). Keeps d.state x.state) (sym c.in-Err.ensures.refused.2) (keeps_itself d))
+
+pub leave_with-requires-clause-fit : goal.leave_with-requires-clause-fit
+leave_with-requires-clause-fit g c =
+    let taken = c.take_values-held.ensures.values ∙ c.enter_with-device.ensures.same.0.2 in
+    subst (λ d. Fitting d (kept_of c.put_values.new.self.held.items)) (sym c.in-Err.ensures.refused.2)
+    (subst (λ h. Fitting c.enter_with-device.result (kept_of h.items)) (sym (ap (λ (a : DeviceAcquire). a.held) c.put_values.ensures.values ∙ (c.in-Err.ensures.refused.3 ∙ taken))) c.enter_with-device.ensures.fit)
+
+pub invariant_of-result-in-Err : goal.invariant_of-result-in-Err
+invariant_of-result-in-Err g c =
+    let gpu = c.self.inside.gpu.now in
+    let plan : c.in-Err.plan ≡ c.self.inside.plan = c.in-Err.ensures.refused.1 in
+    let taken = c.take_values-held.ensures.values ∙ c.enter_with-device.ensures.same.0.2 in
+    let last = c.leave_with.new.acquire in
+    let held = c.leave_with.ensures.same.2 ∙ (ap (λ (a : DeviceAcquire). a.held) c.put_values.ensures.values ∙ (c.in-Err.ensures.refused.3 ∙ taken)) in
+    let sealed : last.sealed ≡ true = c.leave_with.ensures.same.1 ∙ (ap (λ (a : DeviceAcquire). a.sealed) c.put_values.ensures.values ∙ (ap (λ (a : DeviceAcquire). a.sealed) c.take_values-held.ensures.left ∙ (c.enter_with-device.ensures.same.0.1 ∙ c.self.invariant.1))) in (
+      c.leave_with.ensures.holding.0,
+      sealed,
+      subst (λ (p : Plan). IsJob gpu.spec p.job) (sym plan) c.self.invariant.2,
+      subst (λ (p : Plan). HoldsAll p.job (kept_of last.held.items)) (sym plan) (subst (λ h. HoldsAll c.self.inside.plan.job (kept_of h.items)) (sym held) c.self.invariant.3),
+      subst (λ (p : Plan). IsCollected p.job (kept_of last.held.items) p.deps) (sym plan) (subst (λ h. IsCollected c.self.inside.plan.job (kept_of h.items) c.self.inside.plan.deps) (sym held) c.self.invariant.4),
+      subst (λ (p : Plan). HaveRoom p.job last.held.items) (sym plan) (subst (λ h. HaveRoom c.self.inside.plan.job h.items) (sym held) c.self.invariant.5),
+    )
+
+pub returns-clause-refused : goal.returns-clause-refused
+returns-clause-refused g c =
+    let gpu = c.self.inside.gpu.now in
+    let d = c.enter_with-device.result in
+    let e = c.arm-answer.new.self in
+    let last = c.leave_with.new.acquire in
+    let refused = c.in-Err.ensures.refused in
+    let taken = c.take_values-held.ensures.values ∙ c.enter_with-device.ensures.same.0.2 in
+    let same = ap (λ (a : DeviceAcquire). view a) c.put_values.ensures.values ∙ ap (λ (a : DeviceAcquire). view a) c.take_values-held.ensures.left in
+    let ticket : last.ticket ≡ c.args.self.submission.ticket = c.leave_with.ensures.same.0 ∙ (ap (λ (a : DeviceAcquire). a.ticket) c.put_values.ensures.values ∙ (ap (λ (a : DeviceAcquire). a.ticket) c.take_values-held.ensures.left
+    ∙ (c.enter_with-device.ensures.same.0.0 ∙ ap (λ (p : PlannedSubmission). p.submission.ticket) c.self.view_is))) in
+    let job : c.in-Err.plan.job ≡ c.args.self.submission.job = ap (λ (p : Plan). p.job) refused.1 ∙ ap (λ (p : PlannedSubmission). p.submission.job) c.self.view_is in
+    let deps : c.in-Err.plan.deps ≡ c.args.self.deps = ap (λ (p : Plan). p.deps) refused.1 ∙ ap (λ (p : PlannedSubmission). p.deps) c.self.view_is in
+    let held : kept_of last.held.items ≡ c.args.self.submission.held =
+    ap (λ h. kept_of h.items) (c.leave_with.ensures.same.2 ∙ (ap (λ (a : DeviceAcquire). a.held) c.put_values.ensures.values ∙ (refused.3 ∙ taken))) ∙ ap (λ (p : PlannedSubmission). p.submission.held) c.self.view_is in (
+      called_with (ArmRefused c.args.self.submission.job c.in-Err.refusal) gpu c.args.self.submission.pass (view c.self.inside.acquire) (view c.put_values.new.self) (view last) d c.of-found.result.value e
+          (ap (λ (p : PlannedSubmission). p.submission.pass) c.self.view_is) c.self.invariant.0.knows c.enter_with-device.ensures.found
+          (subst (λ v. IsSameBut (view c.self.inside.acquire) v) (sym same) c.enter_with-device.ensures.same.1) c.of-found.ensures c.arm-answer.ensures.grows
+          (c.leave_with.ensures.holding.0.knows, c.leave_with.ensures.holding.1) c.leave_with.ensures.call
+          (subst (λ (p : PlannedSubmission). arm_refusal d.state p.submission.job ≡ Some c.in-Err.refusal) c.self.view_is refused.0, refused.2),
+      λ i. record { submission = record { pass = pass_of gpu.home (view last); ticket = ticket i; job = job i; held = held i }; deps = deps i },
+    )

@@ -1,0 +1,45 @@
+-- What each call of the shared device answers and leaves, where it found this device.
+use Rattle.std.specs.Prelude.{◌≡◌, ℕ, Some, None, Result, Ok, Err, length}
+use Rattle.std.specs.List.{filter}
+use Rattle.drm_fence.specs.Phases.{has_ended}
+use Rattle.drm_sched.specs.declared.answer.Picked.{Picked}
+use Rattle.drm_sched.specs.declared.answer.Stepped.{Stepped}
+use Rattle.drm_sched.specs.declared.answer.Finished.{Finished}
+use Rattle.drm_sched.specs.declared.answer.Expired.{Expired}
+use Rattle.drm_sched.specs.declared.answer.Refusal.{Refusal}
+use Rattle.drm_sched.specs.declared.answer.Answer.TheVariants as answer
+use Rattle.drm_sched.specs.Answers.{picked, stepped, finished, timed_out}
+use Rattle.drm_sched.specs.Begun.{out_or}
+use Rattle.drm_sched.specs.Marks.{MarkedDevice, is_in_way, ring_out}
+use Rattle.drm_sched.specs.Outcomes.{pick_outcome, step_outcome, finish_outcome, timeout_outcome, cancelled_device, reap_outcome}
+use Rattle.drm_sched.specs.Refusals.{pick_refusal, step_refusal, finish_refusal, cancel_refusal, reap_refusal}
+
+abbrev pub PickIs : ℕ → ℕ → Result Picked Refusal → MarkedDevice → MarkedDevice → Type 0
+PickIs ring now (Ok p) d e = (pick_refusal d.state ring ≡ None) × (pick_outcome d.state ring now ≡ (picked p, e.state)) × (e.marks ≡ d.marks)
+PickIs ring now (Err r) d e = (pick_refusal d.state ring ≡ Some r) × (e ≡ d)
+
+abbrev pub StepIs : ℕ → Result Stepped Refusal → MarkedDevice → MarkedDevice → Type 0
+StepIs ring (Ok s) d e =
+    (out_or (is_in_way d ring) (step_refusal d.state ring) ≡ None) × (step_outcome d.state ring ≡ (stepped s, e.state)) × (e.marks ≡ d.marks)
+StepIs ring (Err r) d e = (out_or (is_in_way d ring) (step_refusal d.state ring) ≡ Some r) × (e ≡ d)
+
+abbrev pub FinishIs : ℕ → ℕ → Result Finished Refusal → MarkedDevice → MarkedDevice → Type 0
+FinishIs ring now (Ok f) d e =
+    (out_or (ring_out d ring) (finish_refusal d.state ring) ≡ None) × (finish_outcome d.state ring now ≡ (finished f, e.state)) × (e.marks ≡ d.marks)
+FinishIs ring now (Err r) d e = (out_or (ring_out d ring) (finish_refusal d.state ring) ≡ Some r) × (e ≡ d)
+
+abbrev pub TimeoutIs : ℕ → ℕ → Result Expired Refusal → MarkedDevice → MarkedDevice → Type 0
+TimeoutIs ring now (Ok x) d e = (out_or (ring_out d ring) None ≡ None) × (timeout_outcome d.state ring now ≡ (timed_out x, e.state)) × (e.marks ≡ d.marks)
+TimeoutIs ring now (Err r) d e = (out_or (ring_out d ring) None ≡ Some r) × (e ≡ d)
+
+abbrev pub CancelIs : ℕ → Result (Unit {0}) Refusal → MarkedDevice → MarkedDevice → Type 0
+CancelIs entity (Ok u) d e = (cancel_refusal d.state entity ≡ None) × (e.state ≡ cancelled_device d.state entity) × (e.marks ≡ d.marks)
+CancelIs entity (Err r) d e = (cancel_refusal d.state entity ≡ Some r) × (e ≡ d)
+
+abbrev pub ReapIs : ℕ → Result ℕ Refusal → MarkedDevice → MarkedDevice → Type 0
+ReapIs entity (Ok f) d e = (reap_refusal d.state entity ≡ None) × (reap_outcome d.state entity ≡ (answer.Reaped f, e.state)) × (e.marks ≡ d.marks)
+ReapIs entity (Err r) d e = (reap_refusal d.state entity ≡ Some r) × (e ≡ d)
+
+-- the numbers of armed and of ended jobs
+abbrev pub CountsAre : ℕ × ℕ → MarkedDevice → MarkedDevice → Type 0
+CountsAre n d e = (n.0 ≡ length d.state.journal) × (n.1 ≡ length (filter (λ r. has_ended r.phase) d.state.journal)) × (e ≡ d)

@@ -1,0 +1,32 @@
+-- What a device leaves when it is taken apart.
+use Rattle.std.specs.Prelude.{◌≡◌, ◌<◌, ℕ, Some, length, slice_get}
+use Rattle.drm_buffer.specs.Stored.{is_out_of}
+use Rattle.drm_resv.specs.Reservation.{WithRoom}
+use Rattle.drm_sched.specs.Marks.{MarkedDevice, is_out}
+use Rattle.drm_sched.specs.Reservation.{Fits}
+use Rattle.ww_lock.specs.Lifetime.{FitsAll}
+use Rattle.ww_lock.specs.Parts.{IsWhole}
+use Rattle.drm_gpu.specs.declared.gpu.Closed.{Closed}
+use Rattle.drm_gpu.specs.declared.gpu.CloseError.{CloseError}
+use Rattle.drm_gpu.specs.declared.gpu.CloseError.TheVariants.{Memory, Inside}
+use Rattle.drm_gpu.specs.Passes.{GpuState, PassState, IsGood, GrowsTo}
+
+-- what is left is that of a lawful device which came of the one that the pass saw last: of that very device, with every reservation, where the pass
+-- has taken in all others
+pub record Leaves (pass : PassState) (c : Closed) : Type 0 where
+  pub device : MarkedDevice
+  pub lawful : IsGood device
+  pub later : GrowsTo pass.last device
+  pub spec : c.spec ≡ device.state.spec
+  pub records : c.records ≡ device.state.journal
+  pub bytes : c.buffers.bytes ≡ device.state.memory
+  pub out : (b : ℕ) → b < length device.state.memory → is_out_of c.buffers b ≡ is_out device b
+  pub fit : FitsAll (λ b (x : WithRoom). Fits b device.state.journal x.kept) 0 c.resvs.items
+  pub count : length c.resvs.items ≡ length device.state.spec.buffers
+  pub last : IsWhole pass.part → device ≡ pass.last
+  pub all : IsWhole pass.part → (b : ℕ) → b < length c.resvs.items → (x : WithRoom) × (slice_get c.resvs.items b ≡ Some (Some x))
+
+-- both come back where memory was refused
+abbrev pub GivesBack : GpuState → PassState → CloseError → Type 0
+GivesBack gpu pass (Memory g p) = (g ≡ gpu) × (p ≡ pass)
+GivesBack gpu pass Inside = Unit {0}

@@ -1,0 +1,145 @@
+-- A device that is shared, its passes, and what a call with one says.
+use Rattle.std.specs.Prelude.{◌≡◌, ℕ, false, List, [], ◌∷◌, ◌++◌, None, IsPermutation}
+use Rattle.atomic_table.specs.Seated.{TableId}
+use Rattle.ww_lock.specs.declared.board.View.{View}
+use Rattle.ww_lock.specs.declared.lifetime.Seat.{Seat}
+use Rattle.ww_lock.specs.Begun.{IsIdle, IsInside, sees}
+use Rattle.ww_lock.specs.Fences.{NotBack}
+use Rattle.ww_lock.specs.Rule.{In}
+use Rattle.ww_lock.specs.Steps.{IsChain}
+use Rattle.drm_types.specs.declared.spec.DeviceSpec.{DeviceSpec}
+use Rattle.drm_resv.specs.Reservation.{WithRoom}
+use Rattle.drm_sched.specs.Keeps.{word_at}
+use Rattle.drm_sched.specs.Grows.{Grows}
+use Rattle.drm_sched.specs.Lawful.{IsLawfulDevice}
+use Rattle.drm_sched.specs.Marks.{MarkedDevice, Task, unmarked}
+use Rattle.drm_sched.specs.State.{opened_device}
+
+-- a device that is lawful
+abbrev pub IsGood : MarkedDevice → Type 0
+IsGood d = IsLawfulDevice d.state
+
+-- the second device may come of the first
+abbrev pub GrowsTo : MarkedDevice → MarkedDevice → Type 0
+GrowsTo d e = Grows d.state e.state
+
+-- what the device shows for a fence
+abbrev pub word_shown : MarkedDevice → ℕ → ℕ
+word_shown d fence = word_at d.state.journal fence
+
+-- a shared device: where it is, and the description that it was built from
+pub record GpuState : Type 0 where
+  pub home : TableId
+  pub spec : DeviceSpec
+
+-- a pass: its device, the state of that device which it saw last, its calls as (found, left), the fence words that it
+-- looked at, the claims that it made, the holders that its tries met, and its part of the device: pieces, each told by how often it
+-- was halved. The parts of all passes make up the whole
+pub record PassState : Type 0 where
+  pub gpu : GpuState
+  pub last : MarkedDevice
+  pub calls : List (MarkedDevice × MarkedDevice)
+  pub looked : List (ℕ × ℕ)
+  pub had : List (ℕ × ℕ)
+  pub met : List (ℕ × ℕ)
+  pub part : List ℕ
+
+-- what a seat of the device knows
+abbrev pub Seeing : Type 0
+Seeing = View MarkedDevice WithRoom Task
+
+abbrev pub DeviceSeat : Type 0
+DeviceSeat = Seat MarkedDevice WithRoom Task
+
+-- the device that was seen last
+abbrev pub first_or : MarkedDevice → List MarkedDevice → MarkedDevice
+first_or d [] = d
+first_or d (p ∷ ps) = p
+
+abbrev pub blank : MarkedDevice
+blank = unmarked (opened_device (record { buffers = []; rings = []; entities = []; max_jobs = 0 }))
+
+abbrev pub last_of : Seeing → MarkedDevice
+last_of v = first_or blank v.pivot.seen
+
+-- the device that a seat of this table is at
+abbrev pub gpu_of : TableId → Seeing → GpuState
+gpu_of home v = record { home = home; spec = (last_of v).state.spec }
+
+abbrev pub pass_of : TableId → Seeing → PassState
+pass_of home v = record {
+  gpu = gpu_of home v;
+  last = last_of v;
+  calls = v.pivot.mine;
+  looked = v.looked;
+  had = v.lock.had;
+  met = v.lock.met;
+  part = v.part;
+}
+
+-- a pass that has done nothing, to a device that was just built
+abbrev pub first_pass : GpuState → PassState
+first_pass gpu = record { gpu = gpu; last = unmarked (opened_device gpu.spec); calls = []; looked = []; had = []; met = []; part = 0 ∷ [] }
+
+-- one device of this description was seen last. The calls are a chain, and what each left grows to what was seen
+pub record Knows (spec : DeviceSpec) (last : MarkedDevice) (v : Seeing) : Type 0 where
+  pub seen : v.pivot.seen ≡ last ∷ []
+  pub described : last.state.spec ≡ spec
+  pub chain : IsChain GrowsTo v.pivot.mine
+  pub lefts : (c : MarkedDevice × MarkedDevice) → In c v.pivot.mine → GrowsTo c.1 last
+  pub no_task : v.task ≡ None
+
+-- a seat of the device that is outside, holds nothing and waits for no task
+pub record Seated (gpu : GpuState) (last : MarkedDevice) (s : DeviceSeat) : Type 0 where
+  pub idle : IsIdle gpu.home s
+  pub knows : Knows gpu.spec last (sees s)
+
+abbrev pub IsPassSeat : GpuState → DeviceSeat → Type 0
+IsPassSeat gpu s = Seated gpu (last_of (sees s)) s
+
+-- one that has entered and found this device
+pub record Entered (gpu : GpuState) (found : MarkedDevice) (s : DeviceSeat) : Type 0 where
+  pub inside : IsInside gpu.home s
+  pub knows : Knows gpu.spec found (sees s)
+  pub fresh : (sees s).pivot.posted ≡ false
+
+-- only what was seen last has changed
+abbrev pub IsSameBut : Seeing → Seeing → Type 0
+IsSameBut v w =
+    (w.pivot.mine ≡ v.pivot.mine) × (w.looked ≡ v.looked) × (w.lock.had ≡ v.lock.had) × (w.lock.met ≡ v.lock.met) × (w.part ≡ v.part)
+
+-- and one call was added
+abbrev pub Adds : MarkedDevice → MarkedDevice → Seeing → Seeing → Type 0
+Adds found left v w =
+    (w.pivot.mine ≡ v.pivot.mine ++ (found, left) ∷ []) × (w.looked ≡ v.looked) × (w.lock.had ≡ v.lock.had) × (w.lock.met ≡ v.lock.met) × (w.part ≡ v.part)
+
+-- a device that a caller finds: it is lawful, came of the one that was seen last, and shows no fence earlier than it was looked at
+pub record IsFound (found : MarkedDevice) (v : Seeing) : Type 0 where
+  pub lawful : IsGood found
+  pub later : GrowsTo (last_of v) found
+  pub shows : (fence word : ℕ) → In (fence, word) v.looked → NotBack word (word_shown found fence)
+
+-- a call found a lawful device that came of what the pass saw last and shows no fence earlier than the pass saw it, and left the
+-- device that the pass sees now. The calls of the pass have this one more
+pub record Calls (does : MarkedDevice → MarkedDevice → Type 0) (old new : PassState) : Type 0 where
+  pub found : MarkedDevice
+  pub lawful : IsGood found
+  pub later : GrowsTo old.last found
+  pub shows : (fence word : ℕ) → In (fence, word) old.looked → NotBack word (word_shown found fence)
+  pub event : does found new.last
+  pub onward : GrowsTo found new.last
+  pub gpu : new.gpu ≡ old.gpu
+  pub pass : new ≡ record old { last = new.last; calls = old.calls ++ (found, new.last) ∷ [] }
+
+-- a pass of two: it saw the later of what they saw, its calls are those of both, each as often, in one order, and it has all that
+-- they looked at, claimed and met
+pub record IsJoinedOf (one other new : PassState) : Type 0 where
+  pub gpu : new.gpu ≡ one.gpu
+  pub later : GrowsTo one.last new.last × GrowsTo other.last new.last
+  pub calls : IsPermutation (one.calls ++ other.calls) new.calls
+  pub chain : IsChain GrowsTo new.calls
+  pub lefts : (c : MarkedDevice × MarkedDevice) → In c new.calls → GrowsTo c.1 new.last
+  pub looked : new.looked ≡ one.looked ++ other.looked
+  pub had : new.had ≡ one.had ++ other.had
+  pub met : new.met ≡ one.met ++ other.met
+  pub part : new.part ≡ one.part ++ other.part

@@ -1,0 +1,162 @@
+-- The states of a submission.
+use Rattle.std.specs.Prelude.{◌≡◌, ◌≢◌, ◌<◌, ◌≤◌, ℕ, false, List, [], ◌∷◌, ◌++◌, Some, None, Result, Ok, Err, All, Contains, slice_get, length, fold}
+use Rattle.std.specs.Option.{option_map_or}
+use Rattle.drm_resv.specs.Noting.{all_noted}
+use Rattle.atomic_table.specs.Seated.{TableId}
+use Rattle.ww_lock.specs.declared.acquire.Acquire.{Acquire}
+use Rattle.ww_lock.specs.declared.locks.TryLockError.{TryLockError}
+use Rattle.ww_lock.specs.declared.locks.TryLockError.TheVariants.{Sealed, Already, Older, Younger}
+use Rattle.ww_lock.specs.declared.locks.LockError.{LockError}
+use Rattle.ww_lock.specs.declared.locks.LockError.TheVariants.{Backoff}
+use Rattle.ww_lock.specs.declared.locks.LockError.TheVariants as lock
+use Rattle.ww_lock.specs.Acquiring.{HoldsOutside, HoldsInside, IsAsOwed, view}
+use Rattle.ww_lock.specs.Held.{Lacks}
+use Rattle.ww_lock.specs.Rule.{In}
+use Rattle.drm_types.specs.declared.access.Access.{Access}
+use Rattle.drm_types.specs.Usages.{wanted_usage}
+use Rattle.drm_job.specs.declared.Draft.{Draft}
+use Rattle.drm_job.specs.Uses.{access_of}
+use Rattle.drm_resv.specs.declared.entry.Entry.{Entry}
+use Rattle.drm_resv.specs.Entries.{entries_of}
+use Rattle.drm_resv.specs.Reservation.{Reservation, WithRoom}
+use Rattle.drm_sched.specs.declared.answer.Refusal.{Refusal}
+use Rattle.drm_sched.specs.Arming.{armed_device}
+use Rattle.drm_sched.specs.Plans.{DepsCover}
+use Rattle.drm_sched.specs.Held.{kept_of, armed_held, AllFit}
+use Rattle.drm_sched.specs.Refusals.{arm_refusal}
+use Rattle.drm_sched.specs.Reservation.{Fits}
+use Rattle.drm_sched.specs.Marks.{MarkedDevice, Task}
+use Rattle.drm_gpu.specs.Passes.{GpuState, PassState, Knows, last_of, pass_of, word_shown}
+
+-- a submission: its pass, its ticket, its job, and what it holds
+pub record Submission : Type 0 where
+  pub pass : PassState
+  pub ticket : ℕ
+  pub job : Draft
+  pub held : List (ℕ × Reservation)
+
+abbrev pub DeviceAcquire : Type 0
+DeviceAcquire = Acquire MarkedDevice WithRoom Task
+
+abbrev pub submission_of : TableId → Draft → DeviceAcquire → Submission
+submission_of home job a = record { pass = pass_of home (view a); ticket = a.ticket; job = job; held = kept_of a.held.items }
+
+-- a ticket above each that the pass knows of
+abbrev pub IsNewTicket : PassState → ℕ → Type 0
+IsNewTicket pass ticket = ((b t : ℕ) → In (b, t) pass.had → t < ticket) × ((b h : ℕ) → In (b, h) pass.met → h < ticket)
+
+-- each of these fits the device
+abbrev pub Fitting : MarkedDevice → List (ℕ × Reservation) → Type 0
+Fitting d held = (b : ℕ) (x : Reservation) → In (b, x) held → Fits b d.state.journal x
+
+-- a caller that holds values of the device, and owes them as they are but for their room
+pub record Holding (gpu : GpuState) (a : DeviceAcquire) : Type 0 where
+  pub holds : HoldsOutside gpu.home a
+  pub knows : Knows gpu.spec (last_of (view a)) (view a)
+  pub owed : IsAsOwed (λ b (d : MarkedDevice) (r : WithRoom). Fits b d.state.journal r.kept) a
+
+-- one that has entered and found this device
+pub record EnteredWith (gpu : GpuState) (found : MarkedDevice) (a : DeviceAcquire) : Type 0 where
+  pub holds : HoldsInside gpu.home a
+  pub knows : Knows gpu.spec found (view a)
+  pub fresh : (view a).pivot.posted ≡ false
+
+-- what is held is the same, under the same ticket
+abbrev pub IsSameHolder : DeviceAcquire → DeviceAcquire → Type 0
+IsSameHolder a a' = (a'.ticket ≡ a.ticket) × (a'.sealed ≡ a.sealed) × (a'.held ≡ a.held)
+
+-- a caller that took locks and gave some back: it goes on to hold, and its pass has claimed and met more
+pub record WentOn (gpu : GpuState) (a a' : DeviceAcquire) : Type 0 where
+  pub holding : Holding gpu a'
+  pub ticket : a'.ticket ≡ a.ticket
+  pub sealed : a'.sealed ≡ a.sealed
+  pub pass : pass_of gpu.home (view a') ≡ record (pass_of gpu.home (view a)) { had = (view a').lock.had; met = (view a').lock.met }
+
+-- what fitted fits at each buffer that is not held, and one fence comes to show this word
+pub record KeepsOthers (held : List (ℕ × Reservation)) (fence shown : ℕ) (old new : MarkedDevice) : Type 0 where
+  pub place : fence < old.state.spec.max_jobs
+  pub fits : (b : ℕ) (x : Reservation) → ((y : Reservation) → In (b, y) held → ⊥) → Fits b old.state.journal x → Fits b new.state.journal x
+  pub word : word_shown new fence ≡ shown
+  pub words : (f : ℕ) → f ≢ fence → word_shown new f ≡ word_shown old f
+
+-- every buffer that the job declares is held
+abbrev pub HoldsAll : Draft → List (ℕ × Reservation) → Type 0
+HoldsAll job held = (k : ℕ) (d : ℕ × Access) → slice_get job.declared k ≡ Some d → (x : Reservation) × In (d.0, x) held
+
+-- a dependency is that of an entry that the job has to wait for
+abbrev pub Asked : Draft → List (ℕ × Reservation) → ℕ × ℕ → Type 0
+Asked job held d = (b : ℕ) × (x : Reservation) × (a : Access) × (e : Entry) × In (b, x) held × (access_of job b ≡ Some a)
+    × Contains (entries_of (wanted_usage a) x.entries) e × (d ≡ (e.entity, e.fence))
+
+-- each entry that the job has to wait for stands in the dependencies, by its entity, at least as late, and each dependency is one of
+-- these. No device is named
+pub record IsCollected (job : Draft) (held : List (ℕ × Reservation)) (deps : List (ℕ × ℕ)) : Type 0 where
+  pub reached : (b : ℕ) (x : Reservation) (a : Access) (e : Entry) → In (b, x) held → access_of job b ≡ Some a → Contains (entries_of (wanted_usage a) x.entries) e
+      → (f : ℕ) × Contains deps (e.entity, f) × (e.fence ≤ f)
+  pub asked : All (Asked job held) deps
+
+-- what a try to lock a buffer answers, and what is so after it
+abbrev pub TriesLock : ℕ → Submission → Submission → Result (Unit {0}) TryLockError → Type 0
+TriesLock b old new (Ok u) =
+    Lacks b old.held × ((x : Reservation) × (new ≡ record old { held = old.held ++ (b, x) ∷ []; pass = record old.pass { had = old.pass.had ++ (b, old.ticket) ∷ [] } }))
+TriesLock b old new (Err Sealed) = ⊥
+TriesLock b old new (Err Already) = ((x : Reservation) × In (b, x) old.held) × (new ≡ old)
+TriesLock b old new (Err (Older h)) = Lacks b old.held × (h < old.ticket) × (new ≡ record old { pass = record old.pass { met = old.pass.met ++ (b, h) ∷ [] } })
+TriesLock b old new (Err (Younger h)) = Lacks b old.held × (old.ticket < h) × (new ≡ record old { pass = record old.pass { met = old.pass.met ++ (b, h) ∷ [] } })
+
+-- each of the tries was for buffer b and let the caller wait: it holds nothing, or the holder that the try found is younger
+abbrev pub MayWait : ℕ → Submission → List (ℕ × ℕ) → Type 0
+MayWait b s ms = (c h : ℕ) → In (c, h) ms → (c ≡ b) × (0 < length s.held → s.ticket < h)
+
+-- after some tries that failed and let the caller wait, the buffer was claimed
+abbrev pub Claims : ℕ → Submission → Submission → Type 0
+Claims b old new =
+    Lacks b old.held × ((x : Reservation) × (ms : List (ℕ × ℕ)) × MayWait b old ms × (new ≡ record old {
+      held = old.held ++ (b, x) ∷ [];
+      pass = record old.pass { had = old.pass.had ++ (b, old.ticket) ∷ []; met = old.pass.met ++ ms };
+    }))
+
+-- what a lock of a buffer answers, and what is so after it. Who backs off does so for the last try of this call
+abbrev pub Locks : ℕ → Submission → Submission → Result (Unit {0}) LockError → Type 0
+Locks b old new (Ok u) = Claims b old new
+Locks b old new (Err lock.Sealed) = ⊥
+Locks b old new (Err lock.Already) = ((x : Reservation) × In (b, x) old.held) × (new ≡ old)
+Locks b old new (Err (Backoff h)) =
+    Lacks b old.held × (h < old.ticket) × (0 < length old.held)
+    × ((ms : List (ℕ × ℕ)) × MayWait b old ms × (new ≡ record old { pass = record old.pass { met = old.pass.met ++ (ms ++ (b, h) ∷ []) } }))
+
+-- the submission has gone on: it may have claimed and met more, and holds what it holds
+abbrev pub GoesOn : Submission → Submission → Type 0
+GoesOn old new =
+    (new.job ≡ old.job) × (new.ticket ≡ old.ticket) × (new.pass ≡ record old.pass { had = new.pass.had; met = new.pass.met })
+
+-- what an arming that answered this fence found and left. What was planned covers the device that was found
+pub record ArmIs (job : Draft) (deps : List (ℕ × ℕ)) (old new : List (ℕ × Reservation)) (fence : ℕ) (d e : MarkedDevice) : Type 0 where
+  pub taken : arm_refusal d.state job ≡ None
+  pub number : fence ≡ length d.state.journal
+  pub armed : e.state ≡ armed_device d.state job
+  pub marks : e.marks ≡ d.marks
+  pub covers : DepsCover d.state job deps
+  pub fit : AllFit d.state.journal old
+  pub held : new ≡ armed_held d.state.journal job old
+
+abbrev pub ArmRefused : Draft → Refusal → MarkedDevice → MarkedDevice → Type 0
+ArmRefused job r d e = (arm_refusal d.state job ≡ Some r) × (e ≡ d)
+
+-- a submission that knows what its job waits for
+pub record PlannedSubmission : Type 0 where
+  pub submission : Submission
+  pub deps : List (ℕ × ℕ)
+
+-- one that is armed, under this number
+pub record ArmedSubmission : Type 0 where
+  pub pass : PassState
+  pub held : List (ℕ × Reservation)
+  pub fence : ℕ
+
+-- what these reservations ask the job to wait for
+abbrev pub collected_at : Draft → List (ℕ × ℕ) → ℕ × Reservation → List (ℕ × ℕ)
+collected_at job deps h = option_map_or (λ a. all_noted deps (entries_of (wanted_usage a) h.1.entries)) (access_of job h.0) deps
+
+abbrev pub collected_from : Draft → List (ℕ × Reservation) → List (ℕ × ℕ)
+collected_from job held = fold (collected_at job) [] held

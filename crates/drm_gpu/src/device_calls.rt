@@ -1,0 +1,202 @@
+//! What a pass does with the device.
+ghost use Rattle.std.specs.Prelude.{◌≡◌, ◌<◌, length};
+ghost use Rattle.drm_sched.specs.Marks.{MarkedDevice};
+ghost use Rattle.drm_fence.specs.declared.phase.Phase.TheVariants.{Ended};
+ghost use Rattle.drm_sched.specs.Keeps.{word_of};
+ghost use Rattle.drm_gpu.specs.Passes.{Calls, word_shown};
+ghost use Rattle.drm_gpu.specs.Status.{AnswersStatus, LooksAt, TellsStatus};
+ghost use Rattle.drm_gpu.specs.Answers.{PickIs, StepIs, FinishIs, TimeoutIs, CancelIs, ReapIs, CountsAre};
+
+use crate::gpu::Gpu;
+use crate::pass::{NoFence, Pass};
+use drm_core::{Expired, Finished, Picked, Refusal, Stepped};
+use drm_types::{EntityId, FenceId, Moment, Outcome, RingId};
+use std::snapshot::Snapshot;
+use std::sync::Wait;
+
+// The word of a fence that has this outcome.
+pub(crate) fn word_of_outcome(outcome: Outcome) -> u64
+    ensures { result ≡ word_of (Ended outcome) }
+{
+    match outcome {
+        Outcome::Good => 2,
+        Outcome::Cancelled => 3,
+        Outcome::Stopped => 4,
+    }
+}
+
+// The status that a fence word tells.
+fn status_by_word(fence: FenceId, word: u64) -> Result<i32, NoFence>
+    ensures { (d : MarkedDevice) → word ≡ word_shown d fence → TellsStatus fence result d }
+{
+    match word {
+        0 => Err(NoFence { fence }),
+        1 => Ok(0),
+        2 => Ok(1),
+        3 => Ok(-125),
+        _ => Ok(-3),
+    }
+}
+
+impl Gpu {
+    /// Gives the ring the job that it takes next, if it fits (`drm_sched_run_job_work`).
+    pub fn pick<R: Wait>(
+        &self,
+        pass: &mut Pass,
+        ring: RingId,
+        now: Moment,
+        rt: &R,
+    ) -> Result<Picked, Refusal>
+        requires pass { pass.old.gpu ≡ self.now }
+        requires ring { ring < length self.now.spec.rings }
+        ensures call { Calls (PickIs ring now result) pass.old pass.new }
+    {
+        let mut device = self.enter(&mut pass.seat, rt);
+        let found = Snapshot::of(&device);
+        let answer = device.pick(ring, now);
+        self.leave(&mut pass.seat, device, &found);
+        answer
+    }
+
+    /// Runs one packet of the first pending job of the ring that has some left.
+    ///
+    /// # Errors
+    ///
+    /// Those of the device's `step`. Then nothing has changed.
+    pub fn step<R: Wait>(&self, pass: &mut Pass, ring: RingId, rt: &R) -> Result<Stepped, Refusal>
+        requires pass { pass.old.gpu ≡ self.now }
+        requires ring { ring < length self.now.spec.rings }
+        ensures call { Calls (StepIs ring result) pass.old pass.new }
+    {
+        let mut device = self.enter(&mut pass.seat, rt);
+        let found = Snapshot::of(&device);
+        let answer = device.step(ring);
+        self.leave(&mut pass.seat, device, &found);
+        answer
+    }
+
+    /// Ends the head of the ring, which is complete (`drm_sched_job_done`).
+    pub fn finish<R: Wait>(
+        &self,
+        pass: &mut Pass,
+        ring: RingId,
+        now: Moment,
+        rt: &R,
+    ) -> Result<Finished, Refusal>
+        requires pass { pass.old.gpu ≡ self.now }
+        requires ring { ring < length self.now.spec.rings }
+        ensures call { Calls (FinishIs ring now result) pass.old pass.new }
+    {
+        let mut device = self.enter(&mut pass.seat, rt);
+        let found = Snapshot::of(&device);
+        match device.finish(ring, now) {
+            Ok(done) => {
+                let word = word_of_outcome(done.outcome);
+                self.show_and_leave(&mut pass.seat, device, &found, done.fence, word);
+                Ok(done)
+            }
+            Err(refusal) => {
+                self.leave(&mut pass.seat, device, &found);
+                Err(refusal)
+            }
+        }
+    }
+
+    /// Looks at the head of the ring after a time (`drm_sched_job_timedout`).
+    pub fn timeout<R: Wait>(
+        &self,
+        pass: &mut Pass,
+        ring: RingId,
+        now: Moment,
+        rt: &R,
+    ) -> Result<Expired, Refusal>
+        requires pass { pass.old.gpu ≡ self.now }
+        requires ring { ring < length self.now.spec.rings }
+        ensures call { Calls (TimeoutIs ring now result) pass.old pass.new }
+    {
+        let mut device = self.enter(&mut pass.seat, rt);
+        let found = Snapshot::of(&device);
+        let answer = device.timeout(ring, now);
+        self.leave(&mut pass.seat, device, &found);
+        answer
+    }
+
+    /// Stops the entity (`drm_sched_entity_kill`).
+    pub fn cancel<R: Wait>(&self, pass: &mut Pass, entity: EntityId, rt: &R) -> Result<(), Refusal>
+        requires pass { pass.old.gpu ≡ self.now }
+        requires entity { entity < length self.now.spec.entities }
+        ensures call { Calls (CancelIs entity result) pass.old pass.new }
+    {
+        let mut device = self.enter(&mut pass.seat, rt);
+        let found = Snapshot::of(&device);
+        let answer = device.cancel(entity);
+        self.leave(&mut pass.seat, device, &found);
+        answer
+    }
+
+    /// Ends the first queued job of a stopped entity, once all that it waits for has ended
+    /// (`drm_sched_entity_kill_jobs_cb`).
+    pub fn reap<R: Wait>(
+        &self,
+        pass: &mut Pass,
+        entity: EntityId,
+        rt: &R,
+    ) -> Result<FenceId, Refusal>
+        requires pass { pass.old.gpu ≡ self.now }
+        requires entity { entity < length self.now.spec.entities }
+        ensures call { Calls (ReapIs entity result) pass.old pass.new }
+    {
+        let mut device = self.enter(&mut pass.seat, rt);
+        let found = Snapshot::of(&device);
+        match device.reap(entity) {
+            Ok(fence) => {
+                self.show_and_leave(&mut pass.seat, device, &found, fence, 4);
+                Ok(fence)
+            }
+            Err(refusal) => {
+                self.leave(&mut pass.seat, device, &found);
+                Err(refusal)
+            }
+        }
+    }
+
+    /// How many jobs were armed, and how many have an outcome.
+    pub fn counts<R: Wait>(&self, pass: &mut Pass, rt: &R) -> (u32, u32)
+        requires pass { pass.old.gpu ≡ self.now }
+        ensures call { Calls (CountsAre result) pass.old pass.new }
+    {
+        let device = self.enter(&mut pass.seat, rt);
+        let found = Snapshot::of(&device);
+        let counts = (device.armed(), device.ended());
+        self.leave(&mut pass.seat, device, &found);
+        counts
+    }
+
+    /// The status of the job's finished fence (`dma_fence_get_status`): 0 while the job goes on, 1 once it has run to its
+    /// end, -125 (`-ECANCELED`) where it was cut short, -3 (`-ESRCH`) where it never ran. It is one look at the fence's word
+    /// and never waits.
+    ///
+    /// # Errors
+    ///
+    /// Where no job of this number is armed.
+    pub fn status(&self, pass: &mut Pass, fence: FenceId) -> Result<i32, NoFence>
+        requires { pass.old.gpu ≡ self.now }
+        ensures { AnswersStatus self.now.spec.max_jobs fence result pass.old pass.new }
+    {
+        if fence >= self.board.posts() {
+            self.look_at(pass, 0);
+            return Err(NoFence { fence });
+        }
+        let word = self.look_at(pass, fence);
+        status_by_word(fence, word)
+    }
+
+    // Looks at the word of a fence.
+    fn look_at(&self, pass: &mut Pass, fence: FenceId) -> u64
+        requires pass { pass.old.gpu ≡ self.now }
+        requires fence { fence < self.now.spec.max_jobs }
+        ensures { (d : MarkedDevice) × LooksAt fence d pass.old pass.new × (result ≡ word_shown d fence) }
+    {
+        self.board.look(&mut pass.seat, fence)
+    }
+}

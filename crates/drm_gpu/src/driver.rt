@@ -1,0 +1,59 @@
+//! What the board keeps of a device and its reservations.
+ghost use Rattle.drm_sched.specs.Marks.{IsBusy};
+ghost use Rattle.drm_sched.specs.Reservation.{Fits};
+ghost use Rattle.drm_gpu.specs.Passes.{IsGood, GrowsTo, word_shown};
+ghost use Rattle.drm_gpu.specs.Laws as laws;
+
+use drm_buffer::Buffer;
+use drm_core::Device;
+use drm_resv::Resv;
+use drm_types::{FenceId, RingId};
+use std::marker::Model;
+use std::snapshot::Snapshot;
+use ww_lock::Ward;
+
+/// A packet that a ring has out, which its caller runs beside the device: what the device waits for while nobody has it.
+/// No value of it is made.
+#[derive(Drop)]
+pub struct Task {
+    ring: RingId,
+    fence: FenceId,
+    packet: u32,
+    write: Snapshot<Option<Buffer>>,
+    read: Snapshot<Option<Buffer>>,
+}
+
+impl Model for Task {
+    ghost use Rattle.drm_sched.specs.Marks.{Task as Waiting};
+
+    ghost Value = { Waiting };
+
+    ghost view = { λ t. record { ring = t.ring; mark = record { fence = t.fence; packet = t.packet; write = t.write.value; read = t.read.value } } };
+}
+
+/// A device as the pivot of a board, and the reservations of its buffers as the values. It has no values of its own.
+pub struct Driver;
+
+impl Ward for Driver {
+    type Pivot = Device;
+
+    type Value = Resv;
+
+    type Task = Task;
+
+    ghost good = { IsGood };
+
+    ghost fits = { λ b d r. Fits b d.state.journal r.kept };
+
+    ghost grows = { GrowsTo };
+
+    ghost posted = { word_shown };
+
+    ghost busy = { IsBusy };
+
+    ghost reflexive = { laws.reflexive };
+
+    ghost transitive = { laws.transitive };
+
+    ghost onward = { laws.onward };
+}

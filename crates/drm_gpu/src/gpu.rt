@@ -1,0 +1,144 @@
+//! How the shared device is made and taken apart, and how its passes are split and joined.
+ghost use Rattle.std.specs.Prelude.{◌≡◌, [], map, replicate, None, IfOk, IfErr};
+ghost use Rattle.drm_types.specs.Limits.{spec_fault};
+ghost use Rattle.drm_sched.specs.Building.{RefusesToBuild};
+ghost use Rattle.ww_lock.specs.Parts.{halved};
+ghost use Rattle.drm_gpu.specs.Closing.{Leaves, GivesBack};
+ghost use Rattle.drm_gpu.specs.Passes.{IsJoinedOf, first_pass};
+
+use crate::driver::Driver;
+use crate::pass::Pass;
+use drm_buffer::Store;
+use drm_core::{BuildError, Device, JobRecord};
+use drm_resv::Resv;
+use drm_types::{DeviceSpec, Sequence};
+use std::alloc::{AllocError, Global};
+use std::marker::Model;
+use ww_lock::{Board, Inside};
+
+/// A device that threads share by reference (`drm_device`).
+#[derive(Drop)]
+pub struct Gpu {
+    pub(crate) board: Board<Driver>,
+}
+
+impl Model for Gpu {
+    ghost use Rattle.std.specs.Prelude.{◌≡◌, None, length};
+    ghost use Rattle.drm_types.specs.Limits.{spec_fault};
+    ghost use Rattle.ww_lock.specs.Boards.{table_of, first_pivot};
+    ghost use Rattle.drm_gpu.specs.Passes.{GpuState};
+
+    ghost Value = { GpuState };
+
+    ghost view = { λ g. record { home = table_of g.board; spec = (first_pivot g.board).state.spec } };
+
+    ghost invariant = { λ g. (g.board.posts ≡ (first_pivot g.board).state.spec.max_jobs) × (g.board.buffers ≡ length (first_pivot g.board).state.spec.buffers) × (spec_fault (first_pivot g.board).state.spec ≡ None) };
+}
+
+/// What a device leaves when it is taken apart.
+#[derive(Drop)]
+pub struct Closed {
+    /// The description that it was built from.
+    pub spec: DeviceSpec,
+    /// The records of all armed jobs, in arming order.
+    pub records: Sequence<JobRecord>,
+    /// The last bytes of each buffer.
+    pub buffers: Store,
+    /// The reservation of each buffer. One that was held is not there.
+    pub resvs: Vec<Option<Resv>>,
+}
+
+/// Why a device was not taken apart.
+#[derive(Drop)]
+pub enum CloseError {
+    /// Memory was refused. Both come back as they were.
+    Memory(Gpu, Pass),
+    /// Somebody had the device out.
+    Inside,
+}
+
+// The reservations of so many buffers that nobody has used.
+fn new_reservations(alloc: Global, count: usize) -> Result<Vec<Resv>, AllocError>
+    ensures { IfOk result (λ rows. map (λ r. r.kept) rows.items ≡ replicate count (record { entries = []; history = [] })) }
+{
+    let mut rows = Vec::with_capacity(alloc, count)?;
+    for _ in 0..count {
+        rows.push(Resv::new(alloc))?;
+    }
+    Ok(rows)
+}
+
+impl Gpu {
+    /// A device to which nothing has happened, and the first pass to it.
+    ///
+    /// # Errors
+    ///
+    /// Where the description is out of its limits, or memory is refused.
+    pub fn build(alloc: Global, spec: DeviceSpec) -> Result<(Gpu, Pass), BuildError>
+        ensures gpu { IfOk result (λ t. (t.0.spec ≡ spec) × (spec_fault spec ≡ None)) }
+        ensures pass { IfOk result (λ t. t.1 ≡ first_pass t.0) }
+        ensures err { IfErr result (RefusesToBuild spec) }
+    {
+        let fences = spec.max_jobs;
+        let buffers = spec.buffers.len();
+        let device = Device::build(alloc, spec)?;
+        let Ok(values) = new_reservations(alloc, buffers) else {
+            return Err(BuildError::Memory);
+        };
+        match Board::new(alloc, device, values, fences) {
+            Ok((board, seat)) => Ok((Gpu { board }, Pass { seat })),
+            Err(AllocError) => Err(BuildError::Memory),
+        }
+    }
+
+    /// Makes a second pass, for another caller. It has seen what the first has seen, and has made no calls.
+    pub fn split(&self, pass: Pass) -> (Pass, Pass)
+        requires { pass.gpu ≡ self.now }
+        ensures first { result.0 ≡ record pass { part = halved pass.part } }
+        ensures second { result.1 ≡ record pass { calls = []; had = []; met = []; part = halved pass.part } }
+    {
+        let Pass { seat } = pass;
+        let (one, other) = self.board.split(seat);
+        (Pass { seat: one }, Pass { seat: other })
+    }
+
+    /// Makes one pass of two. The calls of both stand in one order, in which each was left before the next was found.
+    pub fn join(&self, one: Pass, other: Pass) -> Pass
+        requires { (one.gpu ≡ self.now) × (other.gpu ≡ self.now) }
+        ensures { IsJoinedOf one other result }
+    {
+        let Pass { seat } = one;
+        let Pass { seat: second } = other;
+        Pass {
+            seat: self.board.join(seat, second),
+        }
+    }
+
+    /// Takes the device apart. A reservation that is held comes as `None`.
+    ///
+    /// # Errors
+    ///
+    /// Where memory for the list of reservations is refused, or somebody has the device out.
+    pub fn close(self, alloc: Global, pass: Pass) -> Result<Closed, CloseError>
+        requires { pass.gpu ≡ self }
+        ensures closed { IfOk result (Leaves pass) }
+        ensures refused { IfErr result (GivesBack self pass) }
+    {
+        let Ok(mut resvs) = Vec::with_capacity(alloc, self.board.buffers() as usize) else {
+            return Err(CloseError::Memory(self, pass));
+        };
+        let Gpu { board } = self;
+        let Pass { seat } = pass;
+        let device = match board.close(seat, &mut resvs) {
+            Ok(device) => device,
+            Err(Inside) => return Err(CloseError::Inside),
+        };
+        let left = device.close();
+        Ok(Closed {
+            spec: left.spec,
+            records: left.records,
+            buffers: left.buffers,
+            resvs,
+        })
+    }
+}

@@ -1,0 +1,408 @@
+//! A submission that takes its locks.
+ghost use Rattle.std.specs.Prelude.{◌≡◌, ◌<◌, ◌∷◌, ℕ, [], length, true, false, IfOk, IfErr, MatchOption};
+ghost use Rattle.ww_lock.specs.Held.{Lacks};
+ghost use Rattle.ww_lock.specs.Rule.{In};
+ghost use Rattle.ww_lock.specs.Steps.{without};
+ghost use Rattle.drm_resv.specs.Reservation.{Reservation, WithRoom};
+ghost use Rattle.drm_sched.specs.Held.{kept_of};
+ghost use Rattle.drm_job.specs.Fault.{IsJob};
+ghost use Rattle.ww_lock.specs.Acquiring.{view};
+ghost use Rattle.drm_gpu.specs.Passes.{pass_of};
+ghost use Rattle.drm_gpu.specs.Submissions.{Holding, HoldsAll, IsNewTicket, TriesLock, Claims, Locks, GoesOn, WentOn};
+ghost use Rattle.drm_gpu.specs.Begun.{IsBack, IsBackFromRead};
+
+use crate::driver::Task;
+use crate::gpu::Gpu;
+use crate::pass::Pass;
+use crate::reading::Reading;
+use drm_core::Device;
+use drm_job::{Job, jobs_are_the_sound_drafts};
+use drm_resv::Resv;
+use drm_types::{BufferId, Ticket};
+use std::alloc::Global;
+use std::marker::Model;
+use std::sync::Wait;
+use ww_lock::{Acquire, BeginError as TicketError, LockError, TryLockError};
+
+pub(crate) type DeviceAcquire = Acquire<Device, Resv, Task>;
+
+/// Why a submission did not begin. The pass and the job come back.
+#[derive(Drop)]
+pub enum BeginError {
+    /// Memory was refused.
+    Memory(Pass, Job),
+    /// All tickets below 2^63 were drawn.
+    TicketsOut(Pass, Job),
+}
+
+/// Why a readback did not begin. The pass comes back.
+#[derive(Drop)]
+pub enum BeginReadError {
+    /// Memory was refused.
+    Memory(Pass),
+    /// All tickets below 2^63 were drawn.
+    TicketsOut(Pass),
+}
+
+/// A submission that takes its locks (`drm_exec`).
+#[derive(Drop)]
+pub struct Locking<'g> {
+    gpu: &'g Gpu,
+    acquire: DeviceAcquire,
+    job: Job,
+}
+
+impl<'g> Model for Locking<'g> {
+    ghost use Rattle.std.specs.Prelude.{◌≡◌, false};
+    ghost use Rattle.drm_job.specs.Fault.{IsJob};
+    ghost use Rattle.drm_gpu.specs.Submissions.{Submission, submission_of, Holding};
+
+    ghost Value = { Submission };
+
+    ghost view = { λ l. submission_of l.gpu.now.home l.job l.acquire };
+
+    ghost invariant = { λ l. Holding l.gpu.now l.acquire × (l.acquire.sealed ≡ false) × IsJob l.gpu.now.spec l.job };
+}
+
+/// A submission that holds every buffer which its job declares.
+#[derive(Drop)]
+pub struct Locked<'g> {
+    pub(crate) gpu: &'g Gpu,
+    pub(crate) acquire: DeviceAcquire,
+    pub(crate) job: Job,
+}
+
+impl<'g> Model for Locked<'g> {
+    ghost use Rattle.std.specs.Prelude.{◌≡◌, true};
+    ghost use Rattle.drm_job.specs.Fault.{IsJob};
+    ghost use Rattle.drm_sched.specs.Held.{kept_of};
+    ghost use Rattle.drm_gpu.specs.Submissions.{Submission, submission_of, Holding, HoldsAll};
+
+    ghost Value = { Submission };
+
+    ghost view = { λ l. submission_of l.gpu.now.home l.job l.acquire };
+
+    ghost invariant = { λ l. Holding l.gpu.now l.acquire × (l.acquire.sealed ≡ true) × IsJob l.gpu.now.spec l.job × HoldsAll l.job (kept_of l.acquire.held.items) };
+}
+
+// Gives back everything that is held.
+pub(crate) fn release_all(gpu: &Gpu, acquire: &mut DeviceAcquire)
+    requires { Holding gpu.now acquire.old }
+    ensures holding { Holding gpu.now acquire.new × (acquire.new.held.items ≡ []) }
+    ensures same { (acquire.new.ticket ≡ acquire.old.ticket) × (acquire.new.sealed ≡ acquire.old.sealed) }
+    ensures pass { pass_of gpu.now.home (view acquire.new) ≡ pass_of gpu.now.home (view acquire.old) }
+{
+    while acquire.held().len() > 0 {
+        let buffer = acquire.held()[0].0;
+        gpu.board.release(acquire, buffer);
+    }
+}
+
+// Gives everything back that is held, and the ticket up.
+pub(crate) fn give_up(gpu: &Gpu, acquire: DeviceAcquire) -> Pass
+    requires { Holding gpu.now acquire }
+    ensures { result ≡ pass_of gpu.now.home (view acquire) }
+{
+    let mut acquire = acquire;
+    release_all(gpu, &mut acquire);
+    Pass {
+        seat: acquire.end(),
+    }
+}
+
+// Locks a buffer that may be held already. Where it is not held then, the caller has to back off.
+fn hold<R: Wait>(gpu: &Gpu, acquire: &mut DeviceAcquire, buffer: BufferId, rt: &R) -> bool
+    requires holding { Holding gpu.now acquire.old × (acquire.old.sealed ≡ false) }
+    requires buffer { buffer < length gpu.now.spec.buffers }
+    ensures on { WentOn gpu.now acquire.old acquire.new }
+    ensures keeps { (d : ℕ) (x : WithRoom) → In (d, x) acquire.old.held.items → In (d, x) acquire.new.held.items }
+    ensures held { result ≡ true → (x : WithRoom) × In (buffer, x) acquire.new.held.items }
+{
+    match gpu.board.lock(acquire, buffer, rt) {
+        Ok(()) => true,
+        Err(LockError::Already) => true,
+        Err(LockError::Backoff { holder: _ }) => false,
+        Err(LockError::Sealed) => unreachable!(),
+    }
+}
+
+// Locks a buffer for one who holds nothing, and waits for whoever holds it.
+fn lock_first<R: Wait>(gpu: &Gpu, acquire: &mut DeviceAcquire, buffer: BufferId, rt: &R)
+    requires holding { Holding gpu.now acquire.old × (acquire.old.sealed ≡ false) × (acquire.old.held.items ≡ []) }
+    requires buffer { buffer < length gpu.now.spec.buffers }
+    ensures on { WentOn gpu.now acquire.old acquire.new }
+    ensures held { (x : WithRoom) × (acquire.new.held.items ≡ (buffer, x) ∷ []) }
+{
+    let Ok(()) = gpu.board.lock_slow(acquire, buffer, rt) else {
+        unreachable!()
+    };
+}
+
+// Locks each declared buffer that is not held yet, or answers the one for which the caller has to back off.
+fn lock_declared<R: Wait>(
+    gpu: &Gpu,
+    acquire: &mut DeviceAcquire,
+    job: &Job,
+    rt: &R,
+) -> Option<BufferId>
+    requires holding { Holding gpu.now acquire.old × (acquire.old.sealed ≡ false) }
+    requires job { IsJob gpu.now.spec job.now }
+    ensures on { WentOn gpu.now acquire.old acquire.new }
+    ensures locked { MatchOption result (HoldsAll job.now (kept_of acquire.new.held.items)) (λ b. b < length gpu.now.spec.buffers) }
+{
+    jobs_are_the_sound_drafts();
+    for place in 0..job.declared().len() {
+        let buffer = job.declared()[place].0;
+        if !hold(gpu, acquire, buffer, rt) {
+            return Some(buffer);
+        }
+    }
+    None
+}
+
+// Whether the buffer is among those that are held.
+fn has_buffer(held: &[(BufferId, Resv)], buffer: BufferId) -> bool
+    ensures held { result ≡ true → (x : WithRoom) × In (buffer, x) held.now }
+    ensures lacks { result ≡ false → Lacks buffer held.now }
+{
+    for place in 0..held.len() {
+        if held[place].0 == buffer {
+            return true;
+        }
+    }
+    false
+}
+
+// Whether every buffer that the job declares is held.
+fn holds_all(held: &[(BufferId, Resv)], job: &Job) -> bool
+    ensures all { result ≡ true → HoldsAll job.now (kept_of held.now) }
+    ensures lacks { result ≡ false → HoldsAll job.now (kept_of held.now) → ⊥ }
+{
+    for place in 0..job.declared().len() {
+        let buffer = job.declared()[place].0;
+        if !has_buffer(held, buffer) {
+            return false;
+        }
+    }
+    true
+}
+
+// Locks every buffer that the job declares, and begins anew with the one for which it had to back off.
+fn hold_all<R: Wait>(gpu: &Gpu, acquire: &mut DeviceAcquire, job: &Job, rt: &R)
+    requires holding { Holding gpu.now acquire.old × (acquire.old.sealed ≡ false) }
+    requires job { IsJob gpu.now.spec job.now }
+    ensures on { WentOn gpu.now acquire.old acquire.new }
+    ensures all { HoldsAll job.now (kept_of acquire.new.held.items) }
+{
+    for _ in rt.forever() {
+        let Some(contended) = lock_declared(gpu, acquire, job, rt) else {
+            return;
+        };
+        release_all(gpu, acquire);
+        lock_first(gpu, acquire, contended, rt);
+    }
+    unreachable!()
+}
+
+impl Gpu {
+    /// Begins the submission of a job: draws its ticket (`ww_acquire_init`).
+    ///
+    /// # Errors
+    ///
+    /// Where memory is refused or all tickets were drawn. The pass and the job come back as they were.
+    pub fn begin<'g, R: Wait>(
+        &'g self,
+        alloc: Global,
+        pass: Pass,
+        job: Job,
+        rt: &R,
+    ) -> Result<Locking<'g>, BeginError>
+        requires pass { pass.gpu ≡ self.now }
+        requires job { IsJob self.now.spec job }
+        ensures begun { IfOk result (λ l. (l.pass ≡ pass) × (l.job ≡ job) × (l.held ≡ [])) }
+        ensures ticket { IfOk result (λ l. IsNewTicket pass l.ticket) }
+        ensures refused { IfErr result (λ e. IsBack pass job e) }
+    {
+        let Pass { seat } = pass;
+        match self.board.begin(seat, rt, alloc) {
+            Ok(acquire) => Ok(Locking {
+                gpu: self,
+                acquire,
+                job,
+            }),
+            Err(TicketError::Memory(seat)) => Err(BeginError::Memory(Pass { seat }, job)),
+            Err(TicketError::TicketsOut(seat)) => {
+                Err(BeginError::TicketsOut(Pass { seat }, job))
+            }
+        }
+    }
+
+    // Draws a ticket for a readback.
+    fn draw<R: Wait>(
+        &self,
+        alloc: Global,
+        pass: Pass,
+        rt: &R,
+    ) -> Result<DeviceAcquire, BeginReadError>
+        requires { pass.gpu ≡ self.now }
+        ensures holding { IfOk result (λ a. Holding self.now a × (a.sealed ≡ false) × (a.held.items ≡ [])) }
+        ensures pass { IfOk result (λ a. pass_of self.now.home (view a) ≡ pass) }
+        ensures refused { IfErr result (IsBackFromRead pass) }
+    {
+        let Pass { seat } = pass;
+        match self.board.begin(seat, rt, alloc) {
+            Ok(acquire) => Ok(acquire),
+            Err(TicketError::Memory(seat)) => Err(BeginReadError::Memory(Pass { seat })),
+            Err(TicketError::TicketsOut(seat)) => Err(BeginReadError::TicketsOut(Pass { seat })),
+        }
+    }
+
+    /// Begins to read a buffer back: draws a ticket and locks the buffer's reservation.
+    ///
+    /// # Errors
+    ///
+    /// Where memory is refused or all tickets were drawn. The pass comes back as it was.
+    pub fn begin_read<'g, R: Wait>(
+        &'g self,
+        alloc: Global,
+        pass: Pass,
+        buffer: BufferId,
+        rt: &R,
+    ) -> Result<Reading<'g>, BeginReadError>
+        requires pass { pass.gpu ≡ self.now }
+        requires buffer { buffer < length self.now.spec.buffers }
+        ensures begun { IfOk result (λ r. (r.buffer ≡ buffer) × (r.pass ≡ record pass { had = r.pass.had; met = r.pass.met })) }
+        ensures refused { IfErr result (IsBackFromRead pass) }
+    {
+        let mut acquire = self.draw(alloc, pass, rt)?;
+        lock_first(self, &mut acquire, buffer, rt);
+        Ok(Reading {
+            gpu: self,
+            acquire,
+            buffer,
+        })
+    }
+}
+
+impl<'g> Locking<'g> {
+    /// The ticket that was drawn: the lower is the older.
+    pub fn ticket(&self) -> Ticket
+        ensures { result ≡ self.now.ticket }
+    {
+        self.acquire.ticket()
+    }
+
+    /// What is submitted.
+    pub fn job(&self) -> &Job
+        ensures { result.now ≡ self.now.job }
+    {
+        &self.job
+    }
+
+    /// Whether the buffer is held.
+    pub fn is_held(&self, buffer: BufferId) -> bool
+        ensures held { result ≡ true → (x : Reservation) × In (buffer, x) self.now.held }
+        ensures lacks { result ≡ false → Lacks buffer self.now.held }
+    {
+        has_buffer(self.acquire.held(), buffer)
+    }
+
+    /// Locks a buffer if nobody holds it, and never waits (`ww_mutex_trylock`).
+    pub fn try_lock(&mut self, buffer: BufferId) -> Result<(), TryLockError>
+        requires { buffer < length self.old.pass.gpu.spec.buffers }
+        ensures { TriesLock buffer self.old self.new result }
+    {
+        let gpu = self.gpu;
+        gpu.board.try_lock(&mut self.acquire, buffer)
+    }
+
+    /// Locks a buffer (`ww_mutex_lock`). It waits for a younger holder, and for any where nothing is held.
+    pub fn lock<R: Wait>(&mut self, buffer: BufferId, rt: &R) -> Result<(), LockError>
+        requires { buffer < length self.old.pass.gpu.spec.buffers }
+        ensures { Locks buffer self.old self.new result }
+    {
+        let gpu = self.gpu;
+        gpu.board.lock(&mut self.acquire, buffer, rt)
+    }
+
+    /// Locks the buffer for which the caller backed off, and waits for whoever holds it (`ww_mutex_lock_slow`).
+    pub fn lock_slow<R: Wait>(&mut self, buffer: BufferId, rt: &R)
+        requires { (buffer < length self.old.pass.gpu.spec.buffers) × (self.old.held ≡ []) }
+        ensures { Claims buffer self.old self.new }
+    {
+        let gpu = self.gpu;
+        let Ok(()) = gpu.board.lock_slow(&mut self.acquire, buffer, rt) else {
+            unreachable!()
+        };
+    }
+
+    /// Gives a buffer back (`ww_mutex_unlock`).
+    pub fn release(&mut self, buffer: BufferId)
+        requires { (x : Reservation) × In (buffer, x) self.old.held }
+        ensures { self.new ≡ record self.old { held = without buffer self.old.held } }
+    {
+        let gpu = self.gpu;
+        gpu.board.release(&mut self.acquire, buffer);
+    }
+
+    /// Locks every buffer that the job declares, and begins anew with the one for which it had to back off.
+    pub fn lock_all<R: Wait>(self, rt: &R) -> Locked<'g>
+        ensures same { GoesOn self.entry result }
+        ensures holds { HoldsAll result.job result.held }
+    {
+        let Locking {
+            gpu,
+            mut acquire,
+            job,
+        } = self;
+        hold_all(gpu, &mut acquire, &job, rt);
+        acquire.done();
+        Locked { gpu, acquire, job }
+    }
+
+    /// Locks no more (`ww_acquire_done`), where every buffer that the job declares is held.
+    ///
+    /// # Errors
+    ///
+    /// Where one is not. The submission comes back as it was.
+    pub fn ready(self) -> Result<Locked<'g>, Locking<'g>>
+        ensures ready { IfOk result (λ l. (l ≡ self.entry) × HoldsAll l.job l.held) }
+        ensures not_all { IfErr result (λ l. (l ≡ self.entry) × (HoldsAll l.job l.held → ⊥)) }
+    {
+        if !holds_all(self.acquire.held(), &self.job) {
+            return Err(self);
+        }
+        let Locking {
+            gpu,
+            mut acquire,
+            job,
+        } = self;
+        acquire.done();
+        Ok(Locked { gpu, acquire, job })
+    }
+
+    /// Gives everything back, and the job unchanged.
+    pub fn abandon(self) -> (Pass, Job)
+        ensures { (result.0 ≡ self.entry.pass) × (result.1 ≡ self.entry.job) }
+    {
+        let Locking { gpu, acquire, job } = self;
+        (give_up(gpu, acquire), job)
+    }
+}
+
+impl<'g> Locked<'g> {
+    /// What is submitted.
+    pub fn job(&self) -> &Job
+        ensures { result.now ≡ self.now.job }
+    {
+        &self.job
+    }
+
+    /// Gives everything back, and the job unchanged.
+    pub fn abandon(self) -> (Pass, Job)
+        ensures { (result.0 ≡ self.entry.pass) × (result.1 ≡ self.entry.job) }
+    {
+        let Locked { gpu, acquire, job } = self;
+        (give_up(gpu, acquire), job)
+    }
+}

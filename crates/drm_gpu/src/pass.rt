@@ -1,0 +1,34 @@
+//! A caller's pass to the device.
+use crate::driver::Task;
+use drm_core::Device;
+use drm_resv::Resv;
+use drm_types::FenceId;
+use std::marker::Model;
+use ww_lock::Seat;
+
+pub(crate) type DeviceSeat = Seat<Device, Resv, Task>;
+
+/// No job of this number is armed.
+#[derive(Clone, Copy, Debug, PartialEq, Eq)]
+pub struct NoFence {
+    /// The number that was asked for.
+    pub fence: FenceId,
+}
+
+/// A pass to a device, for one caller (an open file of a `drm_device`). It has no bytes; contracts see what the caller
+/// knows of the device.
+#[derive(Drop)]
+pub struct Pass {
+    pub(crate) seat: DeviceSeat,
+}
+
+impl Model for Pass {
+    ghost use Rattle.ww_lock.specs.Begun.{sees};
+    ghost use Rattle.drm_gpu.specs.Passes.{PassState, IsPassSeat, gpu_of, pass_of};
+
+    ghost Value = { PassState };
+
+    ghost view = { λ p. pass_of p.seat.place.table_id (sees p.seat) };
+
+    ghost invariant = { λ p. IsPassSeat (gpu_of p.seat.place.table_id (sees p.seat)) p.seat };
+}

@@ -1,0 +1,72 @@
+//! A readback: a buffer that is held, and read once all its writers have ended.
+ghost use Rattle.std.specs.Prelude.{◌≡◌, length};
+ghost use Rattle.drm_buffer.specs.Memory.{bytes_of};
+ghost use Rattle.drm_gpu.specs.Passes.{Calls};
+ghost use Rattle.drm_gpu.specs.Reading.{ReadIs};
+
+use crate::gpu::Gpu;
+use crate::locking::{DeviceAcquire, give_up};
+use crate::pass::Pass;
+use drm_core::Refusal;
+use drm_types::BufferId;
+use std::marker::Model;
+use std::snapshot::Snapshot;
+use std::sync::Wait;
+
+/// A buffer that its reader holds: nobody arms a job that uses it until the reader gives it back.
+#[derive(Drop)]
+pub struct Reading<'g> {
+    pub(crate) gpu: &'g Gpu,
+    pub(crate) acquire: DeviceAcquire,
+    pub(crate) buffer: BufferId,
+}
+
+impl<'g> Model for Reading<'g> {
+    ghost use Rattle.std.specs.Prelude.{◌≡◌, ◌<◌, ◌∷◌, [], false, length};
+    ghost use Rattle.drm_resv.specs.Reservation.{WithRoom};
+    ghost use Rattle.drm_sched.specs.Held.{kept_of};
+    ghost use Rattle.drm_gpu.specs.Passes.{pass_of};
+    ghost use Rattle.drm_gpu.specs.Submissions.{Holding};
+    ghost use Rattle.drm_gpu.specs.Reading.{ReadingState};
+    ghost use Rattle.ww_lock.specs.Acquiring.{view as view_of};
+
+    ghost Value = { ReadingState };
+
+    ghost view = { λ r. record { pass = pass_of r.gpu.now.home (view_of r.acquire); buffer = r.buffer; held = kept_of r.acquire.held.items } };
+
+    ghost invariant = { λ r. Holding r.gpu.now r.acquire × (r.acquire.sealed ≡ false) × (r.buffer < length r.gpu.now.spec.buffers) × ((x : WithRoom) × (r.acquire.held.items ≡ (r.buffer, x) ∷ [])) };
+}
+
+impl<'g> Reading<'g> {
+    /// Copies the buffer's bytes, once every armed job that writes it has ended (`dma_resv_test_signaled`).
+    ///
+    /// # Errors
+    ///
+    /// `PacketOut` where the buffer is out with a packet, else `Busy`, with the least fence of its writers that has no
+    /// outcome. Then nothing is copied.
+    pub fn read_into<R: Wait>(&mut self, out: &mut [u8], rt: &R) -> Result<(), Refusal>
+        requires { length out.old ≡ length (bytes_of self.old.pass.gpu.spec.buffers self.old.buffer) }
+        ensures call { Calls (ReadIs self.old result out.old out.new) self.old.pass self.new.pass }
+        ensures same { self.new ≡ record self.old { pass = self.new.pass } }
+    {
+        let gpu = self.gpu;
+        let device = gpu.enter_with(&mut self.acquire, rt);
+        let found = Snapshot::of(&device);
+        device.facts();
+        let answer = device.read_into(self.buffer, &self.acquire.held()[0].1, out);
+        gpu.leave_with(&mut self.acquire, device, &found);
+        answer
+    }
+
+    /// Gives the buffer back.
+    pub fn release(self) -> Pass
+        ensures { result ≡ self.entry.pass }
+    {
+        let Reading {
+            gpu,
+            acquire,
+            buffer: _,
+        } = self;
+        give_up(gpu, acquire)
+    }
+}

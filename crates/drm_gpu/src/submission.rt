@@ -1,0 +1,212 @@
+//! A submission that has its locks: what it waits for is collected, and it is armed.
+ghost use Rattle.std.specs.Prelude.{◌≡◌, ℕ, [], ◌∷◌, IfOk, IfErr, OnOk, OnErr, MatchResult, IsTrue, map};
+ghost use Rattle.std.specs.Option.{option_map_or};
+ghost use Rattle.drm_types.specs.Usages.{wanted_usage};
+ghost use Rattle.drm_job.specs.Uses.{access_of};
+ghost use Rattle.drm_resv.specs.Entries.{entries_of};
+ghost use Rattle.drm_resv.specs.Noting.{all_noted};
+ghost use Rattle.drm_resv.specs.Reservation.{WithRoom};
+ghost use Rattle.drm_sched.specs.Held.{HaveRoom, kept_of};
+ghost use Rattle.drm_gpu.specs.Passes.{Calls};
+ghost use Rattle.drm_gpu.specs.Submissions.{IsCollected, ArmIs, ArmRefused, collected_from};
+
+use crate::gpu::Gpu;
+use crate::locking::{DeviceAcquire, Locked, give_up};
+use crate::pass::Pass;
+use drm_core::{Held, Plan, Refusal};
+use drm_job::Job;
+use drm_resv::{Deps, Resv};
+use drm_types::{Access, BufferId, FenceId, wanted};
+use std::alloc::{AllocError, Global};
+use std::marker::Model;
+use std::snapshot::Snapshot;
+use std::sync::Wait;
+
+/// A submission that knows what its job waits for, and whose reservations have room for it.
+#[derive(Drop)]
+pub struct Planned<'g> {
+    gpu: &'g Gpu,
+    acquire: DeviceAcquire,
+    plan: Plan,
+}
+
+impl<'g> Model for Planned<'g> {
+    ghost use Rattle.std.specs.Prelude.{◌≡◌, true};
+    ghost use Rattle.drm_job.specs.Fault.{IsJob};
+    ghost use Rattle.drm_sched.specs.Held.{kept_of, HaveRoom};
+    ghost use Rattle.drm_gpu.specs.Submissions.{PlannedSubmission, submission_of, Holding, HoldsAll, IsCollected};
+
+    ghost Value = { PlannedSubmission };
+
+    ghost view = { λ l. record { submission = submission_of l.gpu.now.home l.plan.job l.acquire; deps = l.plan.deps } };
+
+    ghost invariant = { λ l. Holding l.gpu.now l.acquire × (l.acquire.sealed ≡ true) × IsJob l.gpu.now.spec l.plan.job
+        × HoldsAll l.plan.job (kept_of l.acquire.held.items) × IsCollected l.plan.job (kept_of l.acquire.held.items) l.plan.deps × HaveRoom l.plan.job l.acquire.held.items };
+}
+
+/// A submission whose job is armed.
+#[derive(Drop)]
+pub struct Armed<'g> {
+    gpu: &'g Gpu,
+    acquire: DeviceAcquire,
+    fence: FenceId,
+}
+
+impl<'g> Model for Armed<'g> {
+    ghost use Rattle.std.specs.Prelude.{◌≡◌, true};
+    ghost use Rattle.drm_sched.specs.Held.{kept_of};
+    ghost use Rattle.drm_gpu.specs.Passes.{pass_of};
+    ghost use Rattle.drm_gpu.specs.Submissions.{ArmedSubmission, Holding};
+    ghost use Rattle.ww_lock.specs.Acquiring.{view as view_of};
+
+    ghost Value = { ArmedSubmission };
+
+    ghost view = { λ l. record { pass = pass_of l.gpu.now.home (view_of l.acquire); held = kept_of l.acquire.held.items; fence = l.fence } };
+
+    ghost invariant = { λ l. Holding l.gpu.now l.acquire × (l.acquire.sealed ≡ true) };
+}
+
+// Room for one more use of each of these.
+fn take_rooms(held: &mut [(BufferId, Resv)]) -> Result<(), AllocError>
+    ensures kept { kept_of held.new ≡ kept_of held.old }
+    ensures room { (job : _) → OnOk result (HaveRoom job held.new) }
+{
+    for (_, resv) in held.iter_mut() {
+        resv.reserve()?;
+    }
+    Ok(())
+}
+
+// The same of a list of them.
+fn take_all_rooms(held: &mut Held) -> Result<(), AllocError>
+    ensures kept { kept_of held.new.items ≡ kept_of held.old.items }
+    ensures room { (job : _) → OnOk result (HaveRoom job held.new.items) }
+{
+    take_rooms(held.as_mut_slice())
+}
+
+// What a reservation asks the job to wait for, if the job uses its buffer.
+fn collect_one(resv: &Resv, access: Option<Access>, deps: &mut Deps)
+    ensures { deps.new ≡ option_map_or (λ a. all_noted deps.old (entries_of (wanted_usage a) resv.now.kept.entries)) access deps.old }
+{
+    if let Some(access) = access {
+        resv.collect(wanted(access), deps);
+    }
+}
+
+// What these reservations ask the job to wait for.
+fn collect(held: &[(BufferId, Resv)], job: &Job) -> Deps
+    ensures { result ≡ collected_from job.now (kept_of held.now) }
+{
+    let mut deps = Deps::new();
+    for (buffer, resv) in held {
+        collect_one(resv, job.access_of(*buffer), &mut deps);
+    }
+    deps
+}
+
+impl<'g> Locked<'g> {
+    /// Takes room in the reservations (`dma_resv_reserve_fences`), and collects what the job waits for from them
+    /// (`drm_sched_job_add_implicit_dependencies`).
+    ///
+    /// # Errors
+    ///
+    /// Where memory is refused. The submission comes back as it was.
+    pub fn plan(self) -> Result<Planned<'g>, Locked<'g>>
+        ensures planned { IfOk result (λ p. (p.submission ≡ self.entry) × IsCollected p.submission.job p.submission.held p.deps) }
+        ensures refused { IfErr result (λ l. l ≡ self.entry) }
+    {
+        let Locked {
+            gpu,
+            mut acquire,
+            job,
+        } = self;
+        let mut held: Held = acquire.take_values();
+        let room = take_all_rooms(&mut held);
+        let deps = collect(held.as_slice(), &job);
+        acquire.put_values(held);
+        match room {
+            Ok(()) => Ok(Planned {
+                gpu,
+                acquire,
+                plan: Plan { job, deps },
+            }),
+            Err(AllocError) => Err(Locked { gpu, acquire, job }),
+        }
+    }
+}
+
+impl<'g> Planned<'g> {
+    /// Arms the job, and adds its uses to the reservations that are held (`drm_sched_job_arm`,
+    /// `drm_sched_entity_push_job`, `dma_resv_add_fence`).
+    ///
+    /// # Errors
+    ///
+    /// Where the device refuses the job. The submission comes back as it was planned.
+    pub fn arm<R: Wait>(self, rt: &R) -> Result<Armed<'g>, (Planned<'g>, Refusal)>
+        ensures armed { IfOk result (λ a. Calls (ArmIs self.entry.submission.job self.entry.deps self.entry.submission.held a.held a.fence) self.entry.submission.pass a.pass) }
+        ensures refused { IfErr result (λ x. Calls (ArmRefused self.entry.submission.job x.1) self.entry.submission.pass x.0.submission.pass × (x.0 ≡ record self.entry { submission = record self.entry.submission { pass = x.0.submission.pass } })) }
+    {
+        let Planned {
+            gpu,
+            mut acquire,
+            plan,
+        } = self;
+        let mut device = gpu.enter_with(&mut acquire, rt);
+        let found = Snapshot::of(&device);
+        let mut held: Held = acquire.take_values();
+        let answer = device.arm(plan, &mut held);
+        acquire.put_values(held);
+        match answer {
+            Ok(fence) => {
+                gpu.show_and_leave_with(&mut acquire, device, &found, fence, 1);
+                Ok(Armed {
+                    gpu,
+                    acquire,
+                    fence,
+                })
+            }
+            Err((plan, refusal)) => {
+                gpu.leave_with(&mut acquire, device, &found);
+                Err((Planned { gpu, acquire, plan }, refusal))
+            }
+        }
+    }
+
+    /// What is submitted.
+    pub fn job(&self) -> &Job
+        ensures { result.now ≡ self.now.submission.job }
+    {
+        &self.plan.job
+    }
+
+    /// Gives everything back, and the job unchanged.
+    pub fn abandon(self) -> (Pass, Job)
+        ensures { (result.0 ≡ self.entry.submission.pass) × (result.1 ≡ self.entry.submission.job) }
+    {
+        let Planned { gpu, acquire, plan } = self;
+        let Plan { job, deps: _ } = plan;
+        (give_up(gpu, acquire), job)
+    }
+}
+
+impl<'g> Armed<'g> {
+    /// The job's finished fence.
+    pub fn fence(&self) -> FenceId
+        ensures { result ≡ self.now.fence }
+    {
+        self.fence
+    }
+
+    /// Gives the reservations back (`drm_exec_fini`).
+    pub fn release(self) -> Pass
+        ensures { result ≡ self.entry.pass }
+    {
+        let Armed {
+            gpu,
+            acquire,
+            fence: _,
+        } = self;
+        give_up(gpu, acquire)
+    }
+}
