@@ -9,7 +9,7 @@ ghost use Rattle.drm_gpu.specs.Answers.{PickIs, StepIs, FinishIs, TimeoutIs, Can
 
 use crate::gpu::Gpu;
 use crate::pass::{NoFence, Pass};
-use drm_core::{Expired, Finished, Picked, Refusal, Stepped};
+use drm_sched::{Expired, Finished, Picked, Refusal, Stepped};
 use drm_types::{EntityId, FenceId, Moment, Outcome, RingId};
 use std::snapshot::Snapshot;
 use std::sync::Wait;

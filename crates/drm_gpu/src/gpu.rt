@@ -9,7 +9,7 @@ ghost use Rattle.drm_gpu.specs.Passes.{IsJoinedOf, first_pass};
 use crate::driver::Driver;
 use crate::pass::Pass;
 use drm_buffer::Store;
-use drm_core::{BuildError, Device, JobRecord};
+use drm_sched::{BuildError, Device, JobRecord};
 use drm_resv::Resv;
 use drm_types::{DeviceSpec, Sequence};
 use std::alloc::{AllocError, Global};

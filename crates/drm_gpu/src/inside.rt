@@ -10,7 +10,7 @@ ghost use Rattle.drm_gpu.specs.Submissions.{Holding, EnteredWith, Fitting, IsSam
 use crate::gpu::Gpu;
 use crate::locking::DeviceAcquire;
 use crate::pass::DeviceSeat;
-use drm_core::Device;
+use drm_sched::Device;
 use drm_types::FenceId;
 use std::snapshot::Snapshot;
 use std::sync::Wait;

@@ -1,4 +1,4 @@
-//! The device that threads share: `drm_core`'s device behind one lock, and a wait-die lock for each buffer's reservation.
+//! The device that threads share: `drm_sched`'s device behind one lock, and a wait-die lock for each buffer's reservation.
 //!
 //! Threads share a `Gpu` by reference, and each has a `Pass` of its own. With a pass a caller drives the device, or begins
 //! a submission, which goes through `Locking`, `Locked`, `Planned` and `Armed` back to the pass, or a `Reading`. Contracts

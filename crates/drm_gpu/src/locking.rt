@@ -15,7 +15,7 @@ use crate::driver::Task;
 use crate::gpu::Gpu;
 use crate::pass::Pass;
 use crate::reading::Reading;
-use drm_core::Device;
+use drm_sched::Device;
 use drm_job::{Job, jobs_are_the_sound_drafts};
 use drm_resv::Resv;
 use drm_types::{BufferId, Ticket};

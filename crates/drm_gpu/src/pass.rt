@@ -1,6 +1,6 @@
 //! A caller's pass to the device.
 use crate::driver::Task;
-use drm_core::Device;
+use drm_sched::Device;
 use drm_resv::Resv;
 use drm_types::FenceId;
 use std::marker::Model;

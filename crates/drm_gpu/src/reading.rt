@@ -7,7 +7,7 @@ ghost use Rattle.drm_gpu.specs.Reading.{ReadIs};
 use crate::gpu::Gpu;
 use crate::locking::{DeviceAcquire, give_up};
 use crate::pass::Pass;
-use drm_core::Refusal;
+use drm_sched::Refusal;
 use drm_types::BufferId;
 use std::marker::Model;
 use std::snapshot::Snapshot;
