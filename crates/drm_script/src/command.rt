@@ -149,11 +149,7 @@ fn find_command(keyword: Keyword) -> Option<Command>
 
 /// The event of a line.
 #[tactic(auto, unfolding(crate::specs::Commands::event_line))]
-pub fn read_event_line(
-    alloc: Global,
-    spec: &DeviceSpec,
-    line: &Line,
-) -> Result<Event, ReadError>
+pub fn read_event_line(alloc: Global, spec: &DeviceSpec, line: &Line) -> Result<Event, ReadError>
     ensures value { Gives (λ event. event) result (event_line spec.now line.now.number line.now.bytes) }
     ensures exist { IfOk result (λ event. IsTrue (names_exist spec.now event)) }
 {

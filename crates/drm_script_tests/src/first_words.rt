@@ -19,7 +19,9 @@ fn other_first_words_are_not(rt: HostRuntime) {
 #[test]
 fn words_are_compared_whole(rt: HostRuntime) {
     assert!(rt; is_word(b"fill", b"fill") && is_word(b"", b""));
-    assert!(rt; !is_word(b"fil", b"fill") && !is_word(b"fills", b"fill") && !is_word(b"full", b"fill"));
+    assert!(rt;
+        !is_word(b"fil", b"fill") && !is_word(b"fills", b"fill") && !is_word(b"full", b"fill")
+    );
 }
 
 #[test]

@@ -7,6 +7,7 @@ ghost use Rattle.drm_text.specs.Reading.{Reads};
 ghost use Rattle.drm_text.specs.Words.{word_at, number_at, last_number_at, name_at, last_name_at, end_at, position_of, fault_here};
 
 use crate::fault::{Fault, Position, TextFault};
+use crate::number::read_number;
 use crate::parts::Parts;
 use std::marker::Model;
 
@@ -95,24 +96,15 @@ impl<'a> Words<'a> {
     }
 
     /// A number of at most `most`.
-    #[tactic(auto, unfolding(crate::specs::Words::number_at, crate::specs::Words::word_at))]
+    #[tactic(auto, unfolding(crate::specs::Words::number_at))]
     pub fn number(&mut self, most: u64) -> Result<u64, Fault>
         ensures value { Reads (λ n. (n, self.new)) result (number_at most self.old) }
         ensures line { self.new.line ≡ self.old.line }
         ensures small { IfOk result (λ n. n ≤ most) }
     {
-        let no_word = self.fault(TextFault::Word);
         let fault = self.fault(TextFault::Number);
-        let behind = self.rest.at();
-        match self.rest.next_number(most) {
-            Some(([], _)) => Err(no_word),
-            Some((_, number)) => number.ok_or(fault),
-            None => Err(Fault::Text {
-                line: self.line,
-                column: behind,
-                what: TextFault::Word,
-            }),
-        }
+        let word = self.word()?;
+        read_number(word, most).ok_or(fault)
     }
 
     /// A number of at most `most`, which ends the line.
