@@ -5,8 +5,8 @@ ghost use Rattle.drm_gpu.specs.Passes.{IsGood, GrowsTo, word_shown};
 ghost use Rattle.drm_gpu.specs.Laws as laws;
 
 use drm_buffer::Buffer;
-use drm_sched::Device;
 use drm_resv::Resv;
+use drm_sched::Device;
 use drm_types::{FenceId, RingId};
 use std::marker::Model;
 use std::snapshot::Snapshot;

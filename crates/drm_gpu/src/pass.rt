@@ -1,7 +1,7 @@
 //! A caller's pass to the device.
 use crate::driver::Task;
-use drm_sched::Device;
 use drm_resv::Resv;
+use drm_sched::Device;
 use drm_types::FenceId;
 use std::marker::Model;
 use ww_lock::Seat;

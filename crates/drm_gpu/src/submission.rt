@@ -13,9 +13,9 @@ ghost use Rattle.drm_gpu.specs.Submissions.{IsCollected, ArmIs, ArmRefused, coll
 use crate::gpu::Gpu;
 use crate::locking::{DeviceAcquire, Locked, give_up};
 use crate::pass::Pass;
-use drm_sched::{Held, Plan, Refusal};
 use drm_job::Job;
 use drm_resv::{Deps, Resv};
+use drm_sched::{Held, Plan, Refusal};
 use drm_types::{Access, BufferId, FenceId, wanted};
 use std::alloc::{AllocError, Global};
 use std::marker::Model;
