@@ -1,7 +1,7 @@
 use Rattle.std.proofs.Common.{◌∙◌, Some, sym, ap, subst}
 use Rattle.std.specs.Prelude.{option_map}
 use Rattle.drm_packet.specs.Parts.{part_effect}
-use Rattle.drm_core.specs.Begun.{IsReport, MayComeBack}
+use Rattle.drm_sched.specs.Begun.{IsReport, MayComeBack}
 use Rattle.drm_core_tests.proofs.tests.outside.runs_outside.Goals as goal
 
 pub report-requires : goal.report-requires
