@@ -1,9 +1,10 @@
 -- A replay: what is written answers the script that is read.
-use Rattle.std.specs.Prelude.{◌≡◌, ℕ, List, Option, Ok, Err, IfSome}
+use Rattle.std.specs.Prelude.{◌≡◌, ℕ, List, ◌++◌, Option, Ok, Err, IfSome}
 use Rattle.std.specs.Io.KnownBytes.{Appends, Keeps}
 use Rattle.drm_sched.specs.declared.answer.Answer.{Answer}
 use Rattle.drm_core.specs.State.{CoreState, opened}
-use Rattle.drm_core.specs.Run.{LawfulRun}
+use Rattle.drm_core.specs.declared.event.Event.{Event}
+use Rattle.drm_core.specs.Run.{LawfulRun, Run}
 use Rattle.drm_core.specs.Headline.{Promises}
 use Rattle.drm_script.specs.declared.script.Script.{Script}
 use Rattle.drm_script.specs.Answers.{text_of_answers}
@@ -29,3 +30,20 @@ Replays input old new (ending.Fault fault) = IfSome input (λ text. judge_script
 Replays input old new ending.NoInput = Keeps old new
 Replays input old new ending.NoMemory = Keeps old new
 Replays input old new ending.NoOutput = Answers input (λ answers. AppendsFront old new (text_of_answers answers))
+
+-- the core gives answers to these events, one step after another, of which this holds
+abbrev pub IsAnswered : CoreState → List Event → CoreState → (List Answer → Type 0) → Type 0
+IsAnswered start events final Hold = (answers : List Answer) × Run start events answers final × Hold answers
+
+-- the writer gained this text but for its last piece, which is still to be written
+abbrev pub AppendsPiece : Option (List ℕ) → Option (List ℕ) → List ℕ → List ℕ → Type 0
+AppendsPiece old new text piece = (written : List ℕ) × Appends old new written × (text ≡ written ++ piece)
+
+-- what each ending says of a script that was read, and of what the writer holds before and after
+abbrev pub Plays : Script → Option (List ℕ) → Option (List ℕ) → Ending → Type 0
+Plays script old new ending.Done = (answers : List Answer) × AreAnswers script answers × Appends old new (text_of_answers answers)
+Plays script old new ending.Differs = ⊥
+Plays script old new (ending.Fault fault) = ⊥
+Plays script old new ending.NoInput = ⊥
+Plays script old new ending.NoMemory = Keeps old new
+Plays script old new ending.NoOutput = (answers : List Answer) × AreAnswers script answers × AppendsFront old new (text_of_answers answers)

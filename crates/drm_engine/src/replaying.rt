@@ -1,48 +1,110 @@
 //! The engine `replay`: from a script to the answers of the core.
 
-ghost use Rattle.std.specs.Prelude.{◌≡◌, List, None, IfOk};
+ghost use Rattle.std.specs.Prelude.{◌≡◌, ◌++◌, [], None, OnErr, OnOk};
+ghost use Rattle.std.specs.Io.KnownBytes.{Appends};
 ghost use Rattle.drm_types.specs.Limits.{spec_fault};
-ghost use Rattle.drm_script.specs.Answers.{text_of_answers};
+ghost use Rattle.drm_script.specs.Answers.{line_of, text_of_answers};
 ghost use Rattle.drm_script.specs.Commands.{AllNamesExist};
-ghost use Rattle.drm_engine.specs.Replaying.{AreAnswers, Replays};
-ghost use Rattle.drm_sched.specs.declared.answer.Answer.{Answer as AnswerOf};
+ghost use Rattle.drm_script.specs.Transfer.{AppendsFront};
+ghost use Rattle.drm_engine.specs.Replaying.{AppendsPiece, IsAnswered, Plays, Replays};
 
 use crate::ending::Ending;
-use drm_core::{BuildError, Core};
-use drm_script::{Script, put_all, read_script_from, write_answers};
-use std::alloc::{AllocError, Global};
-use std::io::{Read, Write};
+use drm_core::{Answer, Core, every_run_is_lawful, headline};
+use drm_script::{Events, Script, put_all, put_line, read_script_from};
+use std::alloc::Global;
+use std::io::{self, Read, Write};
 
-/// The text of the answers to a script. The script's device passes its check, so only memory can lack.
-fn answer(alloc: Global, script: Script) -> Result<Vec<u8>, AllocError>
+/// The lines of answers are written in pieces of so many bytes or more, but for the last.
+const PIECE: usize = 32_768;
+
+/// The room of a piece. The longest line tells 4,096 bytes, so a piece never needs more.
+const ROOM: usize = PIECE + 8_320;
+
+/// Puts the line of an answer behind those of a piece, and writes the piece where it is long enough.
+fn tell<W: Write>(writer: &mut W, piece: &mut Vec<u8>, answer: &Answer) -> io::Result<()>
+    ensures ok { OnOk result (AppendsPiece (W.contents writer.old) (W.contents writer.new) (piece.old.items ++ line_of answer.now) piece.new.items) }
+    ensures err { OnErr result (AppendsFront (W.contents writer.old) (W.contents writer.new) (piece.old.items ++ line_of answer.now)) }
+{
+    put_line(piece, answer)?;
+    if piece.len() >= PIECE {
+        put_all(writer, piece)?;
+        piece.clear();
+    }
+    Ok(())
+}
+
+/// Gives the core all events, and tells the answer to each while it can be told. No answer is kept, and of the text no
+/// more than a piece.
+fn tell_answers<W: Write>(
+    alloc: Global,
+    core: &mut Core,
+    events: Events,
+    piece: &mut Vec<u8>,
+    writer: &mut W,
+) -> io::Result<()>
+    requires names { AllNamesExist core.old.device.spec events }
+    requires bare { piece.old.items ≡ [] }
+    ensures ok { OnOk result (IsAnswered core.old events core.new (λ answers. AppendsPiece (W.contents writer.old) (W.contents writer.new) (text_of_answers answers) piece.new.items)) }
+    ensures err { OnErr result (IsAnswered core.old events core.new (λ answers. AppendsFront (W.contents writer.old) (W.contents writer.new) (text_of_answers answers))) }
+{
+    let mut told = Ok(());
+    let mut rest = events.into_left();
+    while let Some(event) = rest.next() {
+        let answer = core.apply(alloc, event);
+        if told.is_ok() {
+            told = tell(writer, piece, &answer);
+        }
+    }
+    told
+}
+
+/// Gives the core all events, and writes the lines of the answers.
+fn write_lines<W: Write>(
+    alloc: Global,
+    core: &mut Core,
+    events: Events,
+    piece: &mut Vec<u8>,
+    writer: &mut W,
+) -> io::Result<()>
+    requires names { AllNamesExist core.old.device.spec events }
+    requires bare { piece.old.items ≡ [] }
+    ensures ok { OnOk result (IsAnswered core.old events core.new (λ answers. Appends (W.contents writer.old) (W.contents writer.new) (text_of_answers answers))) }
+    ensures err { OnErr result (IsAnswered core.old events core.new (λ answers. AppendsFront (W.contents writer.old) (W.contents writer.new) (text_of_answers answers))) }
+{
+    tell_answers(alloc, core, events, piece, writer)?;
+    put_all(writer, piece)
+}
+
+/// Writes the answers to a script. The script's device passes its check, so only memory can lack, and it lacks before
+/// anything is written.
+fn play<W: Write>(alloc: Global, script: Script, writer: &mut W) -> Ending
     requires fits { spec_fault script.spec ≡ None }
     requires exist { AllNamesExist script.spec script.lines }
-    ensures { IfOk result (λ text. (answers : List AnswerOf) × AreAnswers script answers × (text.items ≡ text_of_answers answers)) }
+    ensures { Plays script (W.contents writer.old) (W.contents writer.new) result }
 {
-    let mut core = match Core::build(alloc, script.spec) {
-        Ok(core) => core,
-        Err(BuildError::Memory) => return Err(AllocError),
-        Err(BuildError::Spec(_)) => unreachable!(),
+    every_run_is_lawful();
+    headline();
+    let Ok(mut piece) = Vec::with_capacity(alloc, ROOM) else {
+        return Ending::NoMemory;
     };
-    let answers = core.run(alloc, script.lines.into_vec())?;
-    write_answers(alloc, &answers)
+    let Ok(mut core) = Core::build(alloc, script.spec) else {
+        return Ending::NoMemory;
+    };
+    let events = script.lines;
+    match write_lines(alloc, &mut core, events, &mut piece, writer) {
+        Ok(()) => Ending::Done,
+        Err(_) => Ending::NoOutput,
+    }
 }
 
 /// Reads a script to its end, and writes one line for each of its events: what a core answers that is built for the
-/// script's device and gets the events in their order. Nothing is written before the whole text was read and all
-/// events were answered.
+/// script's device and gets the events in their order. Nothing is written before the whole text was read and judged.
+/// Where a write fails, the events behind it happen all the same, and nothing more is written.
 pub fn replay<R: Read, W: Write>(alloc: Global, reader: &mut R, writer: &mut W) -> Ending
     ensures { Replays (R.remaining reader.old) (W.contents writer.old) (W.contents writer.new) result }
 {
-    let script = match read_script_from(alloc, reader) {
-        Ok(script) => script,
-        Err(error) => return Ending::of_input(error),
-    };
-    let Ok(text) = answer(alloc, script) else {
-        return Ending::NoMemory;
-    };
-    match put_all(writer, &text) {
-        Ok(()) => Ending::Done,
-        Err(_) => Ending::NoOutput,
+    match read_script_from(alloc, reader) {
+        Ok(script) => play(alloc, script, writer),
+        Err(error) => Ending::of_input(error),
     }
 }

@@ -1,24 +1,24 @@
 -- What a call tells of its pass.
-use Rattle.std.proofs.Common.{◌≡◌, ℕ, [], ◌∷◌, ◌++◌, sym, ap, ◌∙◌, subst, Some, None, Result, Ok, Err}
-use Rattle.std.specs.Prelude.{IfOk, IfErr, OnOk, IsPermutation}
+use Rattle.std.proofs.Common.{◌≡◌, ℕ, [], ◌∷◌, ◌++◌, refl, sym, ap, ◌∙◌, subst, Some, None, Result, Ok, Err}
+use Rattle.std.specs.Prelude.{Option, IfOk, IfErr, OnOk, IsPermutation}
 use Rattle.atomic_table.specs.Seated.{TableId}
 use Rattle.ww_lock.specs.Begun.{IsJoined, sees}
 use Rattle.ww_lock.specs.Fences.{NotBack}
 use Rattle.ww_lock.specs.Rule.{In}
 use Rattle.ww_lock.specs.Steps.{IsChain, IsLater}
 use Rattle.drm_types.specs.declared.spec.DeviceSpec.{DeviceSpec}
-use Rattle.drm_sched.specs.declared.answer.Expired.{Expired}
 use Rattle.drm_sched.specs.declared.answer.Picked.{Picked}
-use Rattle.drm_sched.specs.declared.answer.Stepped.{Stepped}
 use Rattle.drm_sched.specs.declared.answer.Refusal.{Refusal}
-use Rattle.drm_sched.specs.Answers.{picked, stepped, timed_out}
-use Rattle.drm_sched.specs.Begun.{out_or}
-use Rattle.drm_sched.specs.Marks.{MarkedDevice, IsBusy, is_in_way, ring_out}
-use Rattle.drm_sched.specs.Outcomes.{pick_outcome, step_outcome, timeout_outcome, cancelled_device}
-use Rattle.drm_sched.specs.Refusals.{pick_refusal, step_refusal, cancel_refusal}
-use Rattle.drm_gpu.specs.Answers.{PickIs, StepIs, TimeoutIs, CancelIs}
-use Rattle.drm_gpu.specs.Passes.{GpuState, PassState, Seeing, DeviceSeat, Knows, IsJoinedOf, IsPassSeat, IsFound, IsGood, IsSameBut, Adds, Calls, GrowsTo, word_shown, last_of, gpu_of, pass_of}
+use Rattle.drm_sched.specs.Answers.{picked}
+use Rattle.drm_sched.specs.Marks.{MarkedDevice, Task, IsBusy}
+use Rattle.drm_sched.specs.Outcomes.{pick_outcome, cancelled_device}
+use Rattle.drm_sched.specs.Refusals.{pick_refusal, cancel_refusal}
+use Rattle.drm_gpu.specs.declared.running.OutPacket.{OutPacket}
+use Rattle.drm_gpu.specs.Answers.{PickIs, CancelIs}
+use Rattle.drm_gpu.specs.Passes.{GpuState, PassState, Seeing, DeviceSeat, Knows, KnowsWith, IsJoinedOf, IsPassSeat, IsFound, IsGood, IsSameBut, Adds, Calls, CallsAs, GrowsTo, word_shown, last_of, gpu_of, pass_of}
+use Rattle.drm_gpu.specs.Running.{GoesOut, Starts}
 use Rattle.drm_gpu.proofs.Chains.{saw}
+use Rattle.drm_gpu.proofs.Grown.{grows_trans}
 
 same_gpu : (gpu : GpuState) (h : TableId) (s : DeviceSpec) → h ≡ gpu.home → s ≡ gpu.spec → record { home = h; spec = s } ≡ gpu
 same_gpu gpu h s e f = ap (λ h. record { home = h; spec = s }) e ∙ ap (λ s. record { home = gpu.home; spec = s }) f
@@ -27,7 +27,7 @@ pub at_gpu : (gpu : GpuState) (t : DeviceSeat) → IsPassSeat gpu t → gpu_of t
 at_gpu gpu t k = same_gpu gpu t.place.table_id (last_of (sees t)).state.spec k.idle.0.0 k.knows.described
 
 -- what a caller is told of the device that it finds
-pub is_found : (spec : DeviceSpec) (v : Seeing) (p : MarkedDevice) → Knows spec (last_of v) v → IsLater IsGood GrowsTo word_shown IsBusy v p → IsFound p v
+pub is_found : {task : Option Task} (spec : DeviceSpec) (v : Seeing) (p : MarkedDevice) → KnowsWith task spec (last_of v) v → IsLater IsGood GrowsTo word_shown IsBusy v p → IsFound p v
 is_found spec v p k later = record { lawful = later.fine; later = later.grown (last_of v) (saw spec (last_of v) v k); shows = later.shows }
 
 -- a pass of which only the last device and the calls are others
@@ -36,27 +36,97 @@ pass_is : (gpu : GpuState) (old new : PassState) (found : MarkedDevice) → old.
 pass_is gpu old new found at same calls looked had met part =
     λ i. record { gpu = (same ∙ sym at) i; last = new.last; calls = calls i; looked = looked i; had = had i; met = met i; part = part i }
 
+-- nothing but what was seen last has changed, twice
+pub same_trans : (v s t : Seeing) → IsSameBut v s → IsSameBut s t → IsSameBut v t
+same_trans v s t a b = (b.0 ∙ a.0, b.1 ∙ a.1, b.2 ∙ a.2, b.3 ∙ a.3, b.4 ∙ a.4)
+
+-- what a caller finds that has seen more meanwhile
+pub found_back : (d : MarkedDevice) (v s : Seeing) → GrowsTo (last_of v) (last_of s) → IsSameBut v s → IsFound d s → IsFound d v
+found_back d v s on same f = record {
+  lawful = f.lawful;
+  later = grows_trans (last_of v) (last_of s) d on f.later;
+  shows = λ fence word i. f.shows fence word (subst (In (fence, word)) (sym same.1) i);
+}
+
+-- a caller that saw v entered and saw s, found d and left e, and sees t
+pub calls_as : (does : MarkedDevice → MarkedDevice → Type 0) (v s t : Seeing) (d f e : MarkedDevice) → IsFound d v → IsSameBut v s → f ≡ d → GrowsTo d e → last_of t ≡ e → Adds f e s t → does d e → CallsAs does v t
+calls_as does v s t d f e found same is on out adds holds =
+    let last = sym out in record {
+      found = d;
+      is_found = found;
+      event = subst (does d) last holds;
+      onward = subst (GrowsTo d) last on;
+      adds = (
+        adds.0 ∙ (ap (λ cs. cs ++ (f, e) ∷ []) same.0 ∙ (ap (λ x. v.pivot.mine ++ (x, e) ∷ []) is ∙ ap (λ x. v.pivot.mine ++ (d, x) ∷ []) last)),
+        adds.1 ∙ same.1,
+        adds.2 ∙ same.2,
+        adds.3 ∙ same.3,
+        adds.4 ∙ same.4,
+      );
+    }
+
+-- a call that followed on a look at the device
+pub calls_after : (does : MarkedDevice → MarkedDevice → Type 0) (v s t : Seeing) → GrowsTo (last_of v) (last_of s) → IsSameBut v s → CallsAs does s t → CallsAs does v t
+calls_after does v s t on same c = record {
+  found = c.found;
+  is_found = found_back c.found v s on same c.is_found;
+  event = c.event;
+  onward = c.onward;
+  adds = (c.adds.0 ∙ ap (λ cs. cs ++ (c.found, last_of t) ∷ []) same.0, c.adds.1 ∙ same.1, c.adds.2 ∙ same.2, c.adds.3 ∙ same.3, c.adds.4 ∙ same.4);
+}
+
+-- what a caller that saw v and sees t tells of its pass, which was old
+pub calls_are : (does : MarkedDevice → MarkedDevice → Type 0) (gpu : GpuState) (old : PassState) (home after : TableId) (v t : Seeing) → pass_of home v ≡ old → old.gpu ≡ gpu → gpu_of after t ≡ gpu → CallsAs does v t
+    → Calls does old (pass_of after t)
+calls_are does gpu old home after v t view belongs at c = record {
+  found = c.found;
+  lawful = c.is_found.lawful;
+  later = subst (λ (o : PassState). GrowsTo o.last c.found) view c.is_found.later;
+  shows = subst (λ (o : PassState). (g w : ℕ) → In (g, w) o.looked → NotBack w (word_shown c.found g)) view c.is_found.shows;
+  event = c.event;
+  onward = c.onward;
+  gpu = at ∙ sym belongs;
+  pass = pass_is gpu old (pass_of after t) c.found belongs at
+      (c.adds.0 ∙ ap (λ (o : PassState). o.calls ++ (c.found, last_of t) ∷ []) view)
+      (c.adds.1 ∙ ap (λ (o : PassState). o.looked) view)
+      (c.adds.2 ∙ ap (λ (o : PassState). o.had) view)
+      (c.adds.3 ∙ ap (λ (o : PassState). o.met) view)
+      (c.adds.4 ∙ ap (λ (o : PassState). o.part) view);
+}
+
+-- the same where a packet of a ring went out
+pub started_of : (gpu : GpuState) (old : PassState) (home : TableId) (ring : ℕ) (out : OutPacket) (v : Seeing) (s : DeviceSeat) → pass_of home v ≡ old → old.gpu ≡ gpu → GoesOut gpu ring out v s
+    → Starts ring old (record { pass = pass_of gpu.home (sees s); ring = out.ring; fence = out.fence; packet = out.packet })
+started_of gpu old home ring out v s view belongs o =
+    let at : gpu_of gpu.home (sees s) ≡ gpu = same_gpu gpu gpu.home (last_of (sees s)).state.spec refl o.has.seat.knows.described in
+    let new = pass_of gpu.home (sees s) in
+    record {
+      found = o.found;
+      lawful = o.is_found.lawful;
+      later = subst (λ (p : PassState). GrowsTo p.last o.found) view o.is_found.later;
+      shows = subst (λ (p : PassState). (g w : ℕ) → In (g, w) p.looked → NotBack w (word_shown o.found g)) view o.is_found.shows;
+      ring_is = o.ring_is;
+      free = o.free;
+      taken = o.taken;
+      out = out;
+      begun = o.begun;
+      gpu = at ∙ sym belongs;
+      pass = λ i. record {
+        gpu = (at ∙ sym belongs) i;
+        last = new.last;
+        calls = (o.same.0 ∙ ap (λ (p : PassState). p.calls) view) i;
+        looked = (o.same.1 ∙ ap (λ (p : PassState). p.looked) view) i;
+        had = (o.same.2 ∙ ap (λ (p : PassState). p.had) view) i;
+        met = (o.same.3 ∙ ap (λ (p : PassState). p.met) view) i;
+        part = (o.same.4 ∙ ap (λ (p : PassState). p.part) view) i;
+      };
+    }
+
 -- a caller that saw v, as the pass old, entered and saw s, found d and left e, and sees t
 pub calls_of : (does : MarkedDevice → MarkedDevice → Type 0) (gpu : GpuState) (old : PassState) (home after : TableId) (v s t : Seeing) (d f e : MarkedDevice) → pass_of home v ≡ old → old.gpu ≡ gpu
     → IsFound d v → IsSameBut v s → f ≡ d → GrowsTo d e → gpu_of after t ≡ gpu → last_of t ≡ e → Adds f e s t → does d e → Calls does old (pass_of after t)
 calls_of does gpu old home after v s t d f e view belongs found same is on at out adds holds =
-    let last = sym out in
-    let calls : t.pivot.mine ≡ old.calls ++ (d, last_of t) ∷ [] =
-    adds.0 ∙ (ap (λ cs. cs ++ (f, e) ∷ []) (same.0 ∙ ap (λ (o : PassState). o.calls) view) ∙ (ap (λ x. old.calls ++ (x, e) ∷ []) is ∙ ap (λ x. old.calls ++ (d, x) ∷ []) last)) in
-    record {
-      found = d;
-      lawful = found.lawful;
-      later = subst (λ (o : PassState). GrowsTo o.last d) view found.later;
-      shows = subst (λ (o : PassState). (g w : ℕ) → In (g, w) o.looked → NotBack w (word_shown d g)) view found.shows;
-      event = subst (does d) last holds;
-      onward = subst (GrowsTo d) last on;
-      gpu = at ∙ sym belongs;
-      pass = pass_is gpu old (pass_of after t) d belongs at calls
-          (adds.1 ∙ (same.1 ∙ ap (λ (o : PassState). o.looked) view))
-          (adds.2 ∙ (same.2 ∙ ap (λ (o : PassState). o.had) view))
-          (adds.3 ∙ (same.3 ∙ ap (λ (o : PassState). o.met) view))
-          (adds.4 ∙ (same.4 ∙ ap (λ (o : PassState). o.part) view));
-    }
+    calls_are does gpu old home after v t view belongs at (calls_as does v s t d f e found same is on out adds holds)
 
 -- a seat r that a pass was opened to entered as s, found d and left e as t
 pub called : (does : MarkedDevice → MarkedDevice → Type 0) (gpu : GpuState) (old : PassState) (home : TableId) (r s t : DeviceSeat) (d f e : MarkedDevice) → pass_of home (sees r) ≡ old → old.gpu ≡ gpu
@@ -69,16 +139,6 @@ pub pick_is : (d e : MarkedDevice) (ring now : ℕ) (r : Result Picked Refusal) 
     → IfErr r (λ x. (pick_refusal d.state ring ≡ Some x) × (e ≡ d)) → e.marks ≡ d.marks → PickIs ring now r d e
 pick_is d e ring now (Ok p) ok err marks = (ok.0, ok.1, marks)
 pick_is d e ring now (Err x) ok err marks = err
-
-pub step_is : (d e : MarkedDevice) (ring : ℕ) (r : Result Stepped Refusal) → IfOk r (λ s. (out_or (is_in_way d ring) (step_refusal d.state ring) ≡ None) × (step_outcome d.state ring ≡ (stepped s, e.state)))
-    → IfErr r (λ x. (out_or (is_in_way d ring) (step_refusal d.state ring) ≡ Some x) × (e ≡ d)) → e.marks ≡ d.marks → StepIs ring r d e
-step_is d e ring (Ok s) ok err marks = (ok.0, ok.1, marks)
-step_is d e ring (Err x) ok err marks = err
-
-pub timeout_is : (d e : MarkedDevice) (ring now : ℕ) (r : Result Expired Refusal) → IfOk r (λ x. (out_or (ring_out d ring) None ≡ None) × (timeout_outcome d.state ring now ≡ (timed_out x, e.state)))
-    → IfErr r (λ x. (out_or (ring_out d ring) None ≡ Some x) × (e ≡ d)) → e.marks ≡ d.marks → TimeoutIs ring now r d e
-timeout_is d e ring now (Ok x) ok err marks = (ok.0, ok.1, marks)
-timeout_is d e ring now (Err x) ok err marks = err
 
 pub cancel_is : (d e : MarkedDevice) (entity : ℕ) (r : Result (Unit {0}) Refusal) → OnOk r ((cancel_refusal d.state entity ≡ None) × (e.state ≡ cancelled_device d.state entity))
     → IfErr r (λ x. (cancel_refusal d.state entity ≡ Some x) × (e ≡ d)) → e.marks ≡ d.marks → CancelIs entity r d e

@@ -1,14 +1,16 @@
 -- What a pass knows goes on to hold.
-use Rattle.std.proofs.Common.{◌≡◌, List, [], ◌∷◌, ◌++◌, refl, sym, ap, ◌∙◌, subst, ⊎_elim, inl, inr}
-use Rattle.std.specs.Prelude.{true, not, ◌&&◌}
+use Rattle.std.proofs.Common.{◌≡◌, ℕ, List, [], ◌∷◌, ◌++◌, refl, sym, ap, ◌∙◌, subst, ⊎_elim, inl, inr}
+use Rattle.std.specs.Prelude.{true, false, not, ◌&&◌, Option, None}
 use Rattle.atomic_table.specs.Seated.{TableId}
 use Rattle.ww_lock.specs.Rule.{In}
-use Rattle.ww_lock.specs.Steps.{IsChain, right_half, with_exit, with_post, calls_with}
+use Rattle.ww_lock.specs.Steps.{IsChain, right_half, with_exit, with_post, calls_with, task_after}
+use Rattle.ww_lock.specs.declared.board.TaskChange.{TaskChange}
 use Rattle.ww_lock.specs.declared.board.TaskChange.TheVariants.{Same}
 use Rattle.ww_lock.specs.Begun.{IsJoined, IsIdle, IsOutside, sees}
 use Rattle.drm_types.specs.declared.spec.DeviceSpec.{DeviceSpec}
+use Rattle.drm_resv.specs.Reservation.{WithRoom}
 use Rattle.drm_sched.specs.Marks.{MarkedDevice, Task, IsBusy, mark_of}
-use Rattle.drm_gpu.specs.Passes.{Seeing, DeviceSeat, GpuState, GrowsTo, Knows, Entered, IsPassSeat, Adds, first_or, blank, last_of, gpu_of}
+use Rattle.drm_gpu.specs.Passes.{Seeing, DeviceSeat, GpuState, GrowsTo, Knows, KnowsWith, Entered, EnteredWithTask, IsPassSeat, IsSameBut, Adds, first_or, blank, last_of, gpu_of}
 use Rattle.drm_gpu.proofs.Grown.{grows_itself, grows_trans}
 use Rattle.drm_gpu.proofs.Lists.{in_last}
 
@@ -22,49 +24,52 @@ pub still_busy : (d e : MarkedDevice) → e.marks ≡ d.marks → (t : Task) →
 still_busy d e same t busy = ap (λ ms. mark_of (record d { marks = ms }) t.ring) same ∙ busy
 
 -- what was seen last is in the list of what was seen
-pub saw : (spec : DeviceSpec) (p : MarkedDevice) (v : Seeing) → Knows spec p v → In p v.pivot.seen
+pub saw : {task : Option Task} (spec : DeviceSpec) (p : MarkedDevice) (v : Seeing) → KnowsWith task spec p v → In p v.pivot.seen
 saw spec p v k = subst (In p) (sym k.seen) (inl refl)
 
-pub last_is : (spec : DeviceSpec) (p : MarkedDevice) (v : Seeing) → Knows spec p v → last_of v ≡ p
+pub last_is : {task : Option Task} (spec : DeviceSpec) (p : MarkedDevice) (v : Seeing) → KnowsWith task spec p v → last_of v ≡ p
 last_is spec p v k = ap (λ ps. last_of (record v { pivot = record v.pivot { seen = ps } })) k.seen
 
 -- the caller is at another device, which grows from the one that it saw
-pub knows_entered : (spec : DeviceSpec) (d p : MarkedDevice) (v w : Seeing) → Knows spec d v → w.pivot.seen ≡ p ∷ [] → w.pivot.mine ≡ v.pivot.mine → w.task ≡ v.task → GrowsTo d p → Knows spec p w
+pub knows_entered : {before after : Option Task} (spec : DeviceSpec) (d p : MarkedDevice) (v w : Seeing) → KnowsWith before spec d v → w.pivot.seen ≡ p ∷ [] → w.pivot.mine ≡ v.pivot.mine → w.task ≡ after → GrowsTo d p
+    → KnowsWith after spec p w
 knows_entered spec d p v w k sees mine task up = record {
   seen = sees;
   described = up.spec ∙ k.described;
   chain = subst (IsChain GrowsTo) (sym mine) k.chain;
   lefts = λ c h. grows_trans c.1 d p (k.lefts c (subst (In c) mine h)) up;
-  no_task = task ∙ k.no_task;
+  waits = task;
 }
 
 -- the caller found p and left q
-pub knows_called : (spec : DeviceSpec) (p q : MarkedDevice) (v w : Seeing) → Knows spec p v → GrowsTo p q → w.pivot.seen ≡ q ∷ [] → w.pivot.mine ≡ v.pivot.mine ++ (p, q) ∷ [] → w.task ≡ v.task → Knows spec q w
+pub knows_called : {before after : Option Task} (spec : DeviceSpec) (p q : MarkedDevice) (v w : Seeing) → KnowsWith before spec p v → GrowsTo p q → w.pivot.seen ≡ q ∷ [] → w.pivot.mine ≡ v.pivot.mine ++ (p, q) ∷ [] → w.task ≡ after
+    → KnowsWith after spec q w
 knows_called spec p q v w k on sees mine task = record {
   seen = sees;
   described = on.spec ∙ k.described;
   chain = subst (IsChain GrowsTo) (sym mine) (chain_last v.pivot.mine (p, q) k.chain (λ c h. k.lefts c h));
   lefts = λ c h. ⊎_elim (λ t. grows_trans c.1 p q (k.lefts c t) on) (λ e. subst (λ (z : MarkedDevice × MarkedDevice). GrowsTo z.1 q) (sym e) (grows_itself q)) (in_last c (p, q) v.pivot.mine (subst (In c) mine h));
-  no_task = task ∙ k.no_task;
+  waits = task;
 }
 
 pub knows_right : (spec : DeviceSpec) (d : MarkedDevice) (v : Seeing) → Knows spec d v → Knows spec d (right_half v)
-knows_right spec d v k = record { seen = k.seen; described = k.described; chain = tt; lefts = λ c h. absurd h; no_task = refl }
+knows_right spec d v k = record { seen = k.seen; described = k.described; chain = tt; lefts = λ c h. absurd h; waits = refl }
 
 module _ (gpu : GpuState) (p q : MarkedDevice) where
-  same_found : (s : DeviceSeat) (r : MarkedDevice) → Entered gpu p s → (sees s).pivot.seen ≡ r ∷ [] → r ≡ p
+  same_found : {task : Option Task} (s : DeviceSeat) (r : MarkedDevice) → EnteredWithTask task gpu p s → (sees s).pivot.seen ≡ r ∷ [] → r ≡ p
   same_found s r k e = ap (first_or blank) (sym e ∙ k.knows.seen)
 
-  -- a caller that found p has brought q home
-  pub left : (s t : DeviceSeat) (r : MarkedDevice) → Entered gpu p s → GrowsTo p q → IsOutside gpu.home t → (sees s).pivot.seen ≡ r ∷ [] → sees t ≡ with_exit true Same r q [] (sees s)
-      → (IsPassSeat gpu t × (last_of (sees t) ≡ q)) × Adds p q (sees s) (sees t)
-  left s t r k on out e view =
+  -- a caller that found p has brought q home, and has no task now
+  pub left : {task : Option Task} (s t : DeviceSeat) (r : MarkedDevice) (change : TaskChange Task) → EnteredWithTask task gpu p s → GrowsTo p q → task_after change task ≡ None → IsOutside gpu.home t
+      → (sees s).pivot.seen ≡ r ∷ [] → sees t ≡ with_exit true change r q [] (sees s) → (IsPassSeat gpu t × (last_of (sees t) ≡ q)) × Adds p q (sees s) (sees t)
+  left s t r change k on turns out e view =
       let is : r ≡ p = same_found s r k e in
       let mine : (sees t).pivot.mine ≡ (sees s).pivot.mine ++ (p, q) ∷ [] =
       ap (λ (z : Seeing). z.pivot.mine) view ∙ (ap (λ b. calls_with (true && not b) (sees s).pivot.mine r q) k.fresh ∙ ap (λ n. (sees s).pivot.mine ++ (n, q) ∷ []) is) in
-      let knows : Knows gpu.spec q (sees t) = knows_called gpu.spec p q (sees s) (sees t) k.knows on (ap (λ (z : Seeing). z.pivot.seen) view) mine (ap (λ (z : Seeing). z.task) view) in
+      let knows : Knows gpu.spec q (sees t) = knows_called gpu.spec p q (sees s) (sees t) k.knows on (ap (λ (z : Seeing). z.pivot.seen) view) mine
+      (ap (λ (z : Seeing). z.task) view ∙ (ap (task_after change) k.knows.waits ∙ turns)) in
       let last : last_of (sees t) ≡ q = last_is gpu.spec q (sees t) knows in (
-        (record { idle = (out, knows.no_task); knows = subst (λ d. Knows gpu.spec d (sees t)) (sym last) knows }, last),
+        (record { idle = (out, knows.waits); knows = subst (λ d. Knows gpu.spec d (sees t)) (sym last) knows }, last),
         (mine, ap (λ (z : Seeing). z.looked) view, ap (λ (z : Seeing). z.lock.had) view, ap (λ (z : Seeing). z.lock.met) view, ap (λ (z : Seeing). z.part) view),
       )
 
@@ -76,9 +81,9 @@ module _ (gpu : GpuState) (p q : MarkedDevice) where
       let mine : (sees t).pivot.mine ≡ (sees s).pivot.mine ++ (p, q) ∷ [] =
       ap (λ (z : Seeing). z.pivot.mine) view ∙ (ap (λ (z : Seeing). calls_with (true && not z.pivot.posted) z.pivot.mine r' q) post ∙ ap (λ n. (sees s).pivot.mine ++ (n, q) ∷ []) is) in
       let knows : Knows gpu.spec q (sees t) = knows_called gpu.spec p q (sees s) (sees t) k.knows on (ap (λ (z : Seeing). z.pivot.seen) view) mine
-      (ap (λ (z : Seeing). z.task) view ∙ ap (λ (z : Seeing). z.task) post) in
+      (ap (λ (z : Seeing). z.task) view ∙ (ap (λ (z : Seeing). z.task) post ∙ k.knows.waits)) in
       let last : last_of (sees t) ≡ q = last_is gpu.spec q (sees t) knows in (
-        (record { idle = (out, knows.no_task); knows = subst (λ d. Knows gpu.spec d (sees t)) (sym last) knows }, last),
+        (record { idle = (out, knows.waits); knows = subst (λ d. Knows gpu.spec d (sees t)) (sym last) knows }, last),
         (
           mine,
           ap (λ (z : Seeing). z.looked) view ∙ ap (λ (z : Seeing). z.looked) post,
@@ -88,6 +93,15 @@ module _ (gpu : GpuState) (p q : MarkedDevice) where
         ),
       )
 
+-- a caller that found p has brought q home, owes xs and has made no call
+pub left_quietly : {before after : Option Task} (spec : DeviceSpec) (p q r : MarkedDevice) (xs : List (ℕ × WithRoom)) (v w : Seeing) (change : TaskChange Task) → KnowsWith before spec p v → GrowsTo p q
+    → task_after change before ≡ after → w ≡ with_exit false change r q xs v → (KnowsWith after spec q w × (last_of w ≡ q)) × IsSameBut v w
+left_quietly spec p q r xs v w change k on turns view =
+    let knows = knows_entered spec p q v w k (ap (λ (z : Seeing). z.pivot.seen) view) (ap (λ (z : Seeing). z.pivot.mine) view) (ap (λ (z : Seeing). z.task) view ∙ (ap (task_after change) k.waits ∙ turns)) on in (
+      (knows, last_is spec q w knows),
+      (ap (λ (z : Seeing). z.pivot.mine) view, ap (λ (z : Seeing). z.looked) view, ap (λ (z : Seeing). z.lock.had) view, ap (λ (z : Seeing). z.lock.met) view, ap (λ (z : Seeing). z.part) view),
+    )
+
 -- what two joined passes know
 pub knows_joined : (spec : DeviceSpec) (p q : MarkedDevice) (v u w : Seeing) → Knows spec p v → Knows spec q u → (j : IsJoined GrowsTo v u w) → Knows spec j.0 w
 knows_joined spec p q v u w k l j = record {
@@ -95,7 +109,7 @@ knows_joined spec p q v u w k l j = record {
   described = (j.6 p (saw spec p v k)).spec ∙ k.described;
   chain = subst (IsChain GrowsTo) (sym (ap (λ (z : Seeing). z.pivot.mine) j.2)) j.3;
   lefts = λ c h. j.5 c (subst (In c) (ap (λ (z : Seeing). z.pivot.mine) j.2) h);
-  no_task = ap (λ (z : Seeing). z.task) j.2 ∙ k.no_task;
+  waits = ap (λ (z : Seeing). z.task) j.2 ∙ k.waits;
 }
 
 pub seated_joined : (gpu : GpuState) (p q : MarkedDevice) (s : DeviceSeat) (v u : Seeing) → Knows gpu.spec p v → Knows gpu.spec q u → IsIdle gpu.home s → IsJoined GrowsTo v u (sees s) → IsPassSeat gpu s
@@ -111,7 +125,7 @@ knows_same spec d v w k pivot task =
       described = k.described;
       chain = subst (λ p. IsChain GrowsTo p.mine) (sym pivot) k.chain;
       lefts = λ c h. k.lefts c (subst (λ p. In c p.mine) pivot h);
-      no_task = task ∙ k.no_task;
+      waits = task ∙ k.waits;
     } in
     subst (λ e. Knows spec e w) (sym (last_is spec d w knows)) knows
 

@@ -85,7 +85,7 @@ left_view spec p q r xs v w k fresh on e view =
     let is : r ≡ p = ap (first_or blank) (sym e ∙ k.seen) in
     let mine : w.pivot.mine ≡ v.pivot.mine ++ (p, q) ∷ [] =
     ap (λ (z : Seeing). z.pivot.mine) view ∙ (ap (λ b. calls_with (true && not b) v.pivot.mine r q) fresh ∙ ap (λ n. v.pivot.mine ++ (n, q) ∷ []) is) in
-    let knows : Knows spec q w = knows_called spec p q v w k on (ap (λ (z : Seeing). z.pivot.seen) view) mine (ap (λ (z : Seeing). z.task) view) in
+    let knows : Knows spec q w = knows_called spec p q v w k on (ap (λ (z : Seeing). z.pivot.seen) view) mine (ap (λ (z : Seeing). z.task) view ∙ k.waits) in
     let last : last_of w ≡ q = last_is spec q w knows in
     ((subst (λ d. Knows spec d w) (sym last) knows, last), (mine, ap (λ (z : Seeing). z.looked) view, ap (λ (z : Seeing). z.lock.had) view, ap (λ (z : Seeing). z.lock.met) view, ap (λ (z : Seeing). z.part) view))
 
@@ -96,7 +96,7 @@ shown_view spec p q r r' xs ys v u w k on e post view =
     let is : r ≡ p = ap (first_or blank) (sym e ∙ k.seen) in
     let mine : w.pivot.mine ≡ v.pivot.mine ++ (p, q) ∷ [] =
     ap (λ (z : Seeing). z.pivot.mine) view ∙ (ap (λ (z : Seeing). calls_with (true && not z.pivot.posted) z.pivot.mine r' q) post ∙ ap (λ n. v.pivot.mine ++ (n, q) ∷ []) is) in
-    let knows : Knows spec q w = knows_called spec p q v w k on (ap (λ (z : Seeing). z.pivot.seen) view) mine (ap (λ (z : Seeing). z.task) view ∙ ap (λ (z : Seeing). z.task) post) in
+    let knows : Knows spec q w = knows_called spec p q v w k on (ap (λ (z : Seeing). z.pivot.seen) view) mine (ap (λ (z : Seeing). z.task) view ∙ (ap (λ (z : Seeing). z.task) post ∙ k.waits)) in
     let last : last_of w ≡ q = last_is spec q w knows in (
       (subst (λ d. Knows spec d w) (sym last) knows, last),
       (
@@ -141,7 +141,7 @@ released gpu b a a' k h v e = record {
 
 -- a caller that holds nothing has given its ticket up
 pub ended : (gpu : GpuState) (a : DeviceAcquire) (s : DeviceSeat) → Holding gpu a → s.place ≡ a.place → IsOutside gpu.home s → IsPassSeat gpu s
-ended gpu a s k e out = record { idle = (out, ap (λ p. p.me.0.task) e ∙ k.knows.no_task); knows = subst (λ v. Knows gpu.spec (last_of v) v) (sym (ap (λ p. p.me.0) e)) k.knows }
+ended gpu a s k e out = record { idle = (out, ap (λ p. p.me.0.task) e ∙ k.knows.waits); knows = subst (λ v. Knows gpu.spec (last_of v) v) (sym (ap (λ p. p.me.0) e)) k.knows }
 
 -- what is given back one by one is given back with its room or without
 pub kept_without : (b : ℕ) (xs : List (ℕ × WithRoom)) → kept_of (without b xs) ≡ without b (kept_of xs)

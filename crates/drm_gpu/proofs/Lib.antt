@@ -1,6 +1,7 @@
 pub mod Lists
 pub mod Grown
 pub mod Chains
+pub mod Packets
 pub mod Covering
 pub mod Called
 pub mod Holders
@@ -10,3 +11,4 @@ pub mod Read
 pub mod Statuses
 pub mod Built
 pub mod Looking
+pub mod Left

@@ -1,18 +1,19 @@
 -- What a readback tells.
-use Rattle.std.proofs.Common.{◌≡◌, ℕ, List, [], length, get_or, false, true, refl, sym, ap, ◌∙◌, Some, None, Option, Result, Ok, Err, Bool}
+use Rattle.std.proofs.Common.{◌≡◌, ℕ, List, [], length, get_or, false, refl, sym, ap, ◌∙◌, Some, None, Option, Result, Ok, Err}
 use Rattle.std.specs.Prelude.{OnOk, IfErr, option_map}
 use Rattle.std.proofs.Math.ListN.{get_or-map}
 use Rattle.std.proofs.lemmas.List.{length-map}
 use Rattle.drm_buffer.specs.Memory.{bytes_of, sizes_of}
 use Rattle.drm_resv.specs.Reservation.{Reservation}
 use Rattle.drm_sched.specs.declared.answer.Refusal.{Refusal}
-use Rattle.drm_sched.specs.declared.answer.Refusal.TheVariants.{PacketOut, Busy}
+use Rattle.drm_sched.specs.declared.answer.Refusal.TheVariants.{Busy}
 use Rattle.drm_sched.specs.Begun.{out_or}
 use Rattle.drm_sched.specs.Writers.{HaveEnded}
 use Rattle.drm_sched.specs.Marks.{MarkedDevice, is_out}
 use Rattle.drm_sched.specs.Refusals.{busy_fence}
 use Rattle.ww_lock.specs.Rule.{In}
 use Rattle.drm_gpu.specs.Reading.{ReadingState, ReadIs}
+use Rattle.drm_gpu.proofs.Packets.{not_out}
 
 -- the size of a buffer by the sizes of all
 pub size_by_sizes : (memory other : List (List ℕ)) (buffer : ℕ) → sizes_of memory ≡ sizes_of other → length (bytes_of memory buffer) ≡ length (bytes_of other buffer)
@@ -22,15 +23,14 @@ size_by_sizes memory other buffer same =
 pub count_by_sizes : (memory other : List (List ℕ)) → sizes_of memory ≡ sizes_of other → length memory ≡ length other
 count_by_sizes memory other same = sym (length-map memory length) ∙ (ap length same ∙ length-map other length)
 
-module _ (s : ReadingState) (x : Reservation) (has : In (s.buffer, x) s.held) (old new : List ℕ) (d : MarkedDevice) where
-  refused : (out : Bool) (busy : Option ℕ) (r : Refusal) → is_out d s.buffer ≡ out → busy_fence d.state.journal x ≡ busy → out_or out (option_map Busy busy) ≡ Some r → new ≡ old
-      → (is_out d s.buffer ≡ false → HaveEnded s.buffer d.state.journal → ⊥) → ReadIs s (Err r) old new d d
-  refused true busy PacketOut is at why same going = (is, same, refl)
-  refused false (Some f) (Busy g) is at why same going = let e : f ≡ g = cc (why) in (is, going is, (x, has, at ∙ ap Some e), same, refl)
-  refused out busy r is at why same going = absurd (cc (why))
+module _ (s : ReadingState) (x : Reservation) (has : In (s.buffer, x) s.held) (old new : List ℕ) (d : MarkedDevice) (free : is_out d s.buffer ≡ false) where
+  refused : (busy : Option ℕ) (r : Refusal) → busy_fence d.state.journal x ≡ busy → option_map Busy busy ≡ Some r → new ≡ old → (HaveEnded s.buffer d.state.journal → ⊥) → ReadIs s (Err r) old new d d
+  refused (Some f) (Busy g) at why same going = let e : f ≡ g = cc (why) in (free, going, (x, has, at ∙ ap Some e), same, refl)
+  refused busy r at why same going = absurd (cc (why))
 
   pub read_is : (r : Result (Unit {0}) Refusal) → OnOk r ((is_out d s.buffer ≡ false) × (busy_fence d.state.journal x ≡ None) × (new ≡ bytes_of d.state.memory s.buffer)) → OnOk r (HaveEnded s.buffer d.state.journal)
       → IfErr r (λ r. (out_or (is_out d s.buffer) (option_map Busy (busy_fence d.state.journal x)) ≡ Some r) × (new ≡ old))
       → IfErr r (λ r. is_out d s.buffer ≡ false → HaveEnded s.buffer d.state.journal → ⊥) → ReadIs s r old new d d
   read_is (Ok u) read writers busy writing = (read.0, writers, read.2, refl)
-  read_is (Err r) read writers busy writing = refused (is_out d s.buffer) (busy_fence d.state.journal x) r refl refl busy.0 busy.1 writing
+  read_is (Err r) read writers busy writing =
+      refused (busy_fence d.state.journal x) r refl (not_out (is_out d s.buffer) (option_map Busy (busy_fence d.state.journal x)) (Some r) free busy.0) busy.1 (writing free)

@@ -6,3 +6,4 @@ pub mod Status
 pub mod Closing
 pub mod Begun
 pub mod Reading
+pub mod Running

@@ -1,9 +1,9 @@
 -- A device that is shared, its passes, and what a call with one says.
-use Rattle.std.specs.Prelude.{◌≡◌, ℕ, false, List, [], ◌∷◌, ◌++◌, None, IsPermutation}
+use Rattle.std.specs.Prelude.{◌≡◌, ℕ, false, List, [], ◌∷◌, ◌++◌, Option, Some, None, IsPermutation}
 use Rattle.atomic_table.specs.Seated.{TableId}
 use Rattle.ww_lock.specs.declared.board.View.{View}
 use Rattle.ww_lock.specs.declared.lifetime.Seat.{Seat}
-use Rattle.ww_lock.specs.Begun.{IsIdle, IsInside, sees}
+use Rattle.ww_lock.specs.Begun.{IsIdle, IsOutside, IsInside, sees}
 use Rattle.ww_lock.specs.Fences.{NotBack}
 use Rattle.ww_lock.specs.Rule.{In}
 use Rattle.ww_lock.specs.Steps.{IsChain}
@@ -81,13 +81,17 @@ pass_of home v = record {
 abbrev pub first_pass : GpuState → PassState
 first_pass gpu = record { gpu = gpu; last = unmarked (opened_device gpu.spec); calls = []; looked = []; had = []; met = []; part = 0 ∷ [] }
 
--- one device of this description was seen last. The calls are a chain, and what each left grows to what was seen
-pub record Knows (spec : DeviceSpec) (last : MarkedDevice) (v : Seeing) : Type 0 where
+-- one device of this description was seen last. The calls are a chain, what each left grows to what was seen, and this task is the seat's
+pub record KnowsWith (task : Option Task) (spec : DeviceSpec) (last : MarkedDevice) (v : Seeing) : Type 0 where
   pub seen : v.pivot.seen ≡ last ∷ []
   pub described : last.state.spec ≡ spec
   pub chain : IsChain GrowsTo v.pivot.mine
   pub lefts : (c : MarkedDevice × MarkedDevice) → In c v.pivot.mine → GrowsTo c.1 last
-  pub no_task : v.task ≡ None
+  pub waits : v.task ≡ task
+
+-- the same of a seat that has no task
+abbrev pub Knows : DeviceSpec → MarkedDevice → Seeing → Type 0
+Knows = KnowsWith None
 
 -- a seat of the device that is outside, holds nothing and waits for no task
 pub record Seated (gpu : GpuState) (last : MarkedDevice) (s : DeviceSeat) : Type 0 where
@@ -97,11 +101,19 @@ pub record Seated (gpu : GpuState) (last : MarkedDevice) (s : DeviceSeat) : Type
 abbrev pub IsPassSeat : GpuState → DeviceSeat → Type 0
 IsPassSeat gpu s = Seated gpu (last_of (sees s)) s
 
+-- a seat of the device that is outside, holds nothing and has this packet out
+pub record SeatedWith (task : Task) (gpu : GpuState) (last : MarkedDevice) (s : DeviceSeat) : Type 0 where
+  pub outside : IsOutside gpu.home s
+  pub knows : KnowsWith (Some task) gpu.spec last (sees s)
+
 -- one that has entered and found this device
-pub record Entered (gpu : GpuState) (found : MarkedDevice) (s : DeviceSeat) : Type 0 where
+pub record EnteredWithTask (task : Option Task) (gpu : GpuState) (found : MarkedDevice) (s : DeviceSeat) : Type 0 where
   pub inside : IsInside gpu.home s
-  pub knows : Knows gpu.spec found (sees s)
+  pub knows : KnowsWith task gpu.spec found (sees s)
   pub fresh : (sees s).pivot.posted ≡ false
+
+abbrev pub Entered : GpuState → MarkedDevice → DeviceSeat → Type 0
+Entered = EnteredWithTask None
 
 -- only what was seen last has changed
 abbrev pub IsSameBut : Seeing → Seeing → Type 0
@@ -130,6 +142,14 @@ pub record Calls (does : MarkedDevice → MarkedDevice → Type 0) (old new : Pa
   pub onward : GrowsTo found new.last
   pub gpu : new.gpu ≡ old.gpu
   pub pass : new ≡ record old { last = new.last; calls = old.calls ++ (found, new.last) ∷ [] }
+
+-- the same of a seat that saw v and sees w
+pub record CallsAs (does : MarkedDevice → MarkedDevice → Type 0) (v w : Seeing) : Type 0 where
+  pub found : MarkedDevice
+  pub is_found : IsFound found v
+  pub event : does found (last_of w)
+  pub onward : GrowsTo found (last_of w)
+  pub adds : Adds found (last_of w) v w
 
 -- a pass of two: it saw the later of what they saw, its calls are those of both, each as often, in one order, and it has all that
 -- they looked at, claimed and met

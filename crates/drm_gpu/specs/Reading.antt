@@ -1,9 +1,9 @@
 -- A readback.
-use Rattle.std.specs.Prelude.{◌≡◌, ℕ, List, true, false, Some, Result, Ok, Err}
+use Rattle.std.specs.Prelude.{◌≡◌, ℕ, List, false, Some, Result, Ok, Err}
 use Rattle.drm_buffer.specs.Memory.{bytes_of}
 use Rattle.drm_resv.specs.Reservation.{Reservation}
 use Rattle.drm_sched.specs.declared.answer.Refusal.{Refusal}
-use Rattle.drm_sched.specs.declared.answer.Refusal.TheVariants.{PacketOut, Busy}
+use Rattle.drm_sched.specs.declared.answer.Refusal.TheVariants.{Busy}
 use Rattle.drm_sched.specs.Writers.{HaveEnded}
 use Rattle.drm_sched.specs.Marks.{MarkedDevice, is_out}
 use Rattle.drm_sched.specs.Refusals.{busy_fence}
@@ -17,10 +17,9 @@ pub record ReadingState : Type 0 where
   pub held : List (ℕ × Reservation)
 
 -- what a readback answers and writes, where it found this device: the buffer's bytes once all armed writers have ended. It is
--- refused where the buffer is out with a packet, and else by the least fence of a writer that has no outcome
+-- refused by the least fence of a writer that has no outcome
 abbrev pub ReadIs : ReadingState → Result (Unit {0}) Refusal → List ℕ → List ℕ → MarkedDevice → MarkedDevice → Type 0
 ReadIs s (Ok u) old new d e = (is_out d s.buffer ≡ false) × HaveEnded s.buffer d.state.journal × (new ≡ bytes_of d.state.memory s.buffer) × (e ≡ d)
-ReadIs s (Err PacketOut) old new d e = (is_out d s.buffer ≡ true) × (new ≡ old) × (e ≡ d)
 ReadIs s (Err (Busy f)) old new d e =
     (is_out d s.buffer ≡ false) × (HaveEnded s.buffer d.state.journal → ⊥)
     × ((x : Reservation) × In (s.buffer, x) s.held × (busy_fence d.state.journal x ≡ Some f)) × (new ≡ old) × (e ≡ d)

@@ -5,11 +5,12 @@ ghost use Rattle.drm_fence.specs.declared.phase.Phase.TheVariants.{Ended};
 ghost use Rattle.drm_sched.specs.Keeps.{word_of};
 ghost use Rattle.drm_gpu.specs.Passes.{Calls, word_shown};
 ghost use Rattle.drm_gpu.specs.Status.{AnswersStatus, LooksAt, TellsStatus};
-ghost use Rattle.drm_gpu.specs.Answers.{PickIs, StepIs, FinishIs, TimeoutIs, CancelIs, ReapIs, CountsAre};
+ghost use Rattle.drm_gpu.specs.Answers.{PickIs, FinishIs, TimeoutIs, CancelIs, ReapIs, CountsAre};
 
 use crate::gpu::Gpu;
 use crate::pass::{NoFence, Pass};
-use drm_sched::{Expired, Finished, Picked, Refusal, Stepped};
+use crate::waiting::Needs;
+use drm_sched::{Expired, Finished, Picked, Refusal};
 use drm_types::{EntityId, FenceId, Moment, Outcome, RingId};
 use std::snapshot::Snapshot;
 use std::sync::Wait;
@@ -58,24 +59,11 @@ impl Gpu {
         answer
     }
 
-    /// Runs one packet of the first pending job of the ring that has some left.
+    /// Ends the head of the ring, which is complete (`drm_sched_job_done`). It waits while the ring has a packet out.
     ///
     /// # Errors
     ///
-    /// Those of the device's `step`. Then nothing has changed.
-    pub fn step<R: Wait>(&self, pass: &mut Pass, ring: RingId, rt: &R) -> Result<Stepped, Refusal>
-        requires pass { pass.old.gpu ≡ self.now }
-        requires ring { ring < length self.now.spec.rings }
-        ensures call { Calls (StepIs ring result) pass.old pass.new }
-    {
-        let mut device = self.enter(&mut pass.seat, rt);
-        let found = Snapshot::of(&device);
-        let answer = device.step(ring);
-        self.leave(&mut pass.seat, device, &found);
-        answer
-    }
-
-    /// Ends the head of the ring, which is complete (`drm_sched_job_done`).
+    /// `Idle` where nothing is pending, or `NotComplete`.
     pub fn finish<R: Wait>(
         &self,
         pass: &mut Pass,
@@ -87,7 +75,7 @@ impl Gpu {
         requires ring { ring < length self.now.spec.rings }
         ensures call { Calls (FinishIs ring now result) pass.old pass.new }
     {
-        let mut device = self.enter(&mut pass.seat, rt);
+        let mut device = self.enter_for(&mut pass.seat, &Needs::Ring(ring), rt);
         let found = Snapshot::of(&device);
         match device.finish(ring, now) {
             Ok(done) => {
@@ -102,21 +90,17 @@ impl Gpu {
         }
     }
 
-    /// Looks at the head of the ring after a time (`drm_sched_job_timedout`).
-    pub fn timeout<R: Wait>(
-        &self,
-        pass: &mut Pass,
-        ring: RingId,
-        now: Moment,
-        rt: &R,
-    ) -> Result<Expired, Refusal>
+    /// Looks at the head of the ring after a time (`drm_sched_job_timedout`). It waits while the ring has a packet out.
+    pub fn timeout<R: Wait>(&self, pass: &mut Pass, ring: RingId, now: Moment, rt: &R) -> Expired
         requires pass { pass.old.gpu ≡ self.now }
         requires ring { ring < length self.now.spec.rings }
         ensures call { Calls (TimeoutIs ring now result) pass.old pass.new }
     {
-        let mut device = self.enter(&mut pass.seat, rt);
+        let mut device = self.enter_for(&mut pass.seat, &Needs::Ring(ring), rt);
         let found = Snapshot::of(&device);
-        let answer = device.timeout(ring, now);
+        let Ok(answer) = device.timeout(ring, now) else {
+            unreachable!()
+        };
         self.leave(&mut pass.seat, device, &found);
         answer
     }

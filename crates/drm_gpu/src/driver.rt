@@ -13,14 +13,13 @@ use std::snapshot::Snapshot;
 use ww_lock::Ward;
 
 /// A packet that a ring has out, which its caller runs beside the device: what the device waits for while nobody has it.
-/// No value of it is made.
 #[derive(Drop)]
 pub struct Task {
-    ring: RingId,
-    fence: FenceId,
-    packet: u32,
-    write: Snapshot<Option<Buffer>>,
-    read: Snapshot<Option<Buffer>>,
+    pub(crate) ring: RingId,
+    pub(crate) fence: FenceId,
+    pub(crate) packet: u32,
+    pub(crate) write: Snapshot<Option<Buffer>>,
+    pub(crate) read: Snapshot<Option<Buffer>>,
 }
 
 impl Model for Task {

@@ -1,7 +1,8 @@
 //! How the shared device is made and taken apart, and how its passes are split and joined.
-ghost use Rattle.std.specs.Prelude.{◌≡◌, [], map, replicate, None, IfOk, IfErr};
+ghost use Rattle.std.specs.Prelude.{◌≡◌, ℕ, false, [], map, replicate, None, IfOk, IfErr};
 ghost use Rattle.drm_types.specs.Limits.{spec_fault};
 ghost use Rattle.drm_sched.specs.Building.{RefusesToBuild};
+ghost use Rattle.drm_sched.specs.Marks.{is_out};
 ghost use Rattle.ww_lock.specs.Parts.{halved};
 ghost use Rattle.drm_gpu.specs.Closing.{Leaves, GivesBack};
 ghost use Rattle.drm_gpu.specs.Passes.{IsJoinedOf, first_pass};
@@ -11,7 +12,7 @@ use crate::pass::Pass;
 use drm_buffer::Store;
 use drm_resv::Resv;
 use drm_sched::{BuildError, Device, JobRecord};
-use drm_types::{DeviceSpec, Sequence};
+use drm_types::{DeviceSpec, RingId, Sequence};
 use std::alloc::{AllocError, Global};
 use std::marker::Model;
 use ww_lock::{Board, Inside};
@@ -53,7 +54,7 @@ pub struct Closed {
 pub enum CloseError {
     /// Memory was refused. Both come back as they were.
     Memory(Gpu, Pass),
-    /// Somebody had the device out.
+    /// Somebody had the device out, or a packet that was not reported.
     Inside,
 }
 
@@ -66,6 +67,22 @@ fn new_reservations(alloc: Global, count: usize) -> Result<Vec<Resv>, AllocError
         rows.push(Resv::new(alloc))?;
     }
     Ok(rows)
+}
+
+// Whether a packet is out.
+fn has_packet_out(device: &Device) -> bool
+    ensures { result ≡ false → (b : ℕ) → is_out device.now b ≡ false }
+{
+    device.facts();
+    let count = device.spec().rings.len();
+    let mut ring: RingId = 0;
+    while (ring as usize) < count {
+        if device.has_packet_out(ring) {
+            return true;
+        }
+        ring += 1;
+    }
+    false
 }
 
 impl Gpu {
@@ -118,7 +135,8 @@ impl Gpu {
     ///
     /// # Errors
     ///
-    /// Where memory for the list of reservations is refused, or somebody has the device out.
+    /// Where memory for the list of reservations is refused, or somebody has the device out or a packet that was not
+    /// reported.
     pub fn close(self, alloc: Global, pass: Pass) -> Result<Closed, CloseError>
         requires { pass.gpu ≡ self }
         ensures closed { IfOk result (Leaves pass) }
@@ -133,6 +151,10 @@ impl Gpu {
             Ok(device) => device,
             Err(Inside) => return Err(CloseError::Inside),
         };
+        if has_packet_out(&device) {
+            return Err(CloseError::Inside);
+        }
+        device.facts();
         let left = device.close();
         Ok(Closed {
             spec: left.spec,

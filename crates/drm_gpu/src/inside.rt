@@ -1,12 +1,15 @@
 //! How a caller takes the device and brings it home.
-ghost use Rattle.std.specs.Prelude.{◌≡◌};
+ghost use Rattle.std.specs.Prelude.{◌≡◌, Some, None};
 ghost use Rattle.ww_lock.specs.Acquiring.{view};
 ghost use Rattle.ww_lock.specs.Begun.{sees};
 ghost use Rattle.drm_sched.specs.Held.{kept_of};
 ghost use Rattle.drm_sched.specs.Keeps.{Keeps, KeepsBut};
-ghost use Rattle.drm_gpu.specs.Passes.{IsPassSeat, Entered, IsFound, IsGood, GrowsTo, IsSameBut, Adds, last_of};
+ghost use Rattle.drm_sched.specs.Begun.{KeepsTasks};
+ghost use Rattle.drm_sched.specs.Marks.{IsBusy, mark_of};
+ghost use Rattle.drm_gpu.specs.Passes.{IsPassSeat, Entered, EnteredWithTask, SeatedWith, IsFound, IsGood, GrowsTo, IsSameBut, Adds, last_of};
 ghost use Rattle.drm_gpu.specs.Submissions.{Holding, EnteredWith, Fitting, IsSameHolder, KeepsOthers};
 
+use crate::driver::Task;
 use crate::gpu::Gpu;
 use crate::locking::DeviceAcquire;
 use crate::pass::DeviceSeat;
@@ -38,6 +41,76 @@ impl Gpu {
         ensures call { Adds found.now.value device (sees seat.old) (sees seat.new) }
     {
         self.board.leave(seat, device, &TaskChange::Same, true);
+    }
+
+    // Brings the device home as it was found, after which the caller has made no call.
+    pub(crate) fn leave_as_found(
+        &self,
+        seat: &mut DeviceSeat,
+        device: Device,
+        found: &Snapshot<Device>,
+    )
+        requires entered { Entered self.now found.now.value seat.old }
+        requires good { IsGood device }
+        requires same { device ≡ found.now.value }
+        ensures seat { IsPassSeat self.now seat.new × (last_of (sees seat.new) ≡ device) }
+        ensures same { IsSameBut (sees seat.old) (sees seat.new) }
+    {
+        self.board.leave(seat, device, &TaskChange::Same, false);
+    }
+
+    // Brings the device home without a packet that the caller has.
+    pub(crate) fn leave_sent(
+        &self,
+        seat: &mut DeviceSeat,
+        device: Device,
+        found: &Snapshot<Device>,
+        task: Task,
+    )
+        requires entered { Entered self.now found.now.value seat.old }
+        requires good { IsGood device }
+        requires state { device.state ≡ found.now.value.state }
+        requires free { mark_of found.now.value task.ring ≡ None }
+        requires busy { IsBusy device task }
+        requires tasks { KeepsTasks found.now.value task.ring device }
+        ensures seat { SeatedWith task self.now device seat.new × (last_of (sees seat.new) ≡ device) }
+        ensures same { IsSameBut (sees seat.old) (sees seat.new) }
+    {
+        self.board
+            .leave(seat, device, &TaskChange::Begins(task), false);
+    }
+
+    // `enter` for a caller that has a packet out, for which the device waits.
+    pub(crate) fn enter_again<R: Wait>(&self, seat: &mut DeviceSeat, task: &Task, rt: &R) -> Device
+        requires { SeatedWith task.now self.now (last_of (sees seat.old)) seat.old }
+        ensures entered { EnteredWithTask (Some task.now) self.now result seat.new }
+        ensures found { IsFound result (sees seat.old) }
+        ensures busy { IsBusy result task.now }
+        ensures same { IsSameBut (sees seat.old) (sees seat.new) }
+    {
+        let _waiting = task;
+        self.board.enter(seat, rt)
+    }
+
+    // Brings the device home with the packet that the caller had out.
+    pub(crate) fn leave_reported(
+        &self,
+        seat: &mut DeviceSeat,
+        device: Device,
+        found: &Snapshot<Device>,
+        task: &Task,
+    )
+        requires entered { EnteredWithTask (Some task.now) self.now found.now.value seat.old }
+        requires good { IsGood device }
+        requires onward { GrowsTo found.now.value device }
+        requires keeps { Keeps found.now.value.state device.state }
+        requires busy { IsBusy found.now.value task.now }
+        requires tasks { KeepsTasks found.now.value task.now.ring device }
+        ensures seat { IsPassSeat self.now seat.new × (last_of (sees seat.new) ≡ device) }
+        ensures call { Adds found.now.value device (sees seat.old) (sees seat.new) }
+    {
+        let _waiting = task;
+        self.board.leave(seat, device, &TaskChange::Ends, true);
     }
 
     // Shows a fence, and then brings the device home.
@@ -91,6 +164,24 @@ impl Gpu {
     {
         self.board
             .leave_with(acquire, device, &TaskChange::Same, true);
+    }
+
+    // `leave_as_found` for a caller that holds values, which fit the device.
+    pub(crate) fn leave_as_found_with(
+        &self,
+        acquire: &mut DeviceAcquire,
+        device: Device,
+        found: &Snapshot<Device>,
+    )
+        requires entered { EnteredWith self.now found.now.value acquire.old }
+        requires good { IsGood device }
+        requires same { device ≡ found.now.value }
+        requires fit { Fitting device (kept_of acquire.old.held.items) }
+        ensures holding { Holding self.now acquire.new × (last_of (view acquire.new) ≡ device) }
+        ensures same { IsSameHolder acquire.old acquire.new × IsSameBut (view acquire.old) (view acquire.new) }
+    {
+        self.board
+            .leave_with(acquire, device, &TaskChange::Same, false);
     }
 
     // `show_and_leave` for a caller that holds values, which fit the device.

@@ -13,11 +13,14 @@ mod inside;
 mod locking;
 mod pass;
 mod reading;
+mod running;
 mod submission;
+mod waiting;
 
 pub use driver::{Driver, Task};
 pub use gpu::{CloseError, Closed, Gpu};
 pub use locking::{BeginError, BeginReadError, Locked, Locking};
 pub use pass::{NoFence, Pass};
 pub use reading::Reading;
+pub use running::{Running, StartError};
 pub use submission::{Armed, Planned};

@@ -7,6 +7,7 @@ ghost use Rattle.drm_gpu.specs.Reading.{ReadIs};
 use crate::gpu::Gpu;
 use crate::locking::{DeviceAcquire, give_up};
 use crate::pass::Pass;
+use crate::waiting::Needs;
 use drm_sched::Refusal;
 use drm_types::BufferId;
 use std::marker::Model;
@@ -38,19 +39,19 @@ impl<'g> Model for Reading<'g> {
 }
 
 impl<'g> Reading<'g> {
-    /// Copies the buffer's bytes, once every armed job that writes it has ended (`dma_resv_test_signaled`).
+    /// Copies the buffer's bytes, once every armed job that writes it has ended (`dma_resv_test_signaled`). It waits while
+    /// the buffer is out with a packet.
     ///
     /// # Errors
     ///
-    /// `PacketOut` where the buffer is out with a packet, else `Busy`, with the least fence of its writers that has no
-    /// outcome. Then nothing is copied.
+    /// `Busy`, with the least fence of the buffer's writers that has no outcome. Then nothing is copied.
     pub fn read_into<R: Wait>(&mut self, out: &mut [u8], rt: &R) -> Result<(), Refusal>
         requires { length out.old ≡ length (bytes_of self.old.pass.gpu.spec.buffers self.old.buffer) }
         ensures call { Calls (ReadIs self.old result out.old out.new) self.old.pass self.new.pass }
         ensures same { self.new ≡ record self.old { pass = self.new.pass } }
     {
         let gpu = self.gpu;
-        let device = gpu.enter_with(&mut self.acquire, rt);
+        let device = gpu.enter_for_with(&mut self.acquire, &Needs::Buffer(self.buffer), rt);
         let found = Snapshot::of(&device);
         device.facts();
         let answer = device.read_into(self.buffer, &self.acquire.held()[0].1, out);

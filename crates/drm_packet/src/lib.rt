@@ -16,7 +16,7 @@ mod run;
 
 pub use buffers::Buffers;
 use drm_types::BufferId;
-pub use laws::{apart_packets_commute, parts_make_the_effect};
+pub use laws::{apart_packets_commute, packets_fit_their_parts, parts_make_the_effect};
 
 /// One packet of a job. Offsets and lengths count bytes; a range that is empty or leaves its buffer makes the
 /// packet one of no job.

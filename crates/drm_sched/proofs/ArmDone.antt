@@ -42,8 +42,13 @@ use Rattle.drm_sched.proofs.ArmLawful.{arm_steady, get_before_push}
 use Rattle.drm_sched.proofs.DeviceSteps.{not_when}
 use Rattle.drm_sched.proofs.TableFacts.{entity_row_there}
 use Rattle.drm_sched.proofs.Queues.{marks_pushed, stands_pushed}
-use Rattle.drm_sched.proofs.Records.{stands_within}
+use Rattle.drm_sched.proofs.Records.{stands_within, at_test}
 use Rattle.drm_sched.proofs.Notes.{Reaches, each_keeps, each_reaches, each_all}
+use Rattle.drm_sched.specs.Rows.{is_open}
+use Rattle.drm_sched.proofs.RowsKept.{rows_same}
+use Rattle.drm_sched.specs.Journal.{is_complete}
+use Rattle.drm_sched.proofs.Growth.{arm_grows}
+use Rattle.drm_sched.specs.Grows.{Grows}
 
 -- an entity of a job is below 64
 pub few_entities : (spec : DeviceSpec) (job : Draft) → spec_fault spec ≡ None → IsJob spec job → (job.entity < length spec.entities) × (job.entity < 64)
@@ -229,6 +234,10 @@ arm_done t job deps ring journal waits fences entities loads w is_job cover may 
             (loads_armed t.spec t.journal.items new t.loads loads w.loads refl (arming_ring_there t job.entity w (few_entities t.spec job w.limits is_job).0)
             (subst (λ k. (n : ℕ) → slice_get t.loads.live.items k ≡ Some n → loads.live.items ≡ set t.loads.live.items k (n + 1)) ring_is live) last ended_same
             (few_entities t.spec job w.limits is_job).0);
+        rows = rows_same t t.rings.items (state_of (armed_tables t journal waits fences entities loads)) w
+            (subst (Grows d) (sym state) (arm_grows d job)) refl (λ f r at scheduled.
+            ap (λ js. is_open js f) items_are ∙ (at_test (t.journal.items ++ new ∷ []) f r (λ z. not (is_complete z)) (get_before_push t.journal.items new f r at)
+            ∙ sym (at_test t.journal.items f r (λ z. not (is_complete z)) at)));
         sizes = w.sizes;
         rooms = record {
           jobs = subst (λ n. t.spec.max_jobs ≤ n) (sym room) w.rooms.jobs;

@@ -1,6 +1,6 @@
 -- Lists of blank rows, and the tables that are made of them.
 use Rattle.std.proofs.Common.{◌≡◌, ℕ, zero, suc, ◌+◌, ◌≤◌, false, List, [], ◌∷◌, ◌++◌, map, length, replicate, None, refl, sym, ap, subst, ◌∙◌, inl, inr, arith, slice_get}
-use Rattle.std.specs.Prelude.{vec_capacity}
+use Rattle.std.specs.Prelude.{sum_by}
 use Rattle.std.specs.Option.{option_map_or}
 use Rattle.std.proofs.lemmas.List.{map-append, replicate_more}
 use Rattle.drm_types.specs.Limits.{spec_fault}
@@ -16,11 +16,15 @@ use Rattle.drm_sched.specs.State.{DeviceState, opened_device}
 use Rattle.drm_sched.specs.Steady.{IsSteady}
 use Rattle.drm_sched.specs.Plain.{marks_of, marks, WaitsStand, QueuesStand}
 use Rattle.drm_sched.specs.Loads.{LoadsOf}
+use Rattle.drm_sched.specs.Rows.{is_open, passed_of, RowsStand}
 use Rattle.drm_sched.specs.Tables.{state_of, ring_state_of, fence_state_of, HasRooms, IsWhole}
-use Rattle.drm_sched.specs.Building.{HaveRoomFor}
+use Rattle.drm_sched.specs.Building.{HaveRoomFor, AreBlank}
 use Rattle.drm_sched.proofs.LoadsKept.{loads_blank}
 use Rattle.drm_sched.proofs.Opening.{opened_steady}
 use Rattle.drm_sched.proofs.PickLawful.{get_push_cases}
+use Rattle.std.specs.VecDeque.{deque_capacity}
+use Rattle.drm_ring.specs.Counted.{Counted}
+use Rattle.drm_sched.specs.Ring.{credit_limit_of, credits_of}
 
 -- the same for each element
 pub map_to_same : {X Y : Type 0} (y : Y) (xs : List X) → map (λ x. y) xs ≡ replicate (length xs) y
@@ -36,14 +40,37 @@ pub map_push_same : {X Y : Type 0} (f : X → Y) (xs : List X) (x : X) (n : ℕ)
 map_push_same f xs x n y so_far is = map-append f xs (x ∷ []) ∙ (ap (λ ys. ys ++ f x ∷ []) so_far ∙ (ap (λ z. replicate n y ++ z ∷ []) is ∙ replicate_more n y))
 
 pub room_push : (specs : List RingSpec) (rows : List RingJobs) (row : RingJobs) → HaveRoomFor specs rows
-    → option_map_or (λ (s : RingSpec). s.credit_limit) (slice_get specs (length rows)) 0 ≤ vec_capacity row.pending → HaveRoomFor specs (rows ++ row ∷ [])
+    → option_map_or (λ (s : RingSpec). s.credit_limit) (slice_get specs (length rows)) 0 ≤ deque_capacity row.pending → HaveRoomFor specs (rows ++ row ∷ [])
 room_push specs rows row have room k found is =
     elim (get_push_cases rows row k found is) [
       | inl old ↦ have k found old
       | inr new ↦
-          subst (λ n. option_map_or (λ (s : RingSpec). s.credit_limit) (slice_get specs n) 0 ≤ vec_capacity found.pending) (sym new.0)
-          (subst (λ (r : RingJobs). option_map_or (λ (s : RingSpec). s.credit_limit) (slice_get specs (length rows)) 0 ≤ vec_capacity r.pending) (sym new.1) room)
+          subst (λ n. option_map_or (λ (s : RingSpec). s.credit_limit) (slice_get specs n) 0 ≤ deque_capacity found.pending) (sym new.0)
+          (subst (λ (r : RingJobs). option_map_or (λ (s : RingSpec). s.credit_limit) (slice_get specs (length rows)) 0 ≤ deque_capacity r.pending) (sym new.1) room)
     ]
+
+-- one blank row more
+pub blank_push : (specs : List RingSpec) (rows : List RingJobs) (row : RingJobs) → AreBlank specs rows → row.pending.items ≡ [] → row.passed ≡ 0
+    → row.credits ≡ record { limit = option_map_or (λ (s : RingSpec). s.credit_limit) (slice_get specs (length rows)) 0; count = 0 } → AreBlank specs (rows ++ row ∷ [])
+blank_push specs rows row blank none no_more free k found is =
+    elim (get_push_cases rows row k found is) [
+      | inl old ↦ blank k found old
+      | inr new ↦ (
+        ap (λ (r : RingJobs). r.pending.items) new.1 ∙ none,
+        ap (λ (r : RingJobs). r.passed) new.1 ∙ no_more,
+        ap (λ (r : RingJobs). r.credits) new.1 ∙ (free
+            ∙ ap (λ n. let c : Counted = record { limit = option_map_or (λ (s : RingSpec). s.credit_limit) (slice_get specs n) 0; count = 0 } in c) (sym new.0)),
+      )
+    ]
+
+-- blank rows are those of no jobs
+blank_rows : (d : DeviceState) (rows : List RingJobs) → AreBlank d.spec.rings rows → RowsStand d rows
+blank_rows d rows blank ring row at =
+    let is = blank ring row at in
+    record {
+      passed = is.1 ∙ sym (ap (passed_of (is_open d.journal)) is.0);
+      credits = is.2 ∙ sym (ap (λ ns. let c : Counted = record { limit = credit_limit_of d ring; count = sum_by (credits_of d ring) ns } in c) is.0);
+    }
 
 -- entities with nothing queued and no marks
 abbrev pub blank_entities : DeviceSpec → EntityRows
@@ -80,9 +107,9 @@ no_waits journal waits no_jobs none = subst (λ ws. WaitsStand journal ws) (sym 
   stand = λ j r deps at going found. absurd (cc (at));
 }))
 
-pub blank_whole : (t : Table) → state_of t ≡ opened_device t.spec → spec_fault t.spec ≡ None → t.fences.list ≡ [] → t.waits.items ≡ [] → t.entities ≡ blank_entities t.spec
+pub blank_whole : (t : Table) → state_of t ≡ opened_device t.spec → AreBlank t.spec.rings t.rings.items → spec_fault t.spec ≡ None → t.fences.list ≡ [] → t.waits.items ≡ [] → t.entities ≡ blank_entities t.spec
     → t.loads.live.items ≡ replicate (length t.spec.rings) 0 → t.loads.last.items ≡ replicate (length t.spec.entities) None → t.loads.ended ≡ 0 → HasRooms t → IsWhole t
-blank_whole t opened limits fences waits entities live last ended rooms =
+blank_whole t opened blank limits fences waits entities live last ended rooms =
     let no_jobs : t.journal.items ≡ [] = ap (λ (d : DeviceState). d.journal) opened in
     record {
       steady = subst IsSteady (sym opened) (opened_steady t.spec);
@@ -92,6 +119,7 @@ blank_whole t opened limits fences waits entities live last ended rooms =
       waits = no_waits t.journal.items t.waits.items no_jobs waits;
       queues = subst (QueuesStand t.journal.items) (sym entities) (subst (λ js. QueuesStand js (blank_entities t.spec)) (sym no_jobs) (no_queues t.spec));
       loads = subst (λ js. LoadsOf t.spec js t.loads) (sym no_jobs) (loads_blank t.spec t.loads live last ended);
+      rows = blank_rows (state_of t) t.rings.items blank;
       sizes = ap (λ (d : DeviceState). sizes_of d.memory) opened;
       rooms = rooms;
     }

@@ -1,7 +1,7 @@
 -- A timeout of the tables is that of its definition, and keeps the tables whole.
-use Rattle.std.proofs.Common.{◌≡◌, ℕ, ◌-◌, ◌<◌, Bool, true, false, cond, List, [], ◌∷◌, length, map, get_or, set, None, Some, Option, refl, sym, ap, subst, ◌∙◌, slice_get}
+use Rattle.std.proofs.Common.{◌≡◌, ℕ, ◌-◌, ◌<◌, Bool, true, false, cond, List, [], ◌∷◌, length, map, get_or, set, None, Some, Option, refl, sym, ap, subst, ◌∙◌, slice_get, ◌≤◌, ◌&&◌, ◌||◌, ◌==◌, not, inl, inr, arith, zero, suc}
 use Rattle.std.specs.declared.alloc.Global.{Global}
-use Rattle.std.specs.Prelude.{nat_lt, option_map, vec_capacity, Vec}
+use Rattle.std.specs.Prelude.{nat_lt, option_map, vec_capacity, Vec, nat_le}
 use Rattle.std.specs.Option.{option_map_or}
 use Rattle.std.specs.Vec.{with_item}
 use Rattle.std.proofs.lemmas.Option.{slice_get_within}
@@ -31,12 +31,18 @@ use Rattle.drm_sched.specs.Events.{IsKept}
 use Rattle.drm_sched.proofs.DeviceSteps.{timeout_kept}
 use Rattle.drm_sched.proofs.FinishLawful.{IsHead, head_is, set_same}
 use Rattle.drm_sched.proofs.Records.{stands_within, at_test, changed_is, to_map, at_index}
-use Rattle.drm_sched.proofs.Pairs.{get_set_same}
+use Rattle.drm_sched.proofs.Pairs.{get_set_same, get_set_other}
 use Rattle.drm_sched.proofs.Pending.{pending_kept}
 use Rattle.drm_sched.proofs.Condemning.{condemned_among}
 use Rattle.drm_sched.proofs.LoadsKept.{loads_same, loads_set}
 use Rattle.drm_sched.proofs.TableFacts.{rings_tie, rooms_kept, row_found, row_pending, entity_there, whole_kept}
 use Rattle.drm_sched.proofs.Queues.{marks_changed, stands_set, stands_map, stands_marked}
+use Rattle.drm_sched.specs.Rows.{is_open, passed_of, RowStands}
+use Rattle.drm_sched.proofs.RowsKept.{open_set, rows_changed, passed_row, passed_alike, credits_alike}
+use Rattle.drm_sched.proofs.Passing.{passed_grows}
+use Rattle.std.proofs.lemmas.Bool.{cases_eq, ne_eqb}
+use Rattle.drm_fence.specs.Phases.{is_scheduled}
+use Rattle.std.specs.VecDeque.{deque_capacity}
 
 -- the outcome of a timeout, by what it finds of the head
 abbrev pub by_verdict : DeviceState → ℕ → ℕ → ℕ → JobRecord → Verdict → Left
@@ -114,8 +120,8 @@ abbrev pub blamed_tables : Table → ℕ → ℕ → Vec JobRecord Global → Ri
 blamed_tables t ring now journal row = record t { journal = journal; rings = with_item t.rings ring (record row { since = now }) }
 
 -- and after the entity is guilty too
-abbrev pub guilty_tables : Table → ℕ → ℕ → Vec JobRecord Global → RingJobs → EntityRows → Table
-guilty_tables t ring now journal row entities = record t { journal = journal; rings = with_item t.rings ring (record row { since = now }); entities = entities }
+abbrev pub guilty_tables : Table → ℕ → Vec JobRecord Global → RingJobs → EntityRows → Table
+guilty_tables t ring journal row entities = record t { journal = journal; rings = with_item t.rings ring row; entities = entities }
 
 -- the device of the blamed tables
 blamed_state : {t : Table} {ring now f : ℕ} {r : JobRecord} {journal : Vec JobRecord Global} {row : RingJobs} {guilty : Bool} → IsBlamed t ring now f r journal row guilty → state_of (blamed_tables t ring now journal row) ≡ hung_device (state_of t) ring now f
@@ -163,15 +169,59 @@ blamed_pending {t} {ring} {now} {f} {r} {journal} {row} w there b =
     (subst (λ js. IsPendingList js ring (pending_of d ring)) (sym b.items)
     (pending_kept t.journal.items f r (hung d r) ring (pending_of d ring) b.head.at refl refl (w.steady.lawful.rings ring there).pending))
 
--- the list is as it was in the row whose age begins anew
-pub same_pending : (rows : List RingJobs) (ring now : ℕ) (row x : RingJobs) → slice_get rows ring ≡ Some row → x ≡ get_or (set rows ring (record row { since = now })) ring x
-    → x.pending.items ≡ row.pending.items
-same_pending rows ring now row x at x_is =
-    let new : RingJobs = record row { since = now } in
-    let there = get_set_same rows ring row new at in
-    let here = at_index (set rows ring new) ring x x_is (slice_get_within (set rows ring new) ring new there) in
-    let same : new ≡ x = cc (there, here) in
-    ap (λ (z : RingJobs). z.pending.items) (sym same)
+-- and what is open
+blamed_open : {t : Table} {ring now f : ℕ} {r : JobRecord} {journal : Vec JobRecord Global} {row : RingJobs} {guilty : Bool} → IsBlamed t ring now f r journal row guilty
+    → (g : ℕ) → is_open journal.items g ≡ is_open t.journal.items g
+blamed_open {t} {ring} {now} {f} {r} b g =
+    ap (λ js. is_open js g) b.items ∙ open_set t.journal.items f r (hung (state_of t) r) b.head.at refl g
+
+-- a job stays on its ring
+blamed_there : {t : Table} {ring now f : ℕ} {r : JobRecord} {journal : Vec JobRecord Global} {row : RingJobs} {guilty : Bool} → IsBlamed t ring now f r journal row guilty
+    → (g : ℕ) (x : JobRecord) → slice_get t.journal.items g ≡ Some x → (y : JobRecord) × (slice_get journal.items g ≡ Some y) × (y.ring ≡ x.ring)
+blamed_there {t} {ring} {now} {f} {r} b g x at =
+    elim (cases_eq g f) [
+      | inl g_is ↦
+          let same : x ≡ r = (let here : slice_get t.journal.items f ≡ Some x = subst (λ n. slice_get t.journal.items n ≡ Some x) g_is at in cc (here, b.head.at)) in (
+            hung (state_of t) r,
+            ap (λ js. slice_get js g) b.items ∙ subst (λ n. slice_get (set t.journal.items f (hung (state_of t) r)) n ≡ Some (hung (state_of t) r)) (sym g_is)
+                (get_set_same t.journal.items f r (hung (state_of t) r) b.head.at),
+            ap (λ (z : JobRecord). z.ring) (sym same),
+          )
+      | inr apart ↦ (x, ap (λ js. slice_get js g) b.items ∙ (get_set_other t.journal.items f g (hung (state_of t) r) apart ∙ at), refl)
+    ]
+
+blamed_row : {t : Table} {ring now f : ℕ} {r : JobRecord} {journal : Vec JobRecord Global} {row : RingJobs} {guilty : Bool} → IsWhole t → IsBlamed t ring now f r journal row guilty
+    → row.passed ≡ passed_of (is_open journal.items) row.pending.items
+blamed_row {t} {ring} {now} {f} {r} {journal} {row} w b = passed_alike t ring row journal.items w b.row_at (λ g x at_g scheduled on_ring. blamed_open b g)
+
+-- a job that is skipped is done with, and the others are as they were
+condemned_done : (ring entity : ℕ) (js : List JobRecord) (g : ℕ) → is_open js g ≡ false → is_open (map (condemned ring entity) js) g ≡ false
+condemned_done ring entity [] g done = refl
+condemned_done ring entity (r ∷ rs) zero done =
+    elim (is_scheduled r.phase && (r.ring == ring) && (r.job.entity == entity)) as (λ b. not ((b || r.is_skipped) || nat_le (length r.job.packets) r.ran) ≡ false) [ true ↦ refl | false ↦ done ]
+condemned_done ring entity (r ∷ rs) (suc g) done = condemned_done ring entity rs g done
+
+condemned_elsewhere : (ring entity : ℕ) (js : List JobRecord) (g : ℕ) (x : JobRecord) → slice_get js g ≡ Some x → (x.ring ≡ ring → ⊥)
+    → is_open (map (condemned ring entity) js) g ≡ is_open js g
+condemned_elsewhere ring entity js g x at apart =
+    let test : JobRecord → Bool = λ r. not (is_complete r) in
+    at_test (map (condemned ring entity) js) g (condemned ring entity x) test (to_map (condemned ring entity) js g x at)
+    ∙ (ap (λ b. not (((is_scheduled x.phase && b && (x.job.entity == entity)) || x.is_skipped) || nat_le (length x.job.packets) x.ran)) (ne_eqb x.ring ring apart)
+    ∙ (ap (λ b. not ((b || x.is_skipped) || nat_le (length x.job.packets) x.ran)) (none_of (is_scheduled x.phase))
+    ∙ sym (at_test js g x test at)))
+  where
+    none_of : (b : Bool) → (b && false && (x.job.entity == entity)) ≡ false
+    none_of true = refl
+    none_of false = refl
+
+-- so the ring has passed over them, when its entity is guilty too
+pub guilty_passes : {t : Table} {ring now f : ℕ} {r : JobRecord} {journal : Vec JobRecord Global} {row : RingJobs} {guilty : Bool} → (entity : ℕ) (last : List JobRecord) → IsWhole t → ring < length t.spec.rings
+    → IsBlamed t ring now f r journal row guilty → last ≡ all_skipped entity journal.items row.pending.items → row.passed ≤ passed_of (is_open last) row.pending.items
+guilty_passes {t} {ring} {now} {f} {r} {journal} {row} entity last w there b skipped =
+    let items : last ≡ map (condemned ring entity) journal.items = skipped ∙ condemned_among journal.items ring entity row.pending.items (blamed_pending w there b) in
+    let is = blamed_row w b in
+    let more = passed_grows (is_open journal.items) (is_open last) row.pending.items (λ k g at_k done. ap (λ js. is_open js g) items ∙ condemned_done ring entity journal.items g done) in
+    omega (arith, is, more)
 
 -- the head goes on
 pub resumed_done : {t : Table} {ring now f : ℕ} {r : JobRecord} {journal : Vec JobRecord Global} {row : RingJobs} {guilty : Bool} → IsWhole t → ring < length t.spec.rings → IsBlamed t ring now f r journal row guilty → guilty ≡ false
@@ -184,24 +234,29 @@ resumed_done {t} {ring} {now} {f} {r} {journal} {row} w there b little =
     ∙ (ap (λ x. cond {A = Left} x (answer.Guilty r.job.entity, condemned_device (hung_device d ring now f) ring r.job.entity) (answer.Resumed, hung_device d ring now f)) (b.much ∙ little)
     ∙ ap (λ s. let left : Left = (answer.Resumed, s) in left) (sym (blamed_state b))) in
     let tied : t.fences.list ≡ map fence_state_of journal.items =
-    w.fences ∙ sym (ap (map fence_state_of) b.items ∙ blamed_fences t.journal.items f r (hung d r) b.head.at refl) in (
+    w.fences ∙ sym (ap (map fence_state_of) b.items ∙ blamed_fences t.journal.items f r (hung d r) b.head.at refl) in
+    let kept : IsKept d (state_of u) = subst (λ (q : Left). IsKept d q.1) ends (timeout_kept d ring now w.steady there) in (
       ends,
-      whole_kept t u w (subst (λ (q : Left). IsKept d q.1) ends (timeout_kept d ring now w.steady there)) tied refl (blamed_queues w b) (blamed_loads w b) refl
+      whole_kept t u w kept tied refl (blamed_queues w b) (blamed_loads w b)
+          (rows_changed t ring row (record row { since = now }) (set t.rings.items ring (record row { since = now })) (state_of u) w kept.grows b.row_at refl (record { passed = blamed_row w b; credits = credits_alike t ring row (state_of u) w b.row_at kept.grows })
+          (λ g x at_g scheduled apart. blamed_open b g)) refl
           (rooms_kept t u ring row (record row { since = now }) w.rooms refl refl b.row_at refl b.room refl refl refl),
     )
 
 -- the entity is guilty
 pub guilty_done : {t : Table} {ring now f : ℕ} {r : JobRecord} {journal : Vec JobRecord Global} {row : RingJobs} {guilty : Bool}
-    → (entity : ℕ) (last : Vec JobRecord Global) (entities : EntityRows) → IsWhole t → ring < length t.spec.rings → IsBlamed t ring now f r journal row guilty
+    → (entity : ℕ) (last : Vec JobRecord Global) (new : RingJobs) (entities : EntityRows) → IsWhole t → ring < length t.spec.rings → IsBlamed t ring now f r journal row guilty
     → guilty ≡ true → entity ≡ r.job.entity → last.items ≡ all_skipped entity journal.items row.pending.items → vec_capacity last ≡ vec_capacity journal
-    → entities ≡ row_changed t.entities entity (λ r. record r { is_guilty = true })
-    → (timeout_outcome (state_of t) ring now ≡ (answer.Guilty entity, state_of (guilty_tables t ring now last row entities)))
-    × IsWhole (guilty_tables t ring now last row entities)
-guilty_done {t} {ring} {now} {f} {r} {journal} {row} entity last entities w there b more of_entity skipped room marked_by =
+    → new ≡ passed_row last.items (record row { since = now }) → entities ≡ row_changed t.entities entity (λ r. record r { is_guilty = true })
+    → (timeout_outcome (state_of t) ring now ≡ (answer.Guilty entity, state_of (guilty_tables t ring last new entities)))
+    × IsWhole (guilty_tables t ring last new entities)
+guilty_done {t} {ring} {now} {f} {r} {journal} {row} entity last new entities w there b more of_entity skipped room new_is marked_by =
     let d = state_of t in
     let items : last.items ≡ map (condemned ring entity) journal.items = skipped ∙ condemned_among journal.items ring entity row.pending.items (blamed_pending w there b) in
-    let u = guilty_tables t ring now last row entities in
-    let rings = map ring_state_of (set t.rings.items ring (record row { since = now })) in
+    let u = guilty_tables t ring last new entities in
+    let rings = map ring_state_of (set t.rings.items ring new) in
+    let rings_same : map ring_state_of (set t.rings.items ring (record row { since = now })) ≡ rings =
+    map-set ring_state_of t.rings.items ring (record row { since = now }) ∙ (ap (set (map ring_state_of t.rings.items) ring) (sym (ap ring_state_of new_is)) ∙ sym (map-set ring_state_of t.rings.items ring new)) in
     let blame : EntityRow → EntityRow = λ r. record r { is_guilty = true } in
     let mark : EntityState → EntityState = λ e. record e { is_guilty = true } in
     let guilty_marks = entity_changed (marks t.entities) entity mark in
@@ -220,11 +275,18 @@ guilty_done {t} {ring} {now} {f} {r} {journal} {row} entity last entities w ther
     ∙ (ap (λ x. cond {A = Left} x (answer.Guilty r.job.entity, condemned_device (hung_device d ring now f) ring r.job.entity) (answer.Resumed, hung_device d ring now f)) (b.much ∙ more)
     ∙ (ap (λ e. let left : Left = (answer.Guilty e, condemned_device (hung_device d ring now f) ring e) in left) (sym of_entity)
     ∙ (ap (λ s. let left : Left = (answer.Guilty entity, condemned_device s ring entity) in left) (sym (blamed_state b))
+    ∙ (ap (λ rs. let left : Left = (answer.Guilty entity, record d { journal = map (condemned ring entity) journal.items; rings = rs; entities = guilty_marks }) in left) rings_same
     ∙ (ap (λ js. let left : Left = (answer.Guilty entity, record d { journal = js; rings = rings; entities = guilty_marks }) in left) (sym items)
-    ∙ ap (λ es. let left : Left = (answer.Guilty entity, record d { journal = last.items; rings = rings; entities = es }) in left) (sym marked))))) in
+    ∙ ap (λ es. let left : Left = (answer.Guilty entity, record d { journal = last.items; rings = rings; entities = es }) in left) (sym marked)))))) in
     let tied : t.fences.list ≡ map fence_state_of last.items =
-    w.fences ∙ sym (ap (map fence_state_of) items ∙ (condemned_fences ring entity journal.items ∙ (ap (map fence_state_of) b.items ∙ blamed_fences t.journal.items f r (hung d r) b.head.at refl))) in (
+    w.fences ∙ sym (ap (map fence_state_of) items ∙ (condemned_fences ring entity journal.items ∙ (ap (map fence_state_of) b.items ∙ blamed_fences t.journal.items f r (hung d r) b.head.at refl))) in
+    let kept : IsKept d (state_of u) = subst (λ (q : Left). IsKept d q.1) ends (timeout_kept d ring now w.steady there) in (
       ends,
-      whole_kept t u w (subst (λ (q : Left). IsKept d q.1) ends (timeout_kept d ring now w.steady there)) tied refl queues loads refl
-          (rooms_kept t u ring row (record row { since = now }) w.rooms refl refl b.row_at refl (room ∙ b.room) refl refl (ap (λ (e : EntityRows). e.places) marked_by)),
+      whole_kept t u w kept tied refl queues loads
+          (rows_changed t ring row new (set t.rings.items ring new) (state_of u) w kept.grows b.row_at refl
+          (subst (RowStands (state_of u) ring) (sym new_is) (record { passed = refl; credits = credits_alike t ring row (state_of u) w b.row_at kept.grows }))
+          (λ g x at_g scheduled apart.
+          let kept = blamed_there b g x at_g in
+          ap (λ js. is_open js g) items ∙ (condemned_elsewhere ring entity journal.items g kept.0 kept.1 (λ is. apart (sym kept.2 ∙ is)) ∙ blamed_open b g))) refl
+          (rooms_kept t u ring row new w.rooms refl refl b.row_at (ap (λ (z : RingJobs). deque_capacity z.pending) new_is) (room ∙ b.room) refl refl (ap (λ (e : EntityRows). e.places) marked_by)),
     )

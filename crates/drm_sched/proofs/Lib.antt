@@ -36,6 +36,8 @@ pub mod DeviceGrows
 pub mod HeldFacts
 pub mod Homes
 pub mod LoadsKept
+pub mod Passing
+pub mod RowsKept
 pub mod Balancing
 pub mod Marks
 pub mod Watching

@@ -1,12 +1,15 @@
 -- A device stays whole when a packet goes out of it.
 use Rattle.std.proofs.Common.{◌≡◌, ℕ, ◌<◌, Bool, true, false, not, List, [], set, length, Some, None, Option, refl, sym, ap, subst, ◌∙◌, slice_get}
 use Rattle.std.specs.Option.{option_map_or}
-use Rattle.std.specs.Prelude.{is_none, option_map}
+use Rattle.std.specs.Prelude.{IsTrue, is_none, option_map}
 use Rattle.std.specs.Vec.{with_item}
 use Rattle.std.proofs.lemmas.List.{map-set}
+use Rattle.drm_buffer.specs.Memory.{bytes_of}
 use Rattle.drm_buffer.specs.Stored.{Stored}
 use Rattle.drm_packet.specs.declared.Packet.{Packet}
-use Rattle.drm_packet.specs.Touches.{touches}
+use Rattle.drm_packet.specs.Laws.{PacketsFitTheirParts}
+use Rattle.drm_packet.specs.Parts.{target_of, other_bytes, fits_parts}
+use Rattle.drm_packet.specs.Touches.{touches, is_in_range}
 use Rattle.drm_sched.specs.declared.journal.JobRecord.{JobRecord}
 use Rattle.drm_sched.specs.declared.marked.OutMark.{OutMark}
 use Rattle.drm_sched.specs.declared.marked.MarkedTable.{MarkedTable}
@@ -29,6 +32,17 @@ pub record MayGo (d : MarkedTable) (ring f : ℕ) (r : JobRecord) (p : Packet) :
   pub at : slice_get d.table.journal.items f ≡ Some r
   pub next : slice_get r.job.packets r.ran ≡ Some p
   pub runs : must_stall p r.karma.resets ≡ false
+
+-- it finds its ranges in its own buffers
+pub parts_run : (p : Packet) (m : List (List ℕ)) (write read : Option (List ℕ)) → PacketsFitTheirParts → write ≡ option_map (bytes_of m) (target_of p) → read ≡ other_bytes p m
+    → IsTrue (is_in_range p m) → (bytes : List ℕ) → write ≡ Some bytes → IsTrue (fits_parts p bytes read)
+parts_run p m write read law write_is read_is range bytes is =
+    elim (target_of p) as (λ o. target_of p ≡ o → option_map (bytes_of m) o ≡ Some bytes → IsTrue (fits_parts p bytes read)) [
+      | None ↦ λ e none. absurd (cc (none))
+      | Some t ↦ λ e some.
+          let own : bytes_of m t ≡ bytes = cc (some) in
+          subst (λ r. IsTrue (fits_parts p bytes r)) (sym read_is) (subst (λ bs. IsTrue (fits_parts p bs (other_bytes p m))) own (law p t m e range))
+    ] refl (sym write_is ∙ is)
 
 -- the memory of a device after the packet's buffers were taken
 abbrev pub taken : MarkedTable → Packet → Stored
@@ -56,6 +70,7 @@ whole_out t out w = record {
   waits = w.waits;
   queues = w.queues;
   loads = w.loads;
+  rows = λ ring row at. record { passed = (w.rows ring row at).passed; credits = (w.rows ring row at).credits };
   sizes = w.sizes;
   rooms = record { jobs = w.rooms.jobs; waits = w.rooms.waits; places = w.rooms.places; queues = w.rooms.queues; pending = w.rooms.pending };
 }

@@ -36,7 +36,7 @@ map_twice f g (Some x) = refl
 
 -- what is reported comes back
 pub report_back : (d : MarkedTable) (ring : ℕ) (row : OutMark) (write read : Option (List ℕ)) → IsWholeMarked d → ring < length d.table.spec.rings
-    → mark_of (marked_of d) ring ≡ Some (mark_of_row row) → IsReport (marked_of d) ring write read → ComesBack d.table row.fence write read
+    → mark_of (marked_of d) ring ≡ Some (mark_of_row row) → IsReport (marked_of d) ring write read → ComesBack d.table ring row.fence write read
 report_back d ring row write read w there is (n, p, is_n, at_p, write_is, read_is) =
     let m = mark_of_row row in
     let out = w.steady.out ring m is in
@@ -46,7 +46,6 @@ report_back d ring row write read w there is (n, p, is_n, at_p, write_is, read_i
     (let e : Some p ≡ Some out.packet = sym at_p ∙ (ap (λ (z : Mark). packet_at d.table.journal.items z.fence z.packet) same ∙ packet_out (state_of d.table) ring m out) in cc (e)) in
     let read_m : read ≡ m.read = read_is ∙ ap (λ (z : Mark). z.read) same in
     record {
-      ring = ring;
       there = there;
       current = out.current;
       job = out.job;

@@ -1,7 +1,7 @@
 -- A pick of a choice that fits is the pick of its definition, and keeps the tables whole.
-use Rattle.std.proofs.Common.{◌≡◌, ℕ, zero, suc, ◌+◌, ◌<◌, ◌≤◌, Bool, true, false, not, ◌||◌, List, [], ◌∷◌, length, get_or, cond, map, set, min, Some, None, Option, refl, sym, ap, subst, ◌∙◌, inl, inr, ◌⊎◌, arith, slice_get}
+use Rattle.std.proofs.Common.{◌≡◌, ℕ, zero, suc, ◌+◌, ◌<◌, ◌≤◌, Bool, true, false, not, ◌||◌, List, [], ◌∷◌, length, get_or, cond, map, set, min, Some, None, Option, refl, sym, ap, subst, ◌∙◌, inl, inr, ◌⊎◌, arith, slice_get, ◌++◌}
 use Rattle.std.specs.declared.alloc.Global.{Global}
-use Rattle.std.specs.Prelude.{vec_capacity, vec_len, Vec, sum_by, position, nat_lt, nat_le, option_map, ◌||◌, ◌==◌, IfSome, IfNone}
+use Rattle.std.specs.Prelude.{vec_capacity, Vec, sum_by, position, nat_lt, nat_le, option_map, ◌||◌, ◌==◌, IfSome, IfNone}
 use Rattle.std.specs.Option.{option_map_or}
 use Rattle.std.specs.Vec.{with_item}
 use Rattle.std.specs.List.{position_from}
@@ -27,7 +27,7 @@ use Rattle.drm_sched.specs.declared.journal.JobRecord.{JobRecord}
 use Rattle.drm_sched.specs.declared.table.RingJobs.{RingJobs}
 use Rattle.drm_sched.specs.declared.table.Table.{Table}
 use Rattle.drm_sched.specs.declared.answer.Answer.TheVariants as answer
-use Rattle.drm_sched.specs.Journal.{changed_at}
+use Rattle.drm_sched.specs.Journal.{changed_at, is_complete}
 use Rattle.drm_sched.specs.Choice.{choice}
 use Rattle.drm_sched.specs.Ring.{credits_of, free_credits, credit_limit_of, pending_of, is_guilty, ring_changed}
 use Rattle.drm_sched.specs.Refusals.{pick_refusal}
@@ -44,6 +44,13 @@ use Rattle.drm_sched.proofs.LoadsKept.{loads_set}
 use Rattle.drm_sched.proofs.TableFacts.{entity_there, rings_tie, rooms_kept, row_pending, whole_kept}
 use Rattle.drm_sched.proofs.CallsAre.{Left, pick_may, pick_takes}
 use Rattle.drm_sched.proofs.Queues.{head_numbered, stands_popped, IsPopped}
+use Rattle.drm_sched.specs.Rows.{is_open, passed_of}
+use Rattle.drm_sched.proofs.RowsKept.{rows_changed, row_job, credits_put}
+use Rattle.drm_sched.proofs.Passing.{passed_same, passed_longer}
+use Rattle.drm_sched.proofs.Pairs.{get_set_other}
+use Rattle.drm_sched.specs.State.{RingState}
+use Rattle.std.specs.VecDeque.{deque_capacity, deque_len}
+use Rattle.drm_ring.specs.Counted.{need_of}
 
 -- a choice of which none is taken was not the first
 passed_over : {A : Type 0} (b : Bool) (a : A) (rest : Option A) → cond (not b) (Some a) rest ≡ None → (b ≡ true) × (rest ≡ None)
@@ -137,7 +144,7 @@ each_counts t ring w there k f at =
 -- one more job that fits finds room
 pub room_for_one : (t : Table) (ring f : ℕ) (r : JobRecord) (row : RingJobs) → IsWhole t → ring < length t.spec.rings → slice_get t.journal.items f ≡ Some r
     → slice_get t.rings.items ring ≡ Some row → nat_lt (free_credits (state_of t) ring) (credits_of (state_of t) ring f) ≡ false
-    → vec_len row.pending < vec_capacity row.pending
+    → deque_len row.pending < deque_capacity row.pending
 room_for_one t ring f r row w there at at_row fits =
     let d = state_of t in
     let le = ltb-false (free_credits d ring) (credits_of d ring f) fits in
@@ -148,7 +155,7 @@ room_for_one t ring f r row w there at at_row fits =
     let used = (w.steady.lawful.rings ring there).credits in
     let room = w.rooms.pending ring row at_row in
     let same : length (pending_of d ring) ≡ length row.pending.items = ap length (row_pending t ring row at_row) in
-    let size : vec_len row.pending ≡ length row.pending.items = row.pending.ok.0 in
+    let size : deque_len row.pending ≡ length row.pending.items = row.pending.ok.0 in
     omega (arith, le, one, few, used, room, same, size)
 
 -- what is known of the entity of the job that is taken next
@@ -180,6 +187,33 @@ taken_popped t ring f r entity skipped items new result w chosen taken given som
     subst (λ js. IsPopped js t.entities new) (sym (given ∙ changed_is t.journal.items f r begin chosen.at))
     (stands_popped t.journal.items t.entities new entity f r (begin r) result chosen.at taken.of_entity chosen.queued refl taken.head taken.there some none w.queues)
 
+-- a job that was given to a ring before is open as it was
+pub open_elsewhere : (t : Table) (f g : ℕ) (r x : JobRecord) (skipped : Bool) (journal : List JobRecord)
+    → journal ≡ changed_at t.journal.items f (λ r. record r { phase = Scheduled; is_skipped = skipped || r.is_skipped })
+    → slice_get t.journal.items f ≡ Some r → is_queued r.phase ≡ true → slice_get t.journal.items g ≡ Some x → x.phase ≡ Scheduled
+    → is_open journal g ≡ is_open t.journal.items g
+open_elsewhere t f g r x skipped journal items at queued at_g scheduled =
+    let begin : JobRecord → JobRecord = λ r. record r { phase = Scheduled; is_skipped = skipped || r.is_skipped } in
+    ap (λ js. is_open js g) (items ∙ changed_is t.journal.items f r begin at)
+    ∙ ap (λ o. option_map_or (λ (z : JobRecord). not (is_complete z)) o false) (get_set_other t.journal.items f g (begin r) (λ g_is.
+    let here : slice_get t.journal.items f ≡ Some x = subst (λ n. slice_get t.journal.items n ≡ Some x) g_is at_g in
+    let same : x ≡ r = cc (here, at) in
+    let never : false ≡ true = ap is_queued (sym scheduled) ∙ (ap (λ (z : JobRecord). is_queued z.phase) same ∙ queued) in cc (never)))
+
+-- so the ring has passed over what it had, in the longer list too
+pub put_passes : (t : Table) (ring f now : ℕ) (r : JobRecord) (skipped : Bool) (journal : List JobRecord) (row new : RingJobs) → IsWhole t
+    → journal ≡ changed_at t.journal.items f (λ r. record r { phase = Scheduled; is_skipped = skipped || r.is_skipped })
+    → slice_get t.journal.items f ≡ Some r → is_queued r.phase ≡ true → slice_get t.rings.items ring ≡ Some row → ring_state_of new ≡ put_in f now (ring_state_of row)
+    → new.passed ≡ row.passed → new.passed ≤ passed_of (is_open journal) new.pending.items
+put_passes t ring f now r skipped journal row new w items at queued at_row row_is passed =
+    let old = (w.rows ring row at_row).passed in
+    let same = passed_same (is_open t.journal.items) (is_open journal) row.pending.items (λ k g at_k.
+    let x = row_job t ring row w at_row k g at_k in
+    sym (open_elsewhere t f g r x.0 skipped journal items at queued x.1 x.2)) in
+    let longer = passed_longer (is_open journal) row.pending.items f in
+    let pending : new.pending.items ≡ row.pending.items ++ f ∷ [] = ap (λ (s : RingState). s.pending) row_is in
+    subst (λ ns. new.passed ≤ passed_of (is_open journal) ns) (sym pending) (omega (arith, old, same, longer, passed))
+
 -- the tables after the pick
 abbrev pub picked_tables : Table → ℕ → Vec JobRecord Global → Fences → RingJobs → EntityRows → Table
 picked_tables t ring journal fences row entities = record t { journal = journal; fences = fences; rings = with_item t.rings ring row; entities = entities }
@@ -189,11 +223,13 @@ pub pick_done : (t : Table) (ring now f : ℕ) (r : JobRecord) (skipped : Bool) 
     → slice_get t.journal.items f ≡ Some r → skipped ≡ is_guilty (state_of t) r.job.entity
     → journal.items ≡ changed_at t.journal.items f (λ r. record r { phase = Scheduled; is_skipped = skipped || r.is_skipped })
     → fences.list ≡ map fence_state_of journal.items → vec_capacity journal ≡ vec_capacity t.journal → fences.places ≡ t.fences.places
-    → slice_get t.rings.items ring ≡ Some row → ring_state_of new ≡ put_in f now (ring_state_of row) → vec_capacity new.pending ≡ vec_capacity row.pending → IsPopped journal.items t.entities entities
+    → slice_get t.rings.items ring ≡ Some row → ring_state_of new ≡ put_in f now (ring_state_of row) → new.passed ≡ passed_of (is_open journal.items) new.pending.items
+    → new.credits ≡ record row.credits { count = row.credits.count + need_of row.credits r.job.credits }
+    → deque_capacity new.pending ≡ deque_capacity row.pending → IsPopped journal.items t.entities entities
     → (pick_refusal (state_of t) ring ≡ None)
     × (pick_outcome (state_of t) ring now ≡ (answer.Picked f skipped, state_of (picked_tables t ring journal fences new entities)))
     × IsWhole (picked_tables t ring journal fences new entities)
-pick_done t ring now f r skipped journal fences row new entities w there is fits at guilt items tied room places at_row row_is row_room left_queue =
+pick_done t ring now f r skipped journal fences row new entities w there is fits at guilt items tied room places at_row row_is passed taken row_room left_queue =
     let d = state_of t in
     let rings = rings_tie t.rings.items ring row new (put_in f now) at_row row_is in
     let left : Left = (answer.Picked f skipped, state_of (picked_tables t ring journal fences new entities)) in
@@ -214,12 +250,19 @@ pick_done t ring now f r skipped journal fences row new entities w there is fits
     let loads : LoadsOf t.spec journal.items t.loads =
     subst (λ js. LoadsOf t.spec js t.loads) (sym (items ∙ changed_is t.journal.items f r (λ x. record x { phase = Scheduled; is_skipped = skipped || x.is_skipped }) at))
     (loads_set t.spec t.journal.items f r begun t.loads w.loads at (ap (λ b. let s : Standing = record { ring = r.ring; ended = b } in s) (sym (queued_goes_on r.phase queued))) refl) in
-    let may = pick_may d ring f is fits in (
+    let may = pick_may d ring f is fits in
+    let kept : IsKept d (state_of (picked_tables t ring journal fences new entities)) = subst (λ (q : Left). IsKept d q.1) takes (pick_kept d ring now w.steady there may) in (
       may,
       takes,
       whole_kept t (picked_tables t ring journal fences new entities) w
-          (subst (λ (q : Left). IsKept d q.1) takes (pick_kept d ring now w.steady there may))
-          tied refl left_queue.stand loads refl
+          kept
+          tied refl left_queue.stand loads
+          (rows_changed t ring row new (set t.rings.items ring new) (state_of (picked_tables t ring journal fences new entities)) w kept.grows at_row refl
+          (record {
+            passed = passed;
+            credits = credits_put t ring f r row new (state_of (picked_tables t ring journal fences new entities)) w at_row at kept.grows (ap (λ (s : RingState). s.pending) row_is) taken;
+          })
+          (λ g x at_g scheduled apart. open_elsewhere t f g r x skipped journal.items items at queued at_g scheduled)) refl
           (rooms_kept t (picked_tables t ring journal fences new entities) ring row new w.rooms refl refl at_row row_room room refl places left_queue.places),
     )
 

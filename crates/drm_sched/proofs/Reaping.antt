@@ -45,6 +45,8 @@ use Rattle.drm_sched.proofs.Homes.{one_ring}
 use Rattle.drm_sched.proofs.LoadsKept.{loads_ended}
 use Rattle.drm_sched.proofs.TableFacts.{entity_row_there, row_found, row_pending, whole_kept}
 use Rattle.drm_sched.proofs.Queues.{IsFront, front_is, marks_changed, stands_marked, stands_popped, IsPopped}
+use Rattle.drm_sched.specs.Rows.{is_open}
+use Rattle.drm_sched.proofs.RowsKept.{rows_same, open_set}
 
 -- tables of which an entity was stopped stay whole
 pub stopped_done : (t : Table) (entity : ℕ) (entities : EntityRows) → IsWhole t → entity < length t.spec.entities
@@ -58,7 +60,8 @@ stopped_done t entity entities w there is =
     ap (λ es. record (state_of t) { entities = es }) (ap marks is ∙ marks_changed t.entities entity row.0 stop mark row.1 refl) in (
       state,
       whole_kept t (record t { entities = entities }) w (subst (IsKept (state_of t)) (sym state) (cancel_kept (state_of t) entity w.steady)) w.fences refl
-          (subst (QueuesStand t.journal.items) (sym is) (stands_marked t.journal.items t.entities entity row.0 stop row.1 refl w.queues)) w.loads refl
+          (subst (QueuesStand t.journal.items) (sym is) (stands_marked t.journal.items t.entities entity row.0 stop row.1 refl w.queues)) w.loads
+          (rows_same t t.rings.items (state_of (record t { entities = entities })) w (subst (IsKept (state_of t)) (sym state) (cancel_kept (state_of t) entity w.steady)).grows refl (λ f r at scheduled. refl)) refl
           (record {
             jobs = w.rooms.jobs;
             waits = w.rooms.waits;
@@ -250,7 +253,10 @@ reap_done t entity number journal fences entities loads w is may items tied room
     ∙ (ap (λ j. let left : Left = (answer.Reaped number, record d { journal = j }) in left) (sym items)
     ∙ ap (λ es. let left : Left = (answer.Reaped number, record d { journal = journal.items; entities = es }) in left) (sym left_queue.marks_same)) in (
       ends,
-      whole_kept t u w (subst (λ (q : Left). IsKept d q.1) ends (reap_kept d entity w.steady may)) tied refl left_queue.stand stand refl
+      whole_kept t u w (subst (λ (q : Left). IsKept d q.1) ends (reap_kept d entity w.steady may)) tied refl left_queue.stand stand
+          (rows_same t t.rings.items (state_of u) w (subst (λ (q : Left). IsKept d q.1) ends (reap_kept d entity w.steady may)).grows refl (λ f r at scheduled.
+          ap (λ js. is_open js f) (items ∙ changed_is t.journal.items number front.0 (λ r. record r { phase = Ended outcome.Stopped }) front.1.at)
+          ∙ open_set t.journal.items number front.0 (record front.0 { phase = Ended outcome.Stopped }) front.1.at refl f)) refl
           (record {
             jobs = subst (λ n. t.spec.max_jobs ≤ n) (sym room) w.rooms.jobs;
             waits = w.rooms.waits;

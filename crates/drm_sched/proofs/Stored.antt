@@ -4,7 +4,6 @@ use Rattle.std.specs.Prelude.{Contains}
 use Rattle.std.specs.Option.{option_map_or}
 use Rattle.std.proofs.lemmas.Bool.{and_parts, ltb-true, leb-true}
 use Rattle.std.proofs.lemmas.List.{length-map}
-use Rattle.drm_types.specs.declared.spec.DeviceSpec.{DeviceSpec}
 use Rattle.drm_buffer.specs.Memory.{bytes_of}
 use Rattle.drm_buffer.specs.Stored.{Stored, all_in, AreIn}
 use Rattle.drm_packet.specs.declared.Packet.{Packet}
@@ -15,7 +14,7 @@ use Rattle.drm_sched.specs.declared.journal.JobRecord.{JobRecord}
 use Rattle.drm_sched.specs.declared.table.Table.{Table}
 use Rattle.drm_sched.specs.Ring.{current_of}
 use Rattle.drm_sched.specs.Outcomes.{next_packet}
-use Rattle.drm_sched.specs.Tables.{state_of, IsWhole, AllIn, NextIsIn}
+use Rattle.drm_sched.specs.Tables.{state_of, IsWhole}
 use Rattle.drm_sched.proofs.TableFacts.{running_at, next_in_range}
 
 -- a packet touches its target and its source

@@ -35,6 +35,7 @@ use Rattle.drm_sched.specs.Order.{comes_after}
 use Rattle.drm_sched.specs.Waits.{DepsStand, IsDependency}
 use Rattle.drm_sched.specs.Plain.{marks_of, WaitsStand, QueuesStand}
 use Rattle.drm_sched.specs.Loads.{LoadsOf}
+use Rattle.drm_sched.specs.Rows.{RowsStand}
 use Rattle.drm_sched.specs.Tables.{state_of, fence_state_of, ring_state_of, IsWhole, HasRooms}
 use Rattle.drm_sched.proofs.Records.{to_map, at_index}
 use Rattle.drm_sched.proofs.Pairs.{get_set_cases}
@@ -43,6 +44,7 @@ use Rattle.drm_sched.proofs.Pending.{contains_at}
 use Rattle.drm_sched.proofs.RanLawful.{IsCurrent, current_is}
 use Rattle.drm_sched.specs.Events.{IsKept}
 use Rattle.drm_sched.proofs.DeviceSteps.{not_when}
+use Rattle.std.specs.VecDeque.{deque_capacity}
 
 -- neither part of a choice that fails holds
 pub neither : (a b : Bool) → (a || b) ≡ false → (a ≡ false) × (b ≡ false)
@@ -160,8 +162,8 @@ waits_kept old new waits stand grows count = record {
 
 -- tables stay whole when their device is kept and their parts go on with it
 pub whole_kept : (t u : Table) → IsWhole t → IsKept (state_of t) (state_of u) → u.fences.list ≡ map fence_state_of u.journal.items → u.waits.items ≡ t.waits.items
-    → QueuesStand u.journal.items u.entities → LoadsOf u.spec u.journal.items u.loads → sizes_of u.memory.bytes ≡ sizes_of t.memory.bytes → HasRooms u → IsWhole u
-whole_kept t u w kept fences waits queues loads sizes rooms =
+    → QueuesStand u.journal.items u.entities → LoadsOf u.spec u.journal.items u.loads → RowsStand (state_of u) u.rings.items → sizes_of u.memory.bytes ≡ sizes_of t.memory.bytes → HasRooms u → IsWhole u
+whole_kept t u w kept fences waits queues loads rows sizes rooms =
     let spec : u.spec ≡ t.spec = kept.grows.spec in
     record {
       steady = kept.steady;
@@ -171,6 +173,7 @@ whole_kept t u w kept fences waits queues loads sizes rooms =
       waits = subst (λ ws. WaitsStand u.journal.items ws) (sym waits) (waits_kept (state_of t) (state_of u) t.waits.items w.waits kept.grows kept.count);
       queues = queues;
       loads = loads;
+      rows = rows;
       sizes = sizes ∙ (w.sizes ∙ ap (λ (s : DeviceSpec). sizes_of s.buffers) (sym spec));
       rooms = rooms;
     }
@@ -208,7 +211,7 @@ row_found t ring row w there is = at_index t.rings.items ring row is (row_there 
 
 -- room stays where one row changed and kept its own
 pub rooms_kept : (t u : Table) (ring : ℕ) (row new : RingJobs) → HasRooms t → u.spec ≡ t.spec → u.rings.items ≡ set t.rings.items ring new → slice_get t.rings.items ring ≡ Some row
-    → vec_capacity new.pending ≡ vec_capacity row.pending → vec_capacity u.journal ≡ vec_capacity t.journal → vec_capacity u.waits ≡ vec_capacity t.waits
+    → deque_capacity new.pending ≡ deque_capacity row.pending → vec_capacity u.journal ≡ vec_capacity t.journal → vec_capacity u.waits ≡ vec_capacity t.waits
     → u.fences.places ≡ t.fences.places → u.entities.places ≡ t.entities.places → HasRooms u
 rooms_kept t u ring row new rooms spec rings at room jobs waits places queues = record {
   jobs = subst (λ n. u.spec.max_jobs ≤ n) (sym jobs) (subst (λ (s : DeviceSpec). s.max_jobs ≤ vec_capacity t.journal) (sym spec) rooms.jobs);
@@ -218,8 +221,8 @@ rooms_kept t u ring row new rooms spec rings at room jobs waits places queues = 
   pending = λ k r at_k.
       elim (get_set_cases t.rings.items ring k row new r at (ap (λ rs. slice_get rs k) (sym rings) ∙ at_k)) [
         | inl here ↦
-            let old : credit_limit_of (state_of t) ring ≤ vec_capacity row.pending = rooms.pending ring row at in
-            let same : vec_capacity r.pending ≡ vec_capacity row.pending = ap (λ (x : RingJobs). vec_capacity x.pending) here.1 ∙ room in
+            let old : credit_limit_of (state_of t) ring ≤ deque_capacity row.pending = rooms.pending ring row at in
+            let same : deque_capacity r.pending ≡ deque_capacity row.pending = ap (λ (x : RingJobs). deque_capacity x.pending) here.1 ∙ room in
             let limit : credit_limit_of (state_of u) k ≡ credit_limit_of (state_of t) ring = limit_kept k ∙ ap (credit_limit_of (state_of t)) here.0 in
             omega (arith, old, same, limit)
         | inr there ↦ let old = rooms.pending k r there.1 in let limit = limit_kept k in omega (arith, old, limit)

@@ -1,7 +1,7 @@
 -- What a device answers and leaves when a packet goes out of it and comes back.
-use Rattle.std.specs.Prelude.{◌≡◌, ℕ, Bool, false, if◌then◌else◌, List, Option, Some, None, option_map, slice_get}
+use Rattle.std.specs.Prelude.{◌≡◌, ℕ, IsTrue, Bool, false, if◌then◌else◌, List, Option, Some, None, option_map, slice_get}
 use Rattle.drm_packet.specs.declared.Packet.{Packet}
-use Rattle.drm_packet.specs.Parts.{part_effect}
+use Rattle.drm_packet.specs.Parts.{part_effect, fits_parts}
 use Rattle.drm_sched.specs.declared.answer.Answer.TheVariants as answer
 use Rattle.drm_sched.specs.declared.answer.Refusal.{Refusal}
 use Rattle.drm_sched.specs.declared.answer.Refusal.TheVariants.{PacketOut}
@@ -25,6 +25,11 @@ HasBegun d ring (Work fence packet copy write read) new =
     × (write ≡ (mark_for d.state fence job copy).write) × (read ≡ (mark_for d.state fence job copy).read)
     × (new ≡ begun_device d ring (mark_for d.state fence job copy))
 HasBegun d ring (Stalled fence) new = (step_outcome d.state ring ≡ (answer.Stalled fence, d.state)) × (new ≡ d)
+
+-- a packet that went out finds its ranges in the buffers that it went out with
+abbrev pub MayRun : Begun → Type 0
+MayRun (Work fence packet copy write read) = (bytes : List ℕ) → write ≡ Some bytes → IsTrue (fits_parts copy bytes read)
+MayRun (Stalled fence) = Unit {0}
 
 -- these are the buffers that the ring has out: the one it writes as its packet leaves it, the other as it went
 abbrev pub IsReport : MarkedDevice → ℕ → Option (List ℕ) → Option (List ℕ) → Type 0

@@ -20,6 +20,7 @@ pub mod Candidates
 pub mod Plain
 pub mod Answers
 pub mod Loads
+pub mod Rows
 pub mod Tables
 pub mod Recovery
 pub mod Stopping

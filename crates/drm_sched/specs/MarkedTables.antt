@@ -42,9 +42,8 @@ pub record IsWholeMarked (d : MarkedTable) : Type 0 where
   pub steady : IsSteadyMarked (marked_of d)
   pub out : HasOut (marked_of d) d.table.memory.out
 
--- a packet of the job comes back with these buffers: it is the next one of a ring, and ran on what went out
-pub record ComesBack (t : Table) (number : ℕ) (write : Option (List ℕ)) (read : Option (List ℕ)) : Type 0 where
-  pub ring : ℕ
+-- a packet of the job comes back with these buffers: it is the next one of the ring, and ran on what went out
+pub record ComesBack (t : Table) (ring number : ℕ) (write : Option (List ℕ)) (read : Option (List ℕ)) : Type 0 where
   pub there : ring < length t.spec.rings
   pub current : current_of (state_of t) ring ≡ Some number
   pub job : JobRecord

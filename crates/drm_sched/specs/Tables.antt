@@ -17,6 +17,8 @@ use Rattle.drm_sched.specs.Ring.{credit_limit_of, current_of}
 use Rattle.drm_sched.specs.Steady.{IsSteady}
 use Rattle.drm_sched.specs.Plain.{marks, WaitsStand, QueuesStand}
 use Rattle.drm_sched.specs.Loads.{LoadsOf}
+use Rattle.drm_sched.specs.Rows.{RowsStand}
+use Rattle.std.specs.VecDeque.{deque_capacity}
 
 abbrev pub ring_state_of : RingJobs → RingState
 ring_state_of row = record { pending = row.pending.items; since = row.since }
@@ -56,10 +58,11 @@ pub record HasRooms (t : Table) : Type 0 where
   pub waits : t.spec.max_jobs ≤ vec_capacity t.waits
   pub places : t.fences.places ≡ t.spec.max_jobs
   pub queues : t.entities.places ≡ t.spec.max_jobs
-  pub pending : (ring : ℕ) (row : RingJobs) → slice_get t.rings.items ring ≡ Some row → credit_limit_of (state_of t) ring ≤ vec_capacity row.pending
+  pub pending : (ring : ℕ) (row : RingJobs) → slice_get t.rings.items ring ≡ Some row → credit_limit_of (state_of t) ring ≤ deque_capacity row.pending
 
 -- the tables of a steady device: its fences, its queues and its loads are those of its jobs, each job that has not ended has its
--- dependencies, and there is room for what may come
+-- dependencies, its rings have passed over the jobs that they are done with and count the credits of all that are pending, and there is
+-- room for what may come
 pub record IsWhole (t : Table) : Type 0 where
   pub steady : IsSteady (state_of t)
   pub limits : spec_fault t.spec ≡ None
@@ -68,6 +71,7 @@ pub record IsWhole (t : Table) : Type 0 where
   pub waits : WaitsStand t.journal.items t.waits.items
   pub queues : QueuesStand t.journal.items t.entities
   pub loads : LoadsOf t.spec t.journal.items t.loads
+  pub rows : RowsStand (state_of t) t.rings.items
   pub sizes : sizes_of t.memory.bytes ≡ sizes_of t.spec.buffers
   pub rooms : HasRooms t
 

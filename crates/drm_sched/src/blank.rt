@@ -2,25 +2,33 @@ ghost use Rattle.std.specs.Prelude.{◌≡◌, [], None, IfOk, map};
 ghost use Rattle.drm_types.specs.Limits.{spec_fault};
 ghost use Rattle.drm_sched.specs.State.{opened_device};
 ghost use Rattle.drm_sched.specs.Tables.{ring_state_of, state_of, IsWhole, AllIn};
-ghost use Rattle.drm_sched.specs.Building.{HaveRoomFor};
+ghost use Rattle.drm_sched.specs.Building.{HaveRoomFor, AreBlank};
 
 use crate::loads::Loads;
 use crate::table::{RingJobs, Table};
 use drm_buffer::Store;
 use drm_entity::Entities;
 use drm_fence::Timeline;
+use drm_ring::Credits;
 use drm_types::{DeviceSpec, RingSpec};
 use std::alloc::{AllocError, Global};
+use std::collections::VecDeque;
 
 // A row for each ring: nothing is pending, and there is room for as many jobs as its credits allow.
 fn blank_rings(alloc: Global, specs: &[RingSpec]) -> Result<Vec<RingJobs>, AllocError>
     ensures rows { IfOk result (λ rows. map ring_state_of rows.items ≡ map (λ ring. record { pending = []; since = 0 }) specs.now) }
     ensures room { IfOk result (λ rows. HaveRoomFor specs.now rows.items) }
+    ensures blank { IfOk result (λ rows. AreBlank specs.now rows.items) }
 {
     let mut rows = Vec::with_capacity(alloc, specs.len())?;
     for ring in specs {
-        let pending = Vec::with_capacity(alloc, ring.credit_limit as usize)?;
-        rows.push(RingJobs { pending, since: 0 })?;
+        let pending = VecDeque::with_capacity(alloc, ring.credit_limit as usize)?;
+        rows.push(RingJobs {
+            pending,
+            passed: 0,
+            credits: Credits::of(ring.credit_limit),
+            since: 0,
+        })?;
     }
     Ok(rows)
 }

@@ -21,7 +21,7 @@ ghost use Rattle.drm_job.specs.Fault.{IsJob};
 ghost use Rattle.drm_sched.specs.Outcomes.{pick_outcome, step_outcome, finish_outcome, timeout_outcome, cancelled_device, reap_outcome};
 ghost use Rattle.drm_sched.specs.Refusals.{arm_refusal, busy_fence, pick_refusal, step_refusal, finish_refusal, cancel_refusal, reap_refusal};
 ghost use Rattle.drm_sched.specs.State.{opened_device};
-ghost use Rattle.drm_sched.specs.Begun.{HasBegun, IsReport, HasReported, KeepsTasks, out_or, MayComeBack};
+ghost use Rattle.drm_sched.specs.Begun.{HasBegun, IsReport, HasReported, KeepsTasks, MayRun, out_or, MayComeBack};
 ghost use Rattle.drm_sched.specs.Marks.{is_in_way, is_out, ring_out, unmarked, IsSteadyMarked};
 ghost use Rattle.drm_sched.specs.Steady.{IsSteady};
 ghost use Rattle.drm_sched.specs.Tables.{fence_state_of};
@@ -125,11 +125,36 @@ impl Device {
         requires there { ring < length self.old.state.spec.rings }
         ensures begun { IfOk result (λ b. (out_or (is_in_way self.old ring) (step_refusal self.old.state ring) ≡ None) × HasBegun self.old ring b self.new) }
         ensures state { self.new.state ≡ self.old.state }
+        ensures runs { IfOk result MayRun }
         ensures back { IfOk result (MayComeBack self.new ring) }
         ensures tasks { KeepsTasks self.old ring self.new }
         ensures refused { IfErr result (λ r. (out_or (is_in_way self.old ring) (step_refusal self.old.state ring) ≡ Some r) × (self.new ≡ self.old)) }
     {
         self.parts.begin_step(ring)
+    }
+
+    /// Whether the ring has a packet out, which keeps it from a finish and a timeout.
+    pub fn has_packet_out(&self, ring: RingId) -> bool
+        requires there { ring < length self.now.state.spec.rings }
+        ensures { result ≡ ring_out self.now ring }
+    {
+        self.parts.has_out(ring)
+    }
+
+    /// Whether a packet that is out keeps the ring from a step: its own, or one that has a buffer of its next packet.
+    pub fn is_step_kept(&self, ring: RingId) -> bool
+        requires there { ring < length self.now.state.spec.rings }
+        ensures { result ≡ is_in_way self.now ring }
+    {
+        self.parts.is_in_way(ring)
+    }
+
+    /// Whether the buffer is out with a packet.
+    pub fn is_buffer_out(&self, buffer: BufferId) -> bool
+        requires there { buffer < length self.now.state.memory }
+        ensures { result ≡ is_out self.now buffer }
+    {
+        self.parts.table.memory.is_out(buffer)
     }
 
     /// Takes back the packet that the ring has out, once it ran on its buffers (`drm_sched_job_done_cb`, by which the

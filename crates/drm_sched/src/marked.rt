@@ -6,7 +6,7 @@ ghost use Rattle.drm_sched.specs.Arming.{armed_device};
 ghost use Rattle.drm_sched.specs.Plans.{DepsCover};
 ghost use Rattle.drm_sched.specs.State.{opened_device};
 ghost use Rattle.drm_sched.specs.Answers.{picked, stepped, finished, timed_out};
-ghost use Rattle.drm_sched.specs.Begun.{HasBegun, IsReport, HasReported, out_or};
+ghost use Rattle.drm_sched.specs.Begun.{HasBegun, IsReport, HasReported, MayRun, out_or};
 ghost use Rattle.drm_sched.specs.Marks.{ring_out, is_in_way, unmarked};
 ghost use Rattle.drm_sched.specs.MarkedTables.{mark_of_row, marked_of, next_asks_out, ComesBack, IsBack, IsWholeMarked};
 ghost use Rattle.drm_sched.specs.Outcomes.{step_outcome, finish_outcome, timeout_outcome, pick_outcome, cancelled_device, reap_outcome};
@@ -18,7 +18,7 @@ use crate::plans::Plan;
 use crate::running;
 use crate::table::Table;
 use drm_buffer::Buffer;
-use drm_packet::Packet;
+use drm_packet::{Packet, packets_fit_their_parts};
 use drm_types::{DeviceSpec, EntityId, FenceId, Moment, RingId};
 use std::alloc::{AllocError, Global};
 use std::mem;
@@ -97,9 +97,15 @@ impl Table {
         record.job.packet(record.ran).asks_out(&self.memory)
     }
 
-    // The packet of this number has come back: its buffers are in, and the job has run one packet more.
-    fn take_back(&mut self, number: FenceId, write: Option<Buffer>, read: Option<Buffer>)
-        requires back { ComesBack self.old number write read }
+    // The ring's packet, of this job, has come back: its buffers are in, and the job has run one packet more.
+    fn take_back(
+        &mut self,
+        ring: RingId,
+        number: FenceId,
+        write: Option<Buffer>,
+        read: Option<Buffer>,
+    )
+        requires back { ComesBack self.old ring number write read }
         requires whole { IsWhole self.old }
         ensures ran { IsBack self.old number self.new }
         ensures whole { IsWhole self.new }
@@ -110,12 +116,13 @@ impl Table {
         packet.put(&mut self.memory, write, read);
         self.journal[number as usize].ran = count + 1;
         self.fences.count_packet(number);
+        self.rings[ring as usize].pass_over(&self.journal);
     }
 }
 
 impl MarkedTable {
     // Whether the ring has a packet out.
-    fn has_out(&self, ring: RingId) -> bool
+    pub(crate) fn has_out(&self, ring: RingId) -> bool
         requires { ring < length self.now.marks.items }
         ensures { result ≡ ring_out (marked_of self.now) ring }
     {
@@ -123,7 +130,7 @@ impl MarkedTable {
     }
 
     // Whether a packet that is out keeps the ring from a step.
-    fn is_in_way(&self, ring: RingId) -> bool
+    pub(crate) fn is_in_way(&self, ring: RingId) -> bool
         requires there { ring < length self.now.table.spec.rings }
         requires whole { IsWholeMarked self.now }
         ensures { result ≡ is_in_way (marked_of self.now) ring }
@@ -139,6 +146,7 @@ impl MarkedTable {
         requires there { ring < length self.old.table.spec.rings }
         requires whole { IsWholeMarked self.old }
         ensures begun { IfOk result (λ b. (out_or (is_in_way (marked_of self.old) ring) (step_refusal (state_of self.old.table) ring) ≡ None) × HasBegun (marked_of self.old) ring b (marked_of self.new)) }
+        ensures runs { IfOk result MayRun }
         ensures refused { IfErr result (λ r. (out_or (is_in_way (marked_of self.old) ring) (step_refusal (state_of self.old.table) ring) ≡ Some r) × (self.new ≡ self.old)) }
         ensures whole { IsWholeMarked self.new }
     {
@@ -154,6 +162,7 @@ impl MarkedTable {
         if running::must_stall(packet, record.karma.resets()) {
             return Ok(Begun::Stalled { fence: number });
         }
+        packets_fit_their_parts();
         let (write, read) = packet.take(&mut self.table.memory);
         self.marks[ring as usize] = Some(OutMark::of(number, count, &write, &read));
         Ok(Begun::Work {
@@ -179,7 +188,7 @@ impl MarkedTable {
     {
         match mem::replace(&mut self.marks[ring as usize], None) {
             Some(mark) => {
-                self.table.take_back(mark.fence, write, read);
+                self.table.take_back(ring, mark.fence, write, read);
                 (mark.fence, mark.packet)
             }
             None => unreachable!(),

@@ -12,6 +12,7 @@ use crate::journal::JobRecord;
 use crate::table::{self, Table};
 use drm_reset::{HeadView, Verdict, judge};
 use drm_types::{EntityId, FenceId, Moment, Priority, RingId};
+use std::collections::VecDeque;
 
 // The job is skipped if it is of the entity.
 fn skip(journal: &mut Vec<JobRecord>, number: FenceId, entity: EntityId)
@@ -24,13 +25,13 @@ fn skip(journal: &mut Vec<JobRecord>, number: FenceId, entity: EntityId)
 }
 
 // The entity's jobs among these are skipped.
-fn condemn(journal: &mut Vec<JobRecord>, pending: &[FenceId], entity: EntityId)
-    requires { (k f : ℕ) → slice_get pending.now k ≡ Some f → f < vec_len journal.old }
-    ensures journal { journal.new.items ≡ all_skipped entity journal.old.items pending.now }
+fn condemn(journal: &mut Vec<JobRecord>, pending: &VecDeque<FenceId>, entity: EntityId)
+    requires { (k f : ℕ) → slice_get pending.now.items k ≡ Some f → f < vec_len journal.old }
+    ensures journal { journal.new.items ≡ all_skipped entity journal.old.items pending.now.items }
     ensures room { vec_capacity journal.new ≡ vec_capacity journal.old }
 {
-    for number in pending {
-        skip(journal, *number, entity);
+    for place in 0..pending.len() {
+        skip(journal, pending[place], entity);
     }
 }
 
@@ -82,15 +83,13 @@ impl Table {
         let priority = self.priority_of(entity);
         let limit = self.ring_spec(ring).hang_limit;
         let is_guilty = blame(&mut self.journal, number, priority, limit);
-        self.rings[ring as usize].since = now;
+        let row = &mut self.rings[ring as usize];
+        row.since = now;
         if !is_guilty {
             return Expired::Resumed;
         }
-        condemn(
-            &mut self.journal,
-            &self.rings[ring as usize].pending,
-            entity,
-        );
+        condemn(&mut self.journal, &row.pending, entity);
+        row.pass_over(&self.journal);
         self.entities.set_guilty(entity);
         Expired::Guilty { entity }
     }

@@ -2,7 +2,6 @@ ghost use Rattle.std.specs.Prelude.{◌≡◌, ◌<◌, ◌||◌, not, length, m
 ghost use Rattle.std.specs.Option.{option_map_or};
 ghost use Rattle.drm_fence.specs.Phases.{is_queued, has_ended};
 ghost use Rattle.drm_sched.specs.Choice.{choice};
-ghost use Rattle.drm_sched.specs.Ring.{free_credits};
 ghost use Rattle.drm_sched.specs.Journal.{is_at, changed_at};
 ghost use Rattle.drm_sched.specs.Outcomes.{must_stall as must_stall_at, pick_outcome, step_outcome, finish_outcome, ended_at};
 ghost use Rattle.drm_sched.specs.Refusals.{pick_refusal, step_refusal, finish_refusal};
@@ -87,15 +86,6 @@ impl Table {
         choice::choose(&self.spec, &self.journal, &self.waits, &self.entities, ring)
     }
 
-    // The credits that the ring has left.
-    fn free_credits(&self, ring: RingId) -> u32
-        requires there { ring < length self.now.spec.rings }
-        requires whole { IsWhole self.now }
-        ensures { result ≡ free_credits (state_of self.now) ring }
-    {
-        self.ring_spec(ring).credit_limit as u32 - self.used_credits(ring)
-    }
-
     /// Gives the ring the job that it takes next, if it fits.
     pub(crate) fn pick(&mut self, ring: RingId, now: Moment) -> Result<Picked, Refusal>
         requires there { ring < length self.old.spec.rings }
@@ -113,11 +103,15 @@ impl Table {
         if need > free {
             return Err(Refusal::NoCredit { need, free });
         }
-        let entity = self.journal[number as usize].job.entity();
+        let job = &self.journal[number as usize].job;
+        let entity = job.entity();
+        let credits = job.credits();
         let skipped = self.entities.is_guilty(entity);
         schedule_job(&mut self.journal, &mut self.fences, number, skipped);
         self.entities.pop(entity);
-        self.rings[ring as usize].put(number, now);
+        let row = &mut self.rings[ring as usize];
+        row.put(number, credits, now);
+        row.pass_over(&self.journal);
         Ok(Picked {
             fence: number,
             skipped,
@@ -146,6 +140,7 @@ impl Table {
         packet.run_in(&mut self.memory);
         self.journal[number as usize].ran = count + 1;
         self.fences.count_packet(number);
+        self.rings[ring as usize].pass_over(&self.journal);
         Ok(Stepped::Ran {
             fence: number,
             packet: count,
@@ -167,8 +162,9 @@ impl Table {
         let Some(outcome) = final_outcome(&self.journal, number) else {
             return Err(Refusal::NotComplete);
         };
+        let credits = self.journal[number as usize].job.credits();
         end_job(&mut self.journal, &mut self.fences, number, outcome);
-        self.rings[ring as usize].pop(now);
+        self.rings[ring as usize].pop(credits, now);
         self.loads.end(ring);
         Ok(Finished {
             fence: number,

@@ -15,6 +15,7 @@ use crate::running;
 use crate::table::Table;
 use drm_resv::Deps;
 use drm_types::{EntityId, FenceId, Outcome};
+use std::collections::VecDeque;
 
 // Whether the job is there and has its outcome.
 fn has_outcome(journal: &[JobRecord], fence: FenceId) -> bool
@@ -46,15 +47,20 @@ fn is_of(journal: &[JobRecord], fence: FenceId, entity: EntityId) -> bool
 }
 
 // Whether none of these jobs is of the entity.
-fn none_is_of(journal: &[JobRecord], pending: &[FenceId], entity: EntityId) -> bool
-    ensures { result ≡ list_all (λ f. not (is_at journal.now f (λ r. r.job.entity == entity))) pending.now }
+fn none_is_of(journal: &[JobRecord], pending: &VecDeque<FenceId>, entity: EntityId) -> bool
+    ensures { result ≡ list_all (λ f. not (is_at journal.now f (λ r. r.job.entity == entity))) pending.now.items }
 {
     pending.iter().all(|fence| !is_of(journal, *fence, entity))
 }
 
 // Whether the jobs that the entity's first queued one waits for all have outcomes, and none of the entity is pending.
-fn may_end(journal: &[JobRecord], deps: &Deps, pending: &[FenceId], entity: EntityId) -> bool
-    ensures { result ≡ may_end_after journal.now deps.now pending.now entity }
+fn may_end(
+    journal: &[JobRecord],
+    deps: &Deps,
+    pending: &VecDeque<FenceId>,
+    entity: EntityId,
+) -> bool
+    ensures { result ≡ may_end_after journal.now deps.now pending.now.items entity }
 {
     have_outcomes(journal, deps) && none_is_of(journal, pending, entity)
 }

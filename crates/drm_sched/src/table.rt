@@ -1,8 +1,11 @@
-ghost use Rattle.std.specs.Prelude.{◌≡◌, ◌<◌, ◌≤◌, not, length, find, min, sum_by, Some, false, slice_get, vec_len, vec_capacity};
+ghost use Rattle.std.specs.Prelude.{◌≡◌, ◌+◌, ◌-◌, ◌<◌, ◌≤◌, length, min, Some, slice_get};
+ghost use Rattle.std.specs.VecDeque.{deque_len, deque_capacity};
 ghost use Rattle.std.specs.Option.{option_map_or};
-ghost use Rattle.drm_sched.specs.Journal.{is_at, is_complete as is_complete_record};
-ghost use Rattle.drm_sched.specs.Ring.{current_of, head_of, credits_of, used_credits, credit_limit_of};
-ghost use Rattle.drm_sched.specs.Tables.{state_of};
+ghost use Rattle.drm_sched.specs.Journal.{is_complete as is_complete_record};
+ghost use Rattle.drm_ring.specs.Counted.{need_of, free_of};
+ghost use Rattle.drm_sched.specs.Ring.{current_of, head_of, credits_of, free_credits};
+ghost use Rattle.drm_sched.specs.Rows.{is_open as is_open_at, passed_of};
+ghost use Rattle.drm_sched.specs.Tables.{state_of, IsWhole};
 
 use crate::journal::JobRecord;
 use crate::loads::Loads;
@@ -10,12 +13,20 @@ use drm_buffer::Store;
 use drm_entity::Entities;
 use drm_fence::Timeline;
 use drm_resv::Deps;
+use drm_ring::Credits;
 use drm_types::{DeviceSpec, FenceId, Moment, RingId, RingSpec};
+use std::collections::VecDeque;
 
-/// A ring: the numbers of its pending jobs in order, and the moment from which its head's age counts.
+/// A ring: the numbers of its pending jobs in order (`pending_list` of `struct drm_gpu_scheduler`).
 #[derive(Drop)]
 pub struct RingJobs {
-    pub pending: Vec<FenceId>,
+    pub pending: VecDeque<FenceId>,
+    /// How many jobs at the front the ring is done with. It runs the one behind them, which is so found in constant
+    /// time: each job is passed over once.
+    pub passed: usize,
+    /// What all of them count.
+    pub credits: Credits,
+    /// The moment from which the head's age counts.
     pub since: Moment,
 }
 
@@ -43,7 +54,7 @@ pub(crate) fn is_complete(armed: &JobRecord) -> bool
 
 // Whether the job is there and has packets to run.
 fn is_open(journal: &[JobRecord], fence: FenceId) -> bool
-    ensures { result ≡ is_at journal.now fence (λ r. not (is_complete_record r)) }
+    ensures { result ≡ is_open_at journal.now fence }
 {
     match journal.get(fence as usize) {
         Some(record) => !is_complete(record),
@@ -51,14 +62,16 @@ fn is_open(journal: &[JobRecord], fence: FenceId) -> bool
     }
 }
 
-// The first of these jobs that has packets to run.
-fn first_open(journal: &[JobRecord], pending: &[FenceId]) -> Option<FenceId>
-    ensures { result ≡ find (λ f. is_at journal.now f (λ r. not (is_complete_record r))) pending.now }
+// How many of these jobs stand before the first one that has packets to run. So many are known to do.
+fn count_passed(journal: &[JobRecord], pending: &VecDeque<FenceId>, known: usize) -> usize
+    requires { known ≤ passed_of (is_open_at journal.now) pending.now.items }
+    ensures { result ≡ passed_of (is_open_at journal.now) pending.now.items }
 {
-    pending
-        .iter()
-        .copied()
-        .find(|fence| is_open(journal, *fence))
+    let mut passed = known;
+    while passed < pending.len() && !is_open(journal, pending[passed]) {
+        passed += 1;
+    }
+    passed
 }
 
 // How many credits the job counts with on a ring of this limit.
@@ -71,42 +84,49 @@ fn counted_credits(journal: &[JobRecord], fence: FenceId, limit: u16) -> u16
     }
 }
 
-// The credits of these jobs together.
-fn sum_of_credits(journal: &[JobRecord], pending: &[FenceId], limit: u16) -> u32
-    requires { sum_by (λ f. option_map_or (λ r. min r.job.credits limit) (slice_get journal.now f) 0) pending.now ≤ limit }
-    ensures { result ≡ sum_by (λ f. option_map_or (λ r. min r.job.credits limit) (slice_get journal.now f) 0) pending.now }
-{
-    pending
-        .iter()
-        .map(|fence| counted_credits(journal, *fence, limit) as u32)
-        .sum()
-}
-
 impl RingJobs {
     ghost use Rattle.drm_sched.specs.Tables.{ring_state_of, put_in, popped_at};
 
-    // One more pending job. The age of the first one counts from now.
-    pub(crate) fn put(&mut self, number: FenceId, now: Moment)
-        requires room { vec_len self.old.pending < vec_capacity self.old.pending }
+    // One more pending job, which fits with its credits. The age of the first one counts from now.
+    pub(crate) fn put(&mut self, number: FenceId, credits: u16, now: Moment)
+        requires room { deque_len self.old.pending < deque_capacity self.old.pending }
+        requires fits { need_of self.old.credits credits ≤ free_of self.old.credits }
         ensures row { ring_state_of self.new ≡ put_in number now (ring_state_of self.old) }
-        ensures room { vec_capacity self.new.pending ≡ vec_capacity self.old.pending }
+        ensures passed { self.new.passed ≡ self.old.passed }
+        ensures credits { self.new.credits ≡ record self.old.credits { count = self.old.credits.count + need_of self.old.credits credits } }
+        ensures room { deque_capacity self.new.pending ≡ deque_capacity self.old.pending }
     {
         if self.pending.is_empty() {
             self.since = now;
         }
-        self.pending.push_reserved(number);
+        self.pending.push_back_reserved(number);
+        self.credits.take(credits);
     }
 
-    // The head leaves. The age of the next one counts from now.
-    pub(crate) fn pop(&mut self, now: Moment)
-        requires head { 0 < vec_len self.old.pending }
+    // The head leaves, which was passed over, and gives its credits back. The age of the next one counts from now.
+    pub(crate) fn pop(&mut self, credits: u16, now: Moment)
+        requires head { 0 < deque_len self.old.pending }
+        requires passed { 0 < self.old.passed }
+        requires credits { need_of self.old.credits credits ≤ self.old.credits.count }
         ensures row { ring_state_of self.new ≡ popped_at now (ring_state_of self.old) }
-        ensures room { vec_capacity self.new.pending ≡ vec_capacity self.old.pending }
+        ensures passed { self.new.passed + 1 ≡ self.old.passed }
+        ensures credits { self.new.credits ≡ record self.old.credits { count = self.old.credits.count - need_of self.old.credits credits } }
+        ensures room { deque_capacity self.new.pending ≡ deque_capacity self.old.pending }
     {
         if self.pending.len() != 1 {
             self.since = now;
         }
-        self.pending.remove(0);
+        self.pending.pop_front();
+        self.passed -= 1;
+        self.credits.give_back(credits);
+    }
+
+    // Passes over the jobs that the ring is done with by now.
+    pub(crate) fn pass_over(&mut self, journal: &[JobRecord])
+        requires { self.old.passed ≤ passed_of (is_open_at journal.now) self.old.pending.items }
+        ensures { self.new ≡ record self.old { passed = passed_of (is_open_at journal.now) self.old.pending.items } }
+    {
+        self.passed = count_passed(journal, &self.pending, self.passed);
     }
 }
 
@@ -120,10 +140,12 @@ impl Table {
 
     /// The first pending job of the ring that has packets to run.
     pub(crate) fn current(&self, ring: RingId) -> Option<FenceId>
-        requires { ring < length self.now.rings.items }
+        requires there { ring < length self.now.spec.rings }
+        requires whole { IsWhole self.now }
         ensures { result ≡ current_of (state_of self.now) ring }
     {
-        first_open(&self.journal, &self.rings[ring as usize].pending)
+        let row = &self.rings[ring as usize];
+        row.pending.get(row.passed).copied()
     }
 
     /// The first pending job of the ring.
@@ -131,18 +153,16 @@ impl Table {
         requires { ring < length self.now.rings.items }
         ensures { result ≡ head_of (state_of self.now) ring }
     {
-        self.rings[ring as usize].pending.first().copied()
+        self.rings[ring as usize].pending.front().copied()
     }
 
-    /// The credits that the pending jobs of the ring count.
-    pub(crate) fn used_credits(&self, ring: RingId) -> u32
-        requires there { ring < length self.now.rings.items }
-        requires spec { ring < length self.now.spec.rings }
-        requires within { used_credits (state_of self.now) ring ≤ credit_limit_of (state_of self.now) ring }
-        ensures { result ≡ used_credits (state_of self.now) ring }
+    /// The credits that the ring has left (`drm_sched_available_credits`).
+    pub(crate) fn free_credits(&self, ring: RingId) -> u32
+        requires there { ring < length self.now.spec.rings }
+        requires whole { IsWhole self.now }
+        ensures { result ≡ free_credits (state_of self.now) ring }
     {
-        let limit = self.ring_spec(ring).credit_limit;
-        sum_of_credits(&self.journal, &self.rings[ring as usize].pending, limit)
+        self.rings[ring as usize].credits.free() as u32
     }
 
     /// How many credits the job counts with on the ring.

@@ -12,3 +12,4 @@ pub mod RingLists
 pub mod ScriptReaders
 pub mod CoreJournal
 pub mod ShortNumbers
+pub mod WordKinds

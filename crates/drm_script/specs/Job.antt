@@ -1,5 +1,5 @@
 -- The words of a job.
-use Rattle.std.specs.Prelude.{ℕ, Bool, false, not, ◌||◌, ◌++◌, length, ◌+◌, ◌-◌, ◌^◌, ◌==◌, List, [], ◌∷◌, codes, Option, Some, None, Result, Ok, Err, if◌then◌else◌}
+use Rattle.std.specs.Prelude.{ℕ, Bool, false, not, ◌||◌, ◌++◌, length, ◌+◌, ◌-◌, ◌^◌, ◌==◌, List, [], ◌∷◌, codes, Option, Some, None, unwrap_or, Result, Ok, Err, if◌then◌else◌}
 use Rattle.std.specs.List.{list_any}
 use Rattle.std.specs.Str.{bytes_eq}
 use Rattle.drm_packet.specs.declared.Packet.{Packet}
@@ -33,6 +33,10 @@ kind_by_first (byte ∷ rest) =
 -- what a word of a job is; one that has a colon is a packet
 abbrev pub kind_of : List ℕ → Option Kind
 kind_of word = if list_any (λ b. b == 58) word then Some kind.Packet else kind_by_first word
+
+-- what a word is read as: one that begins as no declaration and no fence is read as a packet
+abbrev pub kind_read : List ℕ → Kind
+kind_read word = unwrap_or (if list_any (λ b. b == 58) word then None else kind_by_first word) kind.Packet
 
 -- the four elements of a list that has four
 unfoldable pub four_of : List (List ℕ) → Option (List ℕ × List ℕ × List ℕ × List ℕ)

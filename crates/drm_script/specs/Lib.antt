@@ -9,3 +9,4 @@ pub mod JournalText
 pub mod Leaving
 pub mod Script
 pub mod Transfer
+pub mod Kept

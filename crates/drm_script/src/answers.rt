@@ -10,6 +10,7 @@ use drm_types::Outcome;
 use std::alloc::{AllocError, Global};
 
 /// A number of one digit.
+#[inline]
 #[tactic(auto, using(crate::proofs::ShortNumbers::one_digit))]
 fn put_digit(out: &mut Vec<u8>, digit: u64) -> Result<(), AllocError>
     requires { digit < 10 }
@@ -20,6 +21,7 @@ fn put_digit(out: &mut Vec<u8>, digit: u64) -> Result<(), AllocError>
 }
 
 /// A number of two digits.
+#[inline]
 #[tactic(auto, using(crate::proofs::ShortNumbers::two_digits))]
 fn put_two_digits(out: &mut Vec<u8>, value: u64) -> Result<(), AllocError>
     requires least { 10 ≤ value }
@@ -31,6 +33,7 @@ fn put_two_digits(out: &mut Vec<u8>, value: u64) -> Result<(), AllocError>
 }
 
 /// A number of any length. Its digits are put one by one.
+#[inline(never)]
 fn put_digits(out: &mut Vec<u8>, value: u64) -> Result<(), AllocError>
     ensures { OnOk result (out.new.items ≡ out.old.items ++ decimal value) }
 {
@@ -43,6 +46,7 @@ fn put_digits(out: &mut Vec<u8>, value: u64) -> Result<(), AllocError>
 }
 
 /// A number. Most have one or two digits.
+#[inline(never)]
 pub fn put_decimal(out: &mut Vec<u8>, value: u64) -> Result<(), AllocError>
     ensures { OnOk result (out.new.items ≡ out.old.items ++ decimal value) }
 {
@@ -55,7 +59,9 @@ pub fn put_decimal(out: &mut Vec<u8>, value: u64) -> Result<(), AllocError>
     put_digits(out, value)
 }
 
-/// A word, and numbers behind it, each after the separator.
+/// A word, and numbers behind it, each after the separator. Where the word and the count of numbers are constants, as they
+/// are almost everywhere, the code becomes a few stores.
+#[inline(always)]
 pub fn put_separated(
     out: &mut Vec<u8>,
     word: &[u8],
@@ -73,6 +79,7 @@ pub fn put_separated(
 }
 
 /// A word, and numbers behind it, each after a space.
+#[inline(always)]
 pub fn put_numbers(out: &mut Vec<u8>, word: &[u8], values: &[u64]) -> Result<(), AllocError>
     ensures { OnOk result (out.new.items ≡ out.old.items ++ word.now ++ numbers values.now) }
 {
@@ -100,6 +107,7 @@ fn number_of(list: DraftList) -> u64
     }
 }
 
+#[inline(always)]
 fn put_refused(out: &mut Vec<u8>, values: &[u64]) -> Result<(), AllocError>
     ensures { OnOk result (out.new.items ≡ out.old.items ++ codes "refused" ++ numbers values.now) }
 {
@@ -208,8 +216,9 @@ fn put_answer(out: &mut Vec<u8>, answer: &Answer) -> Result<(), AllocError>
     }
 }
 
+/// The line of an answer.
 #[tactic(auto, unfolding(crate::specs::Answers::line_of))]
-fn put_line(out: &mut Vec<u8>, answer: &Answer) -> Result<(), AllocError>
+pub fn put_line(out: &mut Vec<u8>, answer: &Answer) -> Result<(), AllocError>
     ensures { OnOk result (out.new.items ≡ out.old.items ++ line_of answer.now) }
 {
     put_answer(out, answer)?;

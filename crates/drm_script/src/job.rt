@@ -4,7 +4,7 @@ ghost use Rattle.std.specs.Prelude.{◌≡◌, ◌≤◌, ◌==◌, [], length};
 ghost use Rattle.std.specs.List.{list_any};
 ghost use Rattle.std.specs.Option.{option_map};
 ghost use Rattle.drm_text.specs.Reading.{Reads, Gives};
-ghost use Rattle.drm_script.specs.Job.{kind_of, one_of, number_first, byte_alone, number_alone, fill_from, fill_in_turn, route_from, route_in_turn, fill_at, route_at, copy_at, add_at, stall_at, packet_at, is_late, tail_at, with_item, with_word, with_words, job_at};
+ghost use Rattle.drm_script.specs.Job.{kind_read, one_of, number_first, byte_alone, number_alone, fill_from, fill_in_turn, route_from, route_in_turn, fill_at, route_at, copy_at, add_at, stall_at, packet_at, is_late, tail_at, with_item, with_word, with_words, job_at};
 
 use drm_job::Draft;
 use drm_packet::Packet;
@@ -28,20 +28,22 @@ fn has_colon(word: &[u8]) -> bool
     word.iter().any(|b| *b == b':')
 }
 
-fn read_kind(word: &[u8]) -> Option<Kind>
-    ensures { result ≡ kind_of word.now }
+/// What a word is read as: where it begins as no declaration and no fence, a packet, whose name then tells whether it is one.
+fn read_kind(word: &[u8]) -> Kind
+    ensures { result ≡ kind_read word.now }
 {
+    let kind = match word {
+        [b'r', ..] => Kind::Declared(Access::Read),
+        [b'w', ..] => Kind::Declared(Access::Write),
+        [b'h', ..] => Kind::Declared(Access::Hold),
+        [b'm', ..] => Kind::Declared(Access::Move),
+        [b'a', ..] => Kind::After,
+        _ => return Kind::Packet,
+    };
     if has_colon(word) {
-        return Some(Kind::Packet);
+        return Kind::Packet;
     }
-    match word {
-        [b'r', ..] => Some(Kind::Declared(Access::Read)),
-        [b'w', ..] => Some(Kind::Declared(Access::Write)),
-        [b'h', ..] => Some(Kind::Declared(Access::Hold)),
-        [b'm', ..] => Some(Kind::Declared(Access::Move)),
-        [b'a', ..] => Some(Kind::After),
-        _ => None,
-    }
+    kind
 }
 
 /// The next piece as a number, if a piece is left. It may spell none.
@@ -234,11 +236,12 @@ fn read_packet(position: Position, word: &[u8]) -> Result<Packet, Fault>
     Err(position.fault(TextFault::Word))
 }
 
+#[tactic(auto, using(crate::proofs::WordKinds::word_is_read))]
 fn add_word(draft: &mut Draft, position: Position, word: &[u8]) -> Result<(), ReadError>
     requires { length word.now ≤ 1048576 }
     ensures { Gives (λ _. draft.new) result (with_word draft.old position word.now) }
 {
-    let kind = read_kind(word).ok_or(position.fault(TextFault::Word))?;
+    let kind = read_kind(word);
     if comes_late(draft, kind) {
         return Err(ReadError::Fault(position.fault(TextFault::Word)));
     }

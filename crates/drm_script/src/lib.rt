@@ -9,17 +9,20 @@
 mod answers;
 mod command;
 mod core_journal;
+mod events;
 mod header;
 mod input;
 mod job;
 mod journal;
 mod journal_text;
+mod kept;
 mod laws;
 mod output;
 mod script;
 
-pub use answers::write_answers;
+pub use answers::{put_line, write_answers};
 pub use drm_text::{Fault, ReadError, TextFault};
+pub use events::{Events, EventsLeft};
 pub use input::{InputError, read_input, read_journal_from, read_script_from};
 pub use journal::{Journal, JournalJob, read_journal};
 pub use journal_text::write_journal;

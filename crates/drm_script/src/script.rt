@@ -8,10 +8,10 @@ ghost use Rattle.drm_script.specs.Grammar.{IsReadAsSpelled, SpellsScript};
 ghost use Rattle.drm_script.specs.Script.{script_of, judge_script};
 
 use crate::command::read_event_line;
+use crate::events::Events;
 use crate::header::read_header;
-use drm_core::Event;
 use drm_text::{Fault, Lines, MAX_TEXT, ReadError, TextFault};
-use drm_types::{DeviceSpec, Sequence};
+use drm_types::DeviceSpec;
 use std::alloc::Global;
 
 /// What a script spells.
@@ -20,22 +20,19 @@ pub struct Script {
     /// The device that the header describes.
     pub spec: DeviceSpec,
     /// The events of the command lines, in their order.
-    pub lines: Sequence<Event>,
+    pub lines: Events,
 }
 
 /// The events of the lines that are left.
 #[tactic(auto, unfolding(crate::specs::Commands::events_of))]
-fn read_events(
-    alloc: Global,
-    spec: &DeviceSpec,
-    lines: &mut Lines,
-) -> Result<Sequence<Event>, ReadError>
+fn read_events(alloc: Global, spec: &DeviceSpec, lines: &mut Lines) -> Result<Events, ReadError>
     ensures value { Gives (λ events. events) result (events_of spec.now [] lines.old.line lines.old.bytes lines.old.more) }
     ensures exist { IfOk result (λ events. AllNamesExist spec.now events) }
 {
-    let mut events = Sequence::new(alloc);
+    let mut events = Events::new(alloc);
     while let Some(line) = lines.next() {
-        events.push(read_event_line(alloc, spec, &line)?)?;
+        let event = read_event_line(alloc, spec, &line)?;
+        events.push(alloc, event)?;
     }
     lines.end()?;
     Ok(events)

@@ -148,10 +148,14 @@ fn the_events_of_all_commands(rt: HostRuntime) -> Result<(), Fail> {
         (16, 4294967295, 0),
         (17, 1, 0),
     ];
-    assert_eq!(rt; script.lines.len(), want.len());
-    for (event, want) in script.lines.as_slice().iter().zip(&want) {
-        assert_eq!(rt; numbers_of(event), *want);
+    let mut left = script.lines.into_left();
+    for want in &want {
+        let Some(event) = left.next() else {
+            panic!(rt; "too few events");
+        };
+        assert_eq!(rt; numbers_of(&event), *want);
     }
+    assert!(rt; left.next().is_none());
     Ok(())
 }
 
@@ -160,7 +164,7 @@ fn words_of_a_job(rt: HostRuntime) -> Result<(), Fail> {
     let Some(script) = all_commands(rt.alloc()) else {
         panic!(rt; "refused");
     };
-    let Some(Event::Submit { draft }) = script.lines.as_slice().first() else {
+    let Some(Event::Submit { draft }) = script.lines.into_left().next() else {
         panic!(rt; "no job");
     };
     assert_eq!(rt; draft.declared.len(), 2);
@@ -175,7 +179,7 @@ fn declarations_of_a_job(rt: HostRuntime) -> Result<(), Fail> {
     let Ok(script) = read_script(rt.alloc(), &text) else {
         panic!(rt; "refused");
     };
-    let Some(Event::Submit { draft }) = script.lines.as_slice().first() else {
+    let Some(Event::Submit { draft }) = script.lines.into_left().next() else {
         panic!(rt; "no job");
     };
     let want = [Access::Move, Access::Hold, Access::Write, Access::Read];
@@ -218,7 +222,7 @@ fn packets_of_a_job(rt: HostRuntime) -> Result<(), Fail> {
     let Some(script) = all_commands(rt.alloc()) else {
         panic!(rt; "refused");
     };
-    let Some(Event::Submit { draft }) = script.lines.as_slice().first() else {
+    let Some(Event::Submit { draft }) = script.lines.into_left().next() else {
         panic!(rt; "no job");
     };
     let want = packets();

@@ -1,7 +1,8 @@
 -- Steps of the loop that writes two digits for each byte.
-use Rattle.std.proofs.Common.{◌≡◌, ℕ, ◌+◌, ◌*◌, ◌/◌, ◌%◌, ◌<◌, ◌≤◌, List, [], ◌∷◌, ◌++◌, length, take, drop, slice_index, slice_set, refl, arith}
+use Rattle.std.proofs.Common.{◌≡◌, ℕ, ◌+◌, ◌*◌, ◌/◌, ◌%◌, ◌<◌, ◌≤◌, List, [], ◌∷◌, ◌++◌, length, take, drop, slice_index, slice_set, refl, sym, ap, ◌∙◌, take-append-drop, arith}
 use Rattle.std.proofs.lemmas.List.{append_assoc, append-nil, drop_all, drop_more, take_all, take_more_set, length-set}
-use Rattle.drm_text.specs.Hexadecimal.{digit_of, text_of_bytes}
+use Rattle.std.proofs.lemmas.Grind.{flat_map-append}
+use Rattle.drm_text.specs.Hexadecimal.{digit_of, text_of_byte, text_of_bytes}
 
 -- two writes in a row, seen from the front
 two_writes : (xs : List ℕ) (o x y : ℕ) → o + 1 < length xs
@@ -37,3 +38,7 @@ all_filled bytes room i h len inv =
     let d = drop_all i bytes h in
     let a = take_all (2 * i) room (omega arith) in
     rw (d, a, append-nil) at inv
+
+-- bytes are written in two parts as at once
+pub cut_text : (n : ℕ) (bytes : List ℕ) → text_of_bytes (take n bytes) ++ text_of_bytes (drop n bytes) ≡ text_of_bytes bytes
+cut_text n bytes = sym (flat_map-append text_of_byte (take n bytes) (drop n bytes)) ∙ ap text_of_bytes (take-append-drop n bytes)

@@ -1,6 +1,6 @@
 //! Bytes as hexadecimal digits in lower case.
 
-ghost use Rattle.std.specs.Prelude.{◌≡◌, ◌++◌, ◌*◌, ◌<◌, is_some, length, OnOk};
+ghost use Rattle.std.specs.Prelude.{◌≡◌, ◌++◌, ◌*◌, ◌<◌, ◌≤◌, is_some, length, OnOk};
 ghost use Rattle.std.specs.List.{list_all};
 ghost use Rattle.drm_text.specs.Hexadecimal.{hex_digit, is_hex_digit, byte_of, bytes_of, bytes_at, last_bytes_at, digit_of, text_of_bytes};
 ghost use Rattle.drm_text.specs.Reading.{Gives, LacksMemoryAlone, or_fault};
@@ -127,8 +127,8 @@ fn fill_digits(room: &mut [u8], bytes: &[u8])
     }
 }
 
-/// Each byte as two digits.
-pub fn put_bytes(out: &mut Vec<u8>, bytes: &[u8]) -> Result<(), AllocError>
+/// A few bytes, each as two digits. The room behind the text is filled with zeros first.
+fn put_few(out: &mut Vec<u8>, bytes: &[u8]) -> Result<(), AllocError>
     ensures { OnOk result (out.new.items ≡ out.old.items ++ text_of_bytes bytes.now) }
 {
     let start = out.len();
@@ -139,4 +139,34 @@ pub fn put_bytes(out: &mut Vec<u8>, bytes: &[u8]) -> Result<(), AllocError>
     let (_, room) = out.split_at_mut(start);
     fill_digits(room, bytes);
     Ok(())
+}
+
+/// So many bytes are written at a time.
+const BLOCK: usize = 512;
+
+/// Room for the digits of a block.
+const BLOCK_DIGITS: usize = 1024;
+
+/// The bytes of a block, each as two digits.
+fn put_block(out: &mut Vec<u8>, bytes: &[u8]) -> Result<(), AllocError>
+    requires { length bytes.now ≤ 512 }
+    ensures { OnOk result (out.new.items ≡ out.old.items ++ text_of_bytes bytes.now) }
+{
+    let mut digits = [0u8; BLOCK_DIGITS];
+    let (room, _) = digits.split_at_mut(2 * bytes.len());
+    fill_digits(room, bytes);
+    out.extend_from_slice(room)
+}
+
+/// Each byte as two digits. Many bytes are written block by block, so that no more than a block is filled with zeros first.
+pub fn put_bytes(out: &mut Vec<u8>, bytes: &[u8]) -> Result<(), AllocError>
+    ensures { OnOk result (out.new.items ≡ out.old.items ++ text_of_bytes bytes.now) }
+{
+    let mut rest = bytes;
+    while rest.len() >= BLOCK {
+        let (block, after) = rest.split_at(BLOCK);
+        put_block(out, block)?;
+        rest = after;
+    }
+    put_few(out, rest)
 }

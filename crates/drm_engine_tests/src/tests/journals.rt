@@ -1,10 +1,12 @@
 //! The engines `serial` and `check`.
 
+ghost use Rattle.drm_script.specs.Commands.{AllNamesExist};
+
 use super::{Told, try_failed_reads, try_failed_writes, try_run};
 use crate::{SlowWriter, run_on};
 use drm_core::Core;
 use drm_engine::Engine;
-use drm_script::{Journal, read_journal, read_script, write_journal};
+use drm_script::{Events, Journal, read_journal, read_script, write_journal};
 use std::alloc::Global;
 use std::test::Fail;
 
@@ -132,11 +134,21 @@ const HUNG: &[u8] = b"buffer 00000000\nring 4 10 0\nentity 0 normal\njobs 8\ngo\
 job 1 -125 0 1 w0 fill:0:0:2:07 stall:9 fill:0:2:2:07\njob 0 -125 0 1 w0 fill:0:0:4:08\n\
 job 0 -125 0 1 w0 fill:0:0:4:09\njob 0 0 0 1 w0\nfinal 07070000\nend\n";
 
+/// Gives the core the events.
+fn run_events(alloc: Global, core: &mut Core, events: Events)
+    requires { AllNamesExist core.old.device.spec events }
+{
+    let mut left = events.into_left();
+    while let Some(event) = left.next() {
+        let _answer = core.apply(alloc, event);
+    }
+}
+
 /// The journal of what a core did with the script.
 fn journal_of(alloc: Global, script: &[u8]) -> Option<Journal> {
     let script = read_script(alloc, script).ok()?;
     let mut core = Core::build(alloc, script.spec).ok()?;
-    core.run(alloc, script.lines.into_vec()).ok()?;
+    run_events(alloc, &mut core, script.lines);
     Journal::of_core(alloc, core).ok()
 }
 

@@ -6,6 +6,8 @@ use Rattle.ww_lock.specs.Rule.{In}
 use Rattle.drm_types.specs.declared.spec.DeviceSpec.{DeviceSpec}
 use Rattle.drm_gpu.specs.Passes.{GpuState, PassState, GrowsTo, last_of}
 use Rattle.drm_gpu.proofs.Chains.{saw}
+use Rattle.drm_gpu.proofs.Left.{jobs_of}
+use Rattle.drm_gpu.proofs.Read.{count_by_sizes}
 use Rattle.drm_gpu.proofs.Lists.{slice_of}
 use Rattle.drm_gpu.proofs.gpu.Gpu.close.Goals as goal
 
@@ -19,6 +21,7 @@ returns-clause-closed c =
     let left = c.close-left.ensures in
     let out = c.close.new.out in
     let later : GrowsTo (last_of v) device = e.pivot.1 (last_of v) (saw (last_of v).state.spec (last_of v) v k) in
+    let of_pass : c.args.pass.gpu.spec ≡ device.state.spec = ap (λ (o : PassState). o.gpu.spec) (sym c.pass.view_is) ∙ sym later.spec in
     let described : c.self.inside.board.table.shared.key.pivot.value.state.spec ≡ device.state.spec =
     ap (λ (g : GpuState). g.spec) c.self.view_is ∙ (sym (ap (λ (g : GpuState). g.spec) (ap (λ (o : PassState). o.gpu) c.pass.view_is ∙ c.requires)) ∙ sym later.spec) in
     let count : length out.items ≡ c.self.inside.board.buffers = sym out.ok.0 ∙ e.length in
@@ -27,10 +30,13 @@ returns-clause-closed c =
       device = device;
       lawful = e.pivot.0;
       later = subst (λ (o : PassState). GrowsTo o.last device) c.pass.view_is later;
-      spec = left.left.0;
+      spec = (left.left.0, left.left.0 ∙ sym of_pass);
       records = left.left.1;
+      jobs = jobs_of device.state.spec device.state.journal c.close-left.result.spec c.close-left.result.records left.left.0 left.left.1 e.pivot.0.records;
       bytes = left.left.2;
-      out = left.out;
+      inside = λ b lt.
+          let there = subst (λ n. b < n) (sym (count_by_sizes device.state.memory device.state.spec.buffers c.facts.ensures.sizes ∙ ap (λ (s : DeviceSpec). length s.buffers) (sym of_pass))) lt in
+          left.inside b there (c.has_packet_out.ensures c.if-has_packet_out.false b);
       fit = e.pivot.2;
       count = count ∙ (c.self.invariant.1 ∙ ap (λ (s : DeviceSpec). length s.buffers) described);
       last = λ whole. ⊎_elim (λ is. is) (λ no. absurd no) (subst (In device) k.seen (e.last (has_all whole))) ∙ ap (λ (o : PassState). o.last) c.pass.view_is;

@@ -30,4 +30,4 @@ invariant_of-result-in-Err-TicketsOut g c =
     let back = rw c.in-Err-TicketsOut.field-0-is at c.in-Err-TicketsOut.ensures.refused in
     let v = sees c.pass.inside.seat in
     let k = c.pass.invariant.knows in
-    seated_again c.self.inside.board.table.shared.table_id (last_of v).state.spec v c.in-Err-TicketsOut.seat k (idle k.no_task) (ap (λ m. m.0.pivot) back.2) (ap (λ m. m.0.task) back.2)
+    seated_again c.self.inside.board.table.shared.table_id (last_of v).state.spec v c.in-Err-TicketsOut.seat k (idle k.waits) (ap (λ m. m.0.pivot) back.2) (ap (λ m. m.0.task) back.2)

@@ -1,4 +1,4 @@
-use Rattle.std.proofs.Common.{ap, sym, subst}
+use Rattle.std.proofs.Common.{◌∙◌, ap, sym, subst}
 use Rattle.ww_lock.specs.Begun.{IsOutside, IsInside, sees}
 use Rattle.drm_gpu.specs.Passes.{GpuState, Seeing, last_of}
 use Rattle.drm_gpu.proofs.Called.{is_found}
@@ -15,7 +15,7 @@ returns-clause-entered g c =
     let view = c.enter.ensures.view in
     record {
       inside = subst (λ z. IsInside z c.enter.new.seat) (ap (λ (g : GpuState). g.home) c.self.view_is) c.enter.ensures.seat;
-      knows = knows_entered c.args.self.now.spec (last_of v) c.enter.result v (sees c.enter.new.seat) k (ap (λ (z : Seeing). z.pivot.seen) view) (ap (λ (z : Seeing). z.pivot.mine) view) (ap (λ (z : Seeing). z.task) view)
+      knows = knows_entered c.args.self.now.spec (last_of v) c.enter.result v (sees c.enter.new.seat) k (ap (λ (z : Seeing). z.pivot.seen) view) (ap (λ (z : Seeing). z.pivot.mine) view) (ap (λ (z : Seeing). z.task) view ∙ k.waits)
           (c.enter.ensures.later.grown (last_of v) (saw c.args.self.now.spec (last_of v) v k));
       fresh = ap (λ (z : Seeing). z.pivot.posted) view;
     }

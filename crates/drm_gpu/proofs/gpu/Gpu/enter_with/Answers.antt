@@ -1,4 +1,4 @@
-use Rattle.std.proofs.Common.{ap, sym, subst}
+use Rattle.std.proofs.Common.{◌∙◌, ap, sym, subst}
 use Rattle.ww_lock.specs.Acquiring.{HoldsOutside, HoldsInside, view}
 use Rattle.drm_gpu.specs.Passes.{GpuState, Seeing, last_of}
 use Rattle.drm_gpu.proofs.Called.{is_found}
@@ -16,7 +16,7 @@ returns-clause-entered g c =
     let e = c.enter_with.ensures.view in
     record {
       holds = subst (λ z. HoldsInside z c.enter_with.new.acquire) (ap (λ (g : GpuState). g.home) c.self.view_is) c.enter_with.ensures.holds;
-      knows = knows_entered c.args.self.now.spec (last_of v) c.enter_with.result v (view c.enter_with.new.acquire) k (ap (λ (z : Seeing). z.pivot.seen) e) (ap (λ (z : Seeing). z.pivot.mine) e) (ap (λ (z : Seeing). z.task) e)
+      knows = knows_entered c.args.self.now.spec (last_of v) c.enter_with.result v (view c.enter_with.new.acquire) k (ap (λ (z : Seeing). z.pivot.seen) e) (ap (λ (z : Seeing). z.pivot.mine) e) (ap (λ (z : Seeing). z.task) e ∙ k.waits)
           (c.enter_with.ensures.later.grown (last_of v) (saw c.args.self.now.spec (last_of v) v k));
       fresh = ap (λ (z : Seeing). z.pivot.posted) e;
     }

@@ -1,4 +1,5 @@
-use Rattle.std.proofs.Common.{◌≡◌, ◌∙◌, true, false, ap, sym, subst}
+use Rattle.std.proofs.Common.{◌≡◌, ◌∙◌, true, false, refl, ap, sym, subst}
+use Rattle.ww_lock.specs.declared.board.TaskChange.TheVariants.{Same}
 use Rattle.ww_lock.specs.Begun.{IsOutside, IsInside}
 use Rattle.drm_gpu.specs.Passes.{GpuState}
 use Rattle.drm_gpu.proofs.Chains.{left, still_busy}
@@ -25,10 +26,10 @@ pub returns-clause-seat : goal.returns-clause-seat
 returns-clause-seat c =
     let x = c.leave.ensures.view in
     let out = subst (λ z. IsOutside z c.leave.new.seat) (ap (λ (g : GpuState). g.home) c.self.view_is) c.leave.ensures.seat in
-    (left c.args.self.now c.args.found.now.value c.args.device c.args.seat.now c.leave.new.seat x.0 c.requires.entered c.requires.onward out x.1 x.2).0
+    (left c.args.self.now c.args.found.now.value c.args.device c.args.seat.now c.leave.new.seat x.0 Same c.requires.entered c.requires.onward refl out x.1 x.2).0
 
 pub returns-clause-call : goal.returns-clause-call
 returns-clause-call c =
     let x = c.leave.ensures.view in
     let out = subst (λ z. IsOutside z c.leave.new.seat) (ap (λ (g : GpuState). g.home) c.self.view_is) c.leave.ensures.seat in
-    (left c.args.self.now c.args.found.now.value c.args.device c.args.seat.now c.leave.new.seat x.0 c.requires.entered c.requires.onward out x.1 x.2).1
+    (left c.args.self.now c.args.found.now.value c.args.device c.args.seat.now c.leave.new.seat x.0 Same c.requires.entered c.requires.onward refl out x.1 x.2).1

@@ -1,13 +1,47 @@
+use Rattle.std.proofs.Common.{sym, subst, Ok, Err}
+use Rattle.ww_lock.specs.Begun.{sees}
+use Rattle.drm_sched.specs.declared.answer.Refusal.TheVariants.{Idle}
+use Rattle.drm_sched.specs.declared.answer.Stepped.{Stepped}
+use Rattle.drm_sched.specs.declared.answer.Stepped.TheVariants.{Stalled}
+use Rattle.drm_sched.specs.declared.marked.Begun.TheVariants.{Work}
+use Rattle.drm_sched.specs.Begun.{HasBegun}
 use Rattle.drm_gpu.specs.Answers.{StepIs}
-use Rattle.drm_gpu.proofs.Called.{called, step_is}
+use Rattle.drm_gpu.specs.Passes.{CallsAs, last_of}
+use Rattle.drm_gpu.proofs.Called.{at_gpu, calls_after, calls_are}
+use Rattle.drm_gpu.proofs.Grown.{grows_trans}
+use Rattle.drm_gpu.proofs.Packets.{begun_grows}
 use Rattle.drm_gpu.proofs.gpu.Gpu.step.Goals as goal
 
-pub returns : goal.returns
-returns g c =
-    let d = c.enter-device.result in
-    let a = c.step-answer in
+pub returns-in-Out : goal.returns-in-Out
+returns-in-Out g c =
+    let out = c.in-Out.out in
+    let v = sees c.pass.inside.seat in
+    let s = c.send_out.new.seat in
+    let t = c.run_out.new.seat in
+    let o = c.in-Out.ensures in
+    let on = grows_trans (last_of v) o.found (last_of (sees s)) o.is_found.later (begun_grows o.found (last_of (sees s)) out
+    (subst (λ ring. HasBegun o.found ring (Work out.fence out.packet out.copy out.write out.read) (last_of (sees s))) (sym o.ring_is) o.begun)) in
+    let ran : CallsAs (StepIs c.args.ring (Ok c.run_out.result)) (sees s) (sees t) =
+    subst (λ ring. CallsAs (StepIs ring (Ok c.run_out.result)) (sees s) (sees t)) o.ring_is
+    (subst (λ (r : Stepped). CallsAs (StepIs out.ring (Ok r)) (sees s) (sees t)) (sym c.run_out.ensures.ran) c.run_out.ensures.call) in
     record {
-      call = called (StepIs c.args.ring a.result) c.args.self.now c.args.pass.now c.pass.inside.seat.place.table_id c.pass.inside.seat c.enter-device.new.seat c.leave.new.seat d c.of-found.result.value a.new.self
-          c.pass.view_is c.requires.pass c.enter-device.ensures.found c.enter-device.ensures.same c.of-found.ensures a.ensures.grows c.leave.ensures.seat c.leave.ensures.call
-          (step_is d a.new.self c.args.ring a.result a.ensures.ran a.ensures.refused a.ensures.marks);
+      call = calls_are (StepIs c.args.ring (Ok c.run_out.result)) c.args.self.now c.args.pass.now c.pass.inside.seat.place.table_id t.place.table_id v (sees t)
+          c.pass.view_is c.requires.pass (at_gpu c.args.self.now t c.run_out.ensures.seat)
+          (calls_after (StepIs c.args.ring (Ok c.run_out.result)) v (sees s) (sees t) on o.same ran);
+    }
+
+pub returns-in-Stalled : goal.returns-in-Stalled
+returns-in-Stalled g c =
+    let t = c.send_out.new.seat in
+    record {
+      call = calls_are (StepIs c.args.ring (Ok (Stalled c.in-Stalled.fence))) c.args.self.now c.args.pass.now c.pass.inside.seat.place.table_id t.place.table_id (sees c.pass.inside.seat) (sees t)
+          c.pass.view_is c.requires.pass (at_gpu c.args.self.now t c.in-Stalled.ensures.0) c.in-Stalled.ensures.1;
+    }
+
+pub returns-in-Idle : goal.returns-in-Idle
+returns-in-Idle g c =
+    let t = c.send_out.new.seat in
+    record {
+      call = calls_are (StepIs c.args.ring (Err Idle)) c.args.self.now c.args.pass.now c.pass.inside.seat.place.table_id t.place.table_id (sees c.pass.inside.seat) (sees t)
+          c.pass.view_is c.requires.pass (at_gpu c.args.self.now t c.in-Idle.ensures.0) c.in-Idle.ensures.1;
     }

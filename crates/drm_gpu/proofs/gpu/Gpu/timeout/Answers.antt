@@ -1,13 +1,13 @@
 use Rattle.drm_gpu.specs.Answers.{TimeoutIs}
-use Rattle.drm_gpu.proofs.Called.{called, timeout_is}
+use Rattle.drm_gpu.proofs.Called.{called}
 use Rattle.drm_gpu.proofs.gpu.Gpu.timeout.Goals as goal
 
 pub returns : goal.returns
 returns g c =
-    let d = c.enter-device.result in
-    let a = c.timeout-answer in
+    let d = c.enter_for-device.result in
+    let a = c.timeout in
     record {
-      call = called (TimeoutIs c.args.ring c.args.now a.result) c.args.self.now c.args.pass.now c.pass.inside.seat.place.table_id c.pass.inside.seat c.enter-device.new.seat c.leave.new.seat d c.of-found.result.value a.new.self
-          c.pass.view_is c.requires.pass c.enter-device.ensures.found c.enter-device.ensures.same c.of-found.ensures a.ensures.grows c.leave.ensures.seat c.leave.ensures.call
-          (timeout_is d a.new.self c.args.ring c.args.now a.result a.ensures.expired a.ensures.refused a.ensures.marks);
+      call = called (TimeoutIs c.args.ring c.args.now c.in-Ok.answer) c.args.self.now c.args.pass.now c.pass.inside.seat.place.table_id c.pass.inside.seat c.enter_for-device.new.seat c.leave.new.seat d c.of-found.result.value a.new.self
+          c.pass.view_is c.requires.pass c.enter_for-device.ensures.found c.enter_for-device.ensures.same c.of-found.ensures a.ensures.grows c.leave.ensures.seat c.leave.ensures.call
+          (c.enter_for-device.ensures.free, c.in-Ok.ensures.expired.1, a.ensures.marks);
     }

@@ -1,4 +1,4 @@
-use Rattle.std.proofs.Common.{◌≡◌, ◌∙◌, refl, sym, ap, None, slice_get}
+use Rattle.std.proofs.Common.{◌≡◌, ◌∙◌, refl, sym, ap, subst, None, slice_get}
 use Rattle.std.specs.Option.{option_map_or}
 use Rattle.drm_sched.specs.declared.journal.JobRecord.{JobRecord}
 use Rattle.drm_sched.specs.Begun.{out_or}
@@ -8,9 +8,9 @@ use Rattle.drm_sched.specs.Outcomes.{must_stall}
 use Rattle.drm_sched.specs.Refusals.{step_refusal}
 use Rattle.drm_sched.specs.Tables.{state_of}
 use Rattle.drm_sched.proofs.CallsAre.{step_may, step_stalls}
-use Rattle.drm_sched.proofs.TableFacts.{neither, running_at, running_found, vec_holds}
+use Rattle.drm_sched.proofs.TableFacts.{neither, next_in_range, running_at, running_found, vec_holds}
 use Rattle.drm_sched.proofs.MarkedOut.{asks_is, next_is_in}
-use Rattle.drm_sched.proofs.MarkedBegun.{MayGo, sent_is, sent_marked}
+use Rattle.drm_sched.proofs.MarkedBegun.{MayGo, sent_is, sent_marked, parts_run}
 use Rattle.drm_sched.proofs.marked.MarkedTable.begin_step.Goals as goal
 
 pub index-record-requires : goal.index-record-requires
@@ -71,6 +71,15 @@ returns-clause-begun c =
         sent_is d c.args.ring c.in-Some.number r p c.of.result c.take-write.new.store mark_is c.take-write.ensures.left,
       ),
     )
+
+pub returns-clause-runs : goal.returns-clause-runs
+returns-clause-runs c =
+    let t = c.args.self.now.table in
+    let p = c.packet-packet.result in
+    let is = sym c.current.ensures ∙ c.in-Some.is in
+    let run = running_found t c.args.ring c.in-Some.number c.index-record.result.now c.requires.whole.table c.requires.there is c.index-record.ensures in
+    parts_run p t.memory.bytes c.take-write.result.0 c.take-write.result.1 c.packets_fit_their_parts.ensures c.take-write.ensures.write c.take-write.ensures.read
+    (next_in_range t c.args.ring c.in-Some.number c.index-record.result.now p c.requires.whole.table run c.packet-packet.ensures)
 
 pub returns-clause-whole : goal.returns-clause-whole
 returns-clause-whole c =

@@ -1,12 +1,14 @@
-use Rattle.std.proofs.Common.{◌∙◌, ◌<◌, sym, ap, subst, None, slice_get}
+use Rattle.std.proofs.Common.{arith, ◌∙◌, ◌<◌, sym, ap, subst, None, slice_get, ◌≡◌, ◌-◌, ◌≤◌}
 use Rattle.std.specs.Option.{option_map_or}
 use Rattle.drm_fence.specs.Phases.{has_ended}
 use Rattle.drm_sched.specs.Tables.{ending}
-use Rattle.drm_sched.proofs.FinishDone.{may_end, not_ended_yet, row_has_head, finish_done}
+use Rattle.drm_sched.proofs.FinishDone.{may_end, not_ended_yet, row_has_head, head_passed, finish_done}
 use Rattle.drm_sched.proofs.LoadsKept.{some_live}
 use Rattle.drm_sched.proofs.Balancing.{few_outcomes, load_there}
-use Rattle.drm_sched.proofs.TableFacts.{row_found}
+use Rattle.drm_sched.proofs.TableFacts.{row_found, row_pending}
 use Rattle.drm_sched.proofs.table.Table.finish.Goals as goal
+use Rattle.drm_ring.specs.Counted.{Counted, need_of}
+use Rattle.drm_sched.proofs.RowsKept.{credits_told, need_counted}
 
 pub end_job-requires-clause-going : goal.end_job-requires-clause-going
 end_job-requires-clause-going c =
@@ -19,7 +21,13 @@ pub pop-requires : goal.pop-requires
 pop-requires c =
     let t = c.args.self.now in
     let is = sym c.head.ensures ∙ c.in-Some.is in
-    record { head = row_has_head t c.args.ring c.in-Some.number c.index_mut.result.now (row_found t c.args.ring c.index_mut.result.now c.requires.whole c.requires.there c.index_mut.ensures.value) is }
+    let row_at = row_found t c.args.ring c.index_mut.result.now c.requires.whole c.requires.there c.index_mut.ensures.value in
+    let may = may_end t c.args.ring c.in-Some.number c.in-Some-final_outcome.outcome c.requires.whole c.requires.there is (ap (λ j. option_map_or ending (slice_get j c.in-Some.number) None) (sym c.deref.ensures.value) ∙ (sym c.final_outcome.ensures ∙ c.in-Some-final_outcome.is)) in
+    let passed = head_passed t c.args.ring c.in-Some.number c.in-Some-final_outcome.outcome may.0 c.index_mut.result.now c.requires.whole row_at may.1 in
+    let row = c.index_mut.result.now in
+    let stands = sym (row_pending t c.args.ring row row_at) ∙ may.1.head.stands in
+    let told = credits_told t.journal.items c.in-Some.number c.credits-credits.result may.0 c.index.result.now may.1.head.at c.index.ensures c.credits-credits.ensures in
+    record { head = row_has_head t c.args.ring c.in-Some.number c.index_mut.result.now row_at is; passed = omega (arith, passed); credits = subst (λ n. need_of row.credits n ≤ row.credits.count) (sym told) (need_counted t c.args.ring c.in-Some.number may.1.head.rest may.0 row c.requires.whole row_at may.1.head.at stands) }
 
 pub end-requires-clause-ring : goal.end-requires-clause-ring
 end-requires-clause-ring c =
@@ -42,9 +50,13 @@ returns-clause-finished c =
     let t = c.args.self.now in
     let is = sym c.head.ensures ∙ c.in-Some.is in
     let may = may_end t c.args.ring c.in-Some.number c.in-Some-final_outcome.outcome c.requires.whole c.requires.there is (ap (λ j. option_map_or ending (slice_get j c.in-Some.number) None) (sym c.deref.ensures.value) ∙ (sym c.final_outcome.ensures ∙ c.in-Some-final_outcome.is)) in
+    let row = c.index_mut.result.now in
+    let told = credits_told t.journal.items c.in-Some.number c.credits-credits.result may.0 c.index.result.now may.1.head.at c.index.ensures c.credits-credits.ensures in
+    let given_back : c.pop.new.self.credits ≡ record row.credits { count = row.credits.count - need_of row.credits may.0.job.credits } =
+    c.pop.ensures.credits ∙ ap (λ n. let k : Counted = record row.credits { count = row.credits.count - need_of row.credits n } in k) told in
     let done = finish_done t c.args.ring c.args.now c.in-Some.number c.in-Some-final_outcome.outcome may.0 c.end_job.new.journal c.end_job.new.fences c.index_mut.result.now c.pop.new.self c.end.new.self
     c.requires.whole c.requires.there is may.1 c.end_job.ensures.journal c.end_job.ensures.tied c.end_job.ensures.room c.end_job.ensures.places
-    (row_found t c.args.ring c.index_mut.result.now c.requires.whole c.requires.there c.index_mut.ensures.value) c.pop.ensures.row c.pop.ensures.room c.end.ensures.live c.end.ensures.last c.end.ensures.ended in
+    (row_found t c.args.ring c.index_mut.result.now c.requires.whole c.requires.there c.index_mut.ensures.value) c.pop.ensures.row c.pop.ensures.passed given_back c.pop.ensures.room c.end.ensures.live c.end.ensures.last c.end.ensures.ended in
     (done.0, done.1)
 
 pub returns-clause-whole : goal.returns-clause-whole
@@ -52,7 +64,11 @@ returns-clause-whole c =
     let t = c.args.self.now in
     let is = sym c.head.ensures ∙ c.in-Some.is in
     let may = may_end t c.args.ring c.in-Some.number c.in-Some-final_outcome.outcome c.requires.whole c.requires.there is (ap (λ j. option_map_or ending (slice_get j c.in-Some.number) None) (sym c.deref.ensures.value) ∙ (sym c.final_outcome.ensures ∙ c.in-Some-final_outcome.is)) in
+    let row = c.index_mut.result.now in
+    let told = credits_told t.journal.items c.in-Some.number c.credits-credits.result may.0 c.index.result.now may.1.head.at c.index.ensures c.credits-credits.ensures in
+    let given_back : c.pop.new.self.credits ≡ record row.credits { count = row.credits.count - need_of row.credits may.0.job.credits } =
+    c.pop.ensures.credits ∙ ap (λ n. let k : Counted = record row.credits { count = row.credits.count - need_of row.credits n } in k) told in
     let done = finish_done t c.args.ring c.args.now c.in-Some.number c.in-Some-final_outcome.outcome may.0 c.end_job.new.journal c.end_job.new.fences c.index_mut.result.now c.pop.new.self c.end.new.self
     c.requires.whole c.requires.there is may.1 c.end_job.ensures.journal c.end_job.ensures.tied c.end_job.ensures.room c.end_job.ensures.places
-    (row_found t c.args.ring c.index_mut.result.now c.requires.whole c.requires.there c.index_mut.ensures.value) c.pop.ensures.row c.pop.ensures.room c.end.ensures.live c.end.ensures.last c.end.ensures.ended in
+    (row_found t c.args.ring c.index_mut.result.now c.requires.whole c.requires.there c.index_mut.ensures.value) c.pop.ensures.row c.pop.ensures.passed given_back c.pop.ensures.room c.end.ensures.live c.end.ensures.last c.end.ensures.ended in
     done.2

@@ -37,7 +37,7 @@ returns-then-not-may_end-clause-refused c =
     let at = job_at t c.in-Some.number c.args.entity c.index.result.now head.0 c.index.ensures in
     let may = reap_refused t c.args.entity c.in-Some.number c.index.result.now.ring c.index.result.now c.index-2.result.now c.index-deps.result.now _ w (sym c.is_stopped.ensures ∙ c.if-not-is_stopped.false) head.0 at refl c.index-2.ensures c.index-deps.ensures
     (ap (λ js. may_end_after js c.index-deps.result.now c.index-2.result.now.pending.items c.args.entity) (sym c.deref.ensures.value)
-    ∙ (ap (λ ns. may_end_after c.deref.result.now c.index-deps.result.now ns c.args.entity) (sym c.deref-2.ensures.value) ∙ (sym c.may_end.ensures ∙ c.if-not-may_end.true))) in
+    ∙ (sym c.may_end.ensures ∙ c.if-not-may_end.true)) in
     (may, refl)
 
 pub end_job-requires-clause-going : goal.end_job-requires-clause-going
@@ -74,7 +74,7 @@ returns-clause-reaped c =
     let at = job_at t c.in-Some.number c.args.entity c.index.result.now head.0 c.index.ensures in
     let may = reap_refused t c.args.entity c.in-Some.number c.index.result.now.ring c.index.result.now c.index-2.result.now c.index-deps.result.now _ w (sym c.is_stopped.ensures ∙ c.if-not-is_stopped.false) head.0 at refl c.index-2.ensures c.index-deps.ensures
     (ap (λ js. may_end_after js c.index-deps.result.now c.index-2.result.now.pending.items c.args.entity) (sym c.deref.ensures.value)
-    ∙ (ap (λ ns. may_end_after c.deref.result.now c.index-deps.result.now ns c.args.entity) (sym c.deref-2.ensures.value) ∙ (sym c.may_end.ensures ∙ c.if-not-may_end.false))) in
+    ∙ (sym c.may_end.ensures ∙ c.if-not-may_end.false)) in
     let left = front_popped t c.args.entity c.in-Some.number c.end_job.new.journal.items c.pop.new.self c.pop.result w c.requires.there head.0 c.end_job.ensures.journal c.pop.ensures.some c.pop.ensures.none in
     let done = reap_done t c.args.entity c.in-Some.number c.end_job.new.journal c.end_job.new.fences c.pop.new.self c.end.new.self w head.0 may
     c.end_job.ensures.journal c.end_job.ensures.tied c.end_job.ensures.room c.end_job.ensures.places left
@@ -89,7 +89,7 @@ returns-clause-whole c =
     let at = job_at t c.in-Some.number c.args.entity c.index.result.now head.0 c.index.ensures in
     let may = reap_refused t c.args.entity c.in-Some.number c.index.result.now.ring c.index.result.now c.index-2.result.now c.index-deps.result.now _ w (sym c.is_stopped.ensures ∙ c.if-not-is_stopped.false) head.0 at refl c.index-2.ensures c.index-deps.ensures
     (ap (λ js. may_end_after js c.index-deps.result.now c.index-2.result.now.pending.items c.args.entity) (sym c.deref.ensures.value)
-    ∙ (ap (λ ns. may_end_after c.deref.result.now c.index-deps.result.now ns c.args.entity) (sym c.deref-2.ensures.value) ∙ (sym c.may_end.ensures ∙ c.if-not-may_end.false))) in
+    ∙ (sym c.may_end.ensures ∙ c.if-not-may_end.false)) in
     let left = front_popped t c.args.entity c.in-Some.number c.end_job.new.journal.items c.pop.new.self c.pop.result w c.requires.there head.0 c.end_job.ensures.journal c.pop.ensures.some c.pop.ensures.none in
     let done = reap_done t c.args.entity c.in-Some.number c.end_job.new.journal c.end_job.new.fences c.pop.new.self c.end.new.self w head.0 may
     c.end_job.ensures.journal c.end_job.ensures.tied c.end_job.ensures.room c.end_job.ensures.places left

@@ -1,0 +1,49 @@
+use Rattle.std.proofs.Common.{◌≡◌, sym, subst, Err}
+use Rattle.ww_lock.specs.Begun.{sees}
+use Rattle.drm_sched.specs.Grows.{Grows}
+use Rattle.drm_sched.specs.State.{DeviceState}
+use Rattle.drm_sched.specs.declared.answer.Refusal.TheVariants.{Idle}
+use Rattle.drm_sched.specs.Begun.{HasBegun, MayComeBack}
+use Rattle.drm_sched.specs.Marks.{IsBusy}
+use Rattle.drm_gpu.specs.Answers.{StepIs}
+use Rattle.drm_gpu.specs.declared.running.OutPacket.{OutPacket}
+use Rattle.drm_gpu.specs.Passes.{GrowsTo}
+use Rattle.drm_gpu.proofs.Called.{calls_as}
+use Rattle.drm_gpu.proofs.Grown.{grows_itself}
+use Rattle.drm_gpu.proofs.Packets.{only_idle, waits_for}
+use Rattle.drm_gpu.proofs.gpu.Gpu.send_out.Goals as goal
+
+pub leave_sent-requires-clause-busy : goal.leave_sent-requires-clause-busy
+leave_sent-requires-clause-busy g c =
+    let w = c.in-Ok-Work in
+    let out : OutPacket = record { ring = c.args.ring; fence = w.fence; packet = w.packet; copy = w.copy; write = w.write; read = w.read } in
+    subst (IsBusy c.begin_step.new.self) (sym c.task.ensures)
+    (waits_for c.enter_for-device.result c.begin_step.new.self out
+    (subst (λ b. HasBegun c.enter_for-device.result c.args.ring b c.begin_step.new.self) w.field-0-is w.ensures.begun.1)
+    (subst (MayComeBack c.begin_step.new.self c.args.ring) w.field-0-is w.ensures.back))
+
+pub leave-requires-clause-onward : goal.leave-requires-clause-onward
+leave-requires-clause-onward g c =
+    let s = c.in-Ok-Stalled in
+    let d = c.enter_for-device.result in
+    let e = c.begin_step.new.self in
+    let same : e.state ≡ d.state = s.ensures.state in
+    subst (λ x. GrowsTo x e) (sym c.of-found.ensures) (subst (λ (x : DeviceState). Grows x e.state) same (grows_itself e))
+
+pub leave-requires-in-Err-clause-onward : goal.leave-requires-in-Err-clause-onward
+leave-requires-in-Err-clause-onward g c =
+    let d = c.enter_for-device.result in
+    let e = c.begin_step.new.self in
+    subst (λ x. GrowsTo x e) (sym c.of-found.ensures) (subst (λ x. GrowsTo x e) c.in-Err.ensures.refused.1 (grows_itself e))
+
+pub returns : goal.returns
+returns g c =
+    let d = c.enter_for-device.result in
+    let e = c.begin_step.new.self in
+    let why = c.in-Err.ensures.refused in
+    let idle = only_idle d c.args.ring _ c.in-Err._idle c.enter_for-device.ensures.free why.0 in (
+      c.leave-in-Err.ensures.seat.0,
+      calls_as (StepIs c.args.ring (Err Idle)) (sees c.args.seat.now) (sees c.enter_for-device.new.seat) (sees c.leave-in-Err.new.seat) d c.of-found.result.value e
+          c.enter_for-device.ensures.found c.enter_for-device.ensures.same c.of-found.ensures (subst (λ x. GrowsTo x e) why.1 (grows_itself e))
+          c.leave-in-Err.ensures.seat.1 c.leave-in-Err.ensures.call (c.enter_for-device.ensures.free, idle, why.1),
+    )

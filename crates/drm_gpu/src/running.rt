@@ -1,0 +1,231 @@
+//! Packets that run outside the device's lock, on their own buffers.
+ghost use Rattle.std.specs.Prelude.{◌≡◌, ◌<◌, ℕ, List, Some, IsTrue, length, Ok, IfOk, IfErr};
+ghost use Rattle.drm_packet.specs.Parts.{fits_parts};
+ghost use Rattle.ww_lock.specs.Begun.{sees};
+ghost use Rattle.drm_sched.specs.declared.answer.Stepped.TheVariants.{Ran};
+ghost use Rattle.drm_gpu.specs.Answers.{StepIs};
+ghost use Rattle.drm_gpu.specs.Passes.{Calls, CallsAs, IsPassSeat};
+ghost use Rattle.drm_gpu.specs.Running.{HasOut, IsSent, RunsNothing, Starts, task_of, written};
+
+use crate::driver::Task;
+use crate::gpu::Gpu;
+use crate::pass::{DeviceSeat, Pass};
+use crate::waiting::Needs;
+use drm_buffer::Buffer;
+use drm_packet::Packet;
+use drm_sched::{Begun, Refusal, Stepped};
+use drm_types::{FenceId, RingId};
+use std::marker::Model;
+use std::snapshot::Snapshot;
+use std::sync::Wait;
+
+/// A packet that is out of the device with its buffers: the one that it writes, and the other one that it reads.
+#[derive(Drop)]
+pub(crate) struct OutPacket {
+    pub(crate) ring: RingId,
+    pub(crate) fence: FenceId,
+    pub(crate) packet: u32,
+    pub(crate) copy: Packet,
+    pub(crate) write: Option<Buffer>,
+    pub(crate) read: Option<Buffer>,
+}
+
+/// What came of a step that a caller began.
+#[derive(Drop)]
+pub(crate) enum Sent {
+    /// The packet went out.
+    Out(OutPacket),
+    /// The next packet waits for more resets of its job.
+    Stalled(FenceId),
+    /// No pending job has packets left.
+    Idle,
+}
+
+/// Why a ring did not start a packet. The pass comes back.
+#[derive(Drop)]
+pub enum StartError {
+    /// The next packet waits for more resets of the job with this fence.
+    Stalled(Pass, FenceId),
+    /// No pending job of the ring has packets left.
+    Idle(Pass),
+}
+
+/// A packet that runs beside the device (a job on the hardware, between `run_job` and its interrupt). It has the packet's
+/// buffers, and its ring does nothing else until it is reported. One that is dropped is never reported.
+#[derive(Drop)]
+pub struct Running<'g> {
+    gpu: &'g Gpu,
+    seat: DeviceSeat,
+    out: OutPacket,
+}
+
+impl<'g> Model for Running<'g> {
+    ghost use Rattle.ww_lock.specs.Begun.{sees};
+    ghost use Rattle.drm_gpu.specs.Passes.{pass_of};
+    ghost use Rattle.drm_gpu.specs.Running.{HasOut, RunningState};
+
+    ghost Value = { RunningState };
+
+    ghost view = { λ r. record { pass = pass_of r.gpu.now.home (sees r.seat); ring = r.out.ring; fence = r.out.fence; packet = r.out.packet } };
+
+    ghost invariant = { λ r. HasOut r.gpu.now r.out r.seat };
+}
+
+impl OutPacket {
+    // What the device waits for.
+    fn task(&self) -> Task
+        ensures { result ≡ task_of self.now }
+    {
+        Task {
+            ring: self.ring,
+            fence: self.fence,
+            packet: self.packet,
+            write: Snapshot::of(&self.write),
+            read: Snapshot::of(&self.read),
+        }
+    }
+
+    // Runs the packet on its buffers.
+    fn run(&mut self)
+        requires { (bytes : List ℕ) → self.old.write ≡ Some bytes → IsTrue (fits_parts self.old.copy bytes self.old.read) }
+        ensures { self.new ≡ record self.old { write = written self.old } }
+    {
+        if let Some(write) = &mut self.write {
+            self.copy.run_parts(write, self.read.as_ref());
+        }
+    }
+}
+
+impl Gpu {
+    // Sends the ring's next packet out.
+    fn send_out<R: Wait>(&self, seat: &mut DeviceSeat, ring: RingId, rt: &R) -> Sent
+        requires seat { IsPassSeat self.now seat.old }
+        requires ring { ring < length self.now.spec.rings }
+        ensures { IsSent self.now ring result (sees seat.old) seat.new }
+    {
+        let mut device = self.enter_for(seat, &Needs::Step(ring), rt);
+        let found = Snapshot::of(&device);
+        match device.begin_step(ring) {
+            Ok(
+                Begun::Work {
+                    fence,
+                    packet,
+                    copy,
+                    write,
+                    read,
+                },
+            ) => {
+                let out = OutPacket {
+                    ring,
+                    fence,
+                    packet,
+                    copy,
+                    write,
+                    read,
+                };
+                self.leave_sent(seat, device, &found, out.task());
+                Sent::Out(out)
+            }
+            Ok(Begun::Stalled { fence }) => {
+                self.leave(seat, device, &found);
+                Sent::Stalled(fence)
+            }
+            Err(_idle) => {
+                self.leave(seat, device, &found);
+                Sent::Idle
+            }
+        }
+    }
+
+    // Runs a packet that is out, and takes it back.
+    fn run_out<R: Wait>(&self, seat: &mut DeviceSeat, out: OutPacket, rt: &R) -> Stepped
+        requires { HasOut self.now out seat.old }
+        ensures ran { result ≡ Ran out.fence out.packet }
+        ensures seat { IsPassSeat self.now seat.new }
+        ensures call { CallsAs (StepIs out.ring (Ok (Ran out.fence out.packet))) (sees seat.old) (sees seat.new) }
+    {
+        let task = out.task();
+        let mut out = out;
+        out.run();
+        let mut device = self.enter_again(seat, &task, rt);
+        let found = Snapshot::of(&device);
+        let OutPacket {
+            ring,
+            fence,
+            packet,
+            write,
+            read,
+            ..
+        } = out;
+        device.report(ring, write, read);
+        self.leave_reported(seat, device, &found, &task);
+        Stepped::Ran { fence, packet }
+    }
+
+    /// Sends the ring's next packet out of the device, to be run outside its lock (`drm_sched_run_job_work` calls the
+    /// `run_job` callback so). It waits while a packet that is out is in the way.
+    ///
+    /// # Errors
+    ///
+    /// Where there is no packet to run now. The pass comes back.
+    pub fn start<'g, R: Wait>(
+        &'g self,
+        pass: Pass,
+        ring: RingId,
+        rt: &R,
+    ) -> Result<Running<'g>, StartError>
+        requires pass { pass.gpu ≡ self.now }
+        requires ring { ring < length self.now.spec.rings }
+        ensures started { IfOk result (Starts ring pass) }
+        ensures nothing { IfErr result (RunsNothing ring pass) }
+    {
+        let Pass { mut seat } = pass;
+        match self.send_out(&mut seat, ring, rt) {
+            Sent::Out(out) => Ok(Running {
+                gpu: self,
+                seat,
+                out,
+            }),
+            Sent::Stalled(fence) => Err(StartError::Stalled(Pass { seat }, fence)),
+            Sent::Idle => Err(StartError::Idle(Pass { seat })),
+        }
+    }
+
+    /// Runs one packet of the first pending job of the ring that has some left: `start` and `run` in one. It waits while a
+    /// packet that is out is in the way.
+    ///
+    /// # Errors
+    ///
+    /// `Idle` where no pending job of the ring has packets left.
+    pub fn step<R: Wait>(&self, pass: &mut Pass, ring: RingId, rt: &R) -> Result<Stepped, Refusal>
+        requires pass { pass.old.gpu ≡ self.now }
+        requires ring { ring < length self.now.spec.rings }
+        ensures call { Calls (StepIs ring result) pass.old pass.new }
+    {
+        match self.send_out(&mut pass.seat, ring, rt) {
+            Sent::Out(out) => Ok(self.run_out(&mut pass.seat, out, rt)),
+            Sent::Stalled(fence) => Ok(Stepped::Stalled { fence }),
+            Sent::Idle => Err(Refusal::Idle),
+        }
+    }
+}
+
+impl<'g> Running<'g> {
+    /// The job's fence.
+    pub fn fence(&self) -> FenceId
+        ensures { result ≡ self.now.fence }
+    {
+        self.out.fence
+    }
+
+    /// Runs the packet on its own buffers, with no lock held, and then reports it to the device (`drm_sched_job_done`
+    /// comes of the last one's interrupt): its job has run one packet more. Answers `Ran`, and the pass.
+    pub fn run<R: Wait>(self, rt: &R) -> (Pass, Stepped)
+        ensures ran { result.1 ≡ Ran self.entry.fence self.entry.packet }
+        ensures call { Calls (StepIs self.entry.ring (Ok result.1)) self.entry.pass result.0 }
+    {
+        let Running { gpu, mut seat, out } = self;
+        let ran = gpu.run_out(&mut seat, out, rt);
+        (Pass { seat }, ran)
+    }
+}

@@ -1,0 +1,130 @@
+//! How a caller waits for a packet that is out and takes the device once it is back.
+ghost use Rattle.std.specs.Prelude.{◌≡◌, false, true, length, MatchOption};
+ghost use Rattle.ww_lock.specs.Acquiring.{view};
+ghost use Rattle.ww_lock.specs.Begun.{sees};
+ghost use Rattle.drm_sched.specs.Held.{kept_of};
+ghost use Rattle.drm_gpu.specs.Passes.{Entered, GrowsTo, IsFound, IsPassSeat, IsSameBut, last_of};
+ghost use Rattle.drm_gpu.specs.Running.{IsThere, is_kept};
+ghost use Rattle.drm_gpu.specs.Submissions.{EnteredWith, Fitting, Holding, IsSameHolder};
+
+use crate::gpu::Gpu;
+use crate::locking::DeviceAcquire;
+use crate::pass::DeviceSeat;
+use crossbeam_utils::Backoff;
+use drm_sched::Device;
+use drm_types::{BufferId, RingId};
+use std::snapshot::Snapshot;
+use std::sync::Wait;
+
+/// What a caller needs to be at home.
+#[derive(Drop)]
+pub(crate) enum Needs {
+    /// The ring has no packet out.
+    Ring(RingId),
+    /// Nor is a buffer of its next packet out.
+    Step(RingId),
+    /// The buffer is in.
+    Buffer(BufferId),
+}
+
+impl Needs {
+    // Whether a packet that is out keeps the caller from it.
+    fn is_kept(&self, device: &Device) -> bool
+        requires { IsThere self.now device.now.state.spec }
+        ensures { result ≡ is_kept self.now device.now }
+    {
+        match *self {
+            Needs::Ring(ring) => device.has_packet_out(ring),
+            Needs::Step(ring) => device.is_step_kept(ring),
+            Needs::Buffer(buffer) => {
+                device.facts();
+                device.is_buffer_out(buffer)
+            }
+        }
+    }
+}
+
+impl Gpu {
+    // Takes the device if no packet keeps the caller from what it needs. Else it is at home again.
+    fn try_enter<R: Wait>(&self, seat: &mut DeviceSeat, needs: &Needs, rt: &R) -> Option<Device>
+        requires seat { IsPassSeat self.now seat.old }
+        requires there { IsThere needs.now self.now.spec }
+        ensures entered { MatchOption result (IsPassSeat self.now seat.new × GrowsTo (last_of (sees seat.old)) (last_of (sees seat.new)))
+            (λ d. Entered self.now d seat.new × IsFound d (sees seat.old) × (is_kept needs.now d ≡ false)) }
+        ensures same { IsSameBut (sees seat.old) (sees seat.new) }
+    {
+        let device = self.enter(seat, rt);
+        if !needs.is_kept(&device) {
+            return Some(device);
+        }
+        let found = Snapshot::of(&device);
+        self.leave_as_found(seat, device, &found);
+        None
+    }
+
+    // Waits until no packet keeps the caller from what it needs, and takes the device.
+    pub(crate) fn enter_for<R: Wait>(&self, seat: &mut DeviceSeat, needs: &Needs, rt: &R) -> Device
+        requires seat { IsPassSeat self.now seat.old }
+        requires there { IsThere needs.now self.now.spec }
+        ensures entered { Entered self.now result seat.new }
+        ensures found { IsFound result (sees seat.old) }
+        ensures free { is_kept needs.now result ≡ false }
+        ensures same { IsSameBut (sees seat.old) (sees seat.new) }
+    {
+        let backoff = Backoff::new();
+        for _ in rt.forever() {
+            if let Some(device) = self.try_enter(seat, needs, rt) {
+                return device;
+            }
+            backoff.snooze();
+        }
+        unreachable!()
+    }
+
+    // `try_enter` for a caller that holds values.
+    fn try_enter_with<R: Wait>(
+        &self,
+        acquire: &mut DeviceAcquire,
+        needs: &Needs,
+        rt: &R,
+    ) -> Option<Device>
+        requires holding { Holding self.now acquire.old }
+        requires there { IsThere needs.now self.now.spec }
+        ensures entered { MatchOption result (Holding self.now acquire.new × GrowsTo (last_of (view acquire.old)) (last_of (view acquire.new)))
+            (λ d. EnteredWith self.now d acquire.new × IsFound d (view acquire.old) × Fitting d (kept_of acquire.old.held.items) × (is_kept needs.now d ≡ false)) }
+        ensures same { IsSameHolder acquire.old acquire.new × IsSameBut (view acquire.old) (view acquire.new) }
+    {
+        let device = self.enter_with(acquire, rt);
+        if !needs.is_kept(&device) {
+            return Some(device);
+        }
+        let found = Snapshot::of(&device);
+        self.leave_as_found_with(acquire, device, &found);
+        None
+    }
+
+    // `enter_for` for a caller that holds values.
+    pub(crate) fn enter_for_with<R: Wait>(
+        &self,
+        acquire: &mut DeviceAcquire,
+        needs: &Needs,
+        rt: &R,
+    ) -> Device
+        requires holding { Holding self.now acquire.old }
+        requires there { IsThere needs.now self.now.spec }
+        ensures entered { EnteredWith self.now result acquire.new }
+        ensures found { IsFound result (view acquire.old) }
+        ensures fit { Fitting result (kept_of acquire.old.held.items) }
+        ensures free { is_kept needs.now result ≡ false }
+        ensures same { IsSameHolder acquire.old acquire.new × IsSameBut (view acquire.old) (view acquire.new) }
+    {
+        let backoff = Backoff::new();
+        for _ in rt.forever() {
+            if let Some(device) = self.try_enter_with(acquire, needs, rt) {
+                return device;
+            }
+            backoff.snooze();
+        }
+        unreachable!()
+    }
+}

@@ -1,0 +1,131 @@
+//! Packets that run outside the device's lock.
+ghost use Rattle.std.specs.Prelude.{◌≡◌, ◌<◌};
+ghost use Rattle.drm_gpu_tests.specs.Pairs.{IsPair};
+
+use crate::calls::{finishes, made, picks, reads, steps, submitted};
+use crate::{add, fill, opened};
+use drm_gpu::{CloseError, Gpu, Pass, Running, StartError};
+use drm_packet::Packet;
+use drm_sched::{Expired, Finished, Stepped};
+use drm_types::Access::{Read, Write};
+use drm_types::{FenceId, Outcome, RingId};
+use std::alloc::Global;
+use std::process::Abort;
+use std::sync::Wait;
+use std::test::Fail;
+
+// The ring's next packet goes out, which is of this job.
+fn started<'g, R: Wait + Abort>(
+    gpu: &'g Gpu,
+    pass: Pass,
+    ring: RingId,
+    fence: FenceId,
+    rt: &R,
+) -> Running<'g>
+    requires gpu { IsPair gpu.now.spec × (ring < 2) }
+    requires pass { pass.gpu ≡ gpu.now }
+    ensures { result.pass.gpu ≡ gpu.now }
+{
+    let Ok(running) = gpu.start(pass, ring, rt) else {
+        panic!(rt; "not started")
+    };
+    assert_eq!(rt; running.fence(), fence);
+    running
+}
+
+// The packet runs and comes back, with this number.
+fn reported<R: Wait + Abort>(running: Running, fence: FenceId, packet: u32, rt: &R) -> Pass
+    ensures { result.gpu ≡ running.entry.pass.gpu }
+{
+    let (pass, stepped) = running.run(rt);
+    assert!(rt; stepped == Stepped::Ran { fence, packet });
+    pass
+}
+
+// Two jobs with a packet each, on two rings, both picked: one fills the first buffer, the other the second.
+fn both_picked<R: Wait + Abort>(gpu: &Gpu, pass: Pass, rt: &R, alloc: Global) -> Pass
+    requires { IsPair gpu.now.spec × (pass.gpu ≡ gpu.now) }
+    ensures { result.gpu ≡ gpu.now }
+{
+    let first = made(alloc, 0, &[(0, Write)], &[fill(0, 5)], rt);
+    let second = made(alloc, 1, &[(1, Write)], &[fill(1, 6)], rt);
+    let pass = submitted(gpu, pass, first, 0, rt, alloc);
+    let mut pass = submitted(gpu, pass, second, 1, rt, alloc);
+    picks(gpu, &mut pass, 0, 0, 0, rt);
+    picks(gpu, &mut pass, 1, 1, 0, rt);
+    pass
+}
+
+// Both jobs end well, and the buffers have what they filled in.
+fn both_end<R: Wait + Abort>(gpu: &Gpu, pass: Pass, rt: &R, alloc: Global) -> Pass
+    requires { IsPair gpu.now.spec × (pass.gpu ≡ gpu.now) }
+    ensures { result.gpu ≡ gpu.now }
+{
+    let mut pass = pass;
+    let outcome = Outcome::Good;
+    finishes(gpu, &mut pass, 0, Finished { fence: 0, outcome }, 1, rt);
+    finishes(gpu, &mut pass, 1, Finished { fence: 1, outcome }, 1, rt);
+    let pass = reads(gpu, pass, 0, 5, rt, alloc);
+    reads(gpu, pass, 1, 6, rt, alloc)
+}
+
+#[test]
+fn packets_of_two_rings_are_out_at_once(rt: HostRuntime) -> Result<(), Fail> {
+    let alloc = rt.alloc();
+    let Some((gpu, pass)) = opened(alloc, 8) else {
+        panic!(rt; "no device")
+    };
+    let pass = both_picked(&gpu, pass, &rt, alloc);
+    let (one, other) = gpu.split(pass);
+    let running = started(&gpu, one, 0, 0, &rt);
+    let beside = started(&gpu, other, 1, 1, &rt);
+    let other = reported(beside, 1, 0, &rt);
+    let one = reported(running, 0, 0, &rt);
+    both_end(&gpu, gpu.join(one, other), &rt, alloc);
+    Ok(())
+}
+
+#[test]
+fn a_packet_that_is_dropped_keeps_the_device(rt: HostRuntime) -> Result<(), Fail> {
+    let alloc = rt.alloc();
+    let Some((gpu, pass)) = opened(alloc, 8) else {
+        panic!(rt; "no device")
+    };
+    let pass = both_picked(&gpu, pass, &rt, alloc);
+    let (one, other) = gpu.split(pass);
+    let beside = started(&gpu, other, 1, 1, &rt);
+    drop(beside);
+    assert!(rt; matches!(gpu.close(alloc, one), Err(CloseError::Inside)));
+    Ok(())
+}
+
+// A ring with nothing to run, and one whose next packet waits for a reset.
+fn starts_nothing<R: Wait + Abort>(gpu: &Gpu, pass: Pass, rt: &R) -> Pass
+    requires { IsPair gpu.now.spec × (pass.gpu ≡ gpu.now) }
+    ensures { result.gpu ≡ gpu.now }
+{
+    let Err(StartError::Idle(pass)) = gpu.start(pass, 1, rt) else {
+        panic!(rt; "not idle")
+    };
+    let mut pass = pass;
+    picks(gpu, &mut pass, 0, 0, 0, rt);
+    steps(gpu, &mut pass, 0, 0, 0, rt);
+    let Err(StartError::Stalled(pass, 0)) = gpu.start(pass, 0, rt) else {
+        panic!(rt; "not stalled")
+    };
+    pass
+}
+
+#[test]
+fn a_packet_that_waits_does_not_start(rt: HostRuntime) -> Result<(), Fail> {
+    let alloc = rt.alloc();
+    let packets = [add(1, 0), Packet::Stall { resets: 1 }];
+    let job = made(alloc, 0, &[(0, Write), (1, Read)], &packets, &rt);
+    let Some((gpu, pass)) = opened(alloc, 8) else {
+        panic!(rt; "no device")
+    };
+    let pass = submitted(&gpu, pass, job, 0, &rt, alloc);
+    let mut pass = starts_nothing(&gpu, pass, &rt);
+    assert!(rt; gpu.timeout(&mut pass, 0, 1, &rt) == Expired::NotYet { due_in: 9 });
+    Ok(())
+}

@@ -1,0 +1,107 @@
+//! Hangs, and entities that are stopped.
+ghost use Rattle.std.specs.Prelude.{◌≡◌};
+ghost use Rattle.drm_gpu_tests.specs.Pairs.{IsPair};
+
+use crate::calls::{begun, finishes, made, picks, planned, reads, runs, steps, submitted};
+use crate::{fill, opened};
+use drm_gpu::{Gpu, Pass, Planned};
+use drm_packet::Packet;
+use drm_sched::{Expired, Finished, Refusal, Stepped};
+use drm_types::Access::Write;
+use drm_types::{Moment, Outcome};
+use std::process::Abort;
+use std::sync::Wait;
+use std::test::Fail;
+
+// What a look at the first ring finds.
+fn expires<R: Wait + Abort>(gpu: &Gpu, pass: &mut Pass, now: Moment, found: Expired, rt: &R)
+    requires gpu { IsPair gpu.now.spec }
+    requires pass { pass.old.gpu ≡ gpu.now }
+    ensures { pass.new.gpu ≡ gpu.now }
+{
+    let expired = gpu.timeout(pass, 0, now, rt);
+    assert!(rt; expired == found);
+}
+
+// The job runs its first packet, hangs at its second, and is cut short.
+fn hangs<R: Wait + Abort>(gpu: &Gpu, pass: &mut Pass, rt: &R)
+    requires gpu { IsPair gpu.now.spec }
+    requires pass { pass.old.gpu ≡ gpu.now }
+    ensures { pass.new.gpu ≡ gpu.now }
+{
+    expires(gpu, pass, 0, Expired::Empty, rt);
+    picks(gpu, pass, 0, 0, 5, rt);
+    steps(gpu, pass, 0, 0, 0, rt);
+    let stalled = gpu.step(pass, 0, rt);
+    assert!(rt; matches!(stalled, Ok(Stepped::Stalled { fence: 0 })));
+    assert!(rt; matches!(gpu.finish(pass, 0, 6, rt), Err(Refusal::NotComplete)));
+    expires(gpu, pass, 14, Expired::NotYet { due_in: 1 }, rt);
+    expires(gpu, pass, 15, Expired::Guilty { entity: 0 }, rt);
+    assert!(rt; matches!(gpu.step(pass, 0, rt), Err(Refusal::Idle)));
+    expires(gpu, pass, 25, Expired::Complete, rt);
+    let outcome = Outcome::Cancelled;
+    finishes(gpu, pass, 0, Finished { fence: 0, outcome }, 26, rt);
+    assert!(rt; matches!(gpu.finish(pass, 0, 26, rt), Err(Refusal::Idle)));
+}
+
+#[test]
+fn a_job_that_hangs_is_cut_short(rt: HostRuntime) -> Result<(), Fail> {
+    let alloc = rt.alloc();
+    let packets = [fill(0, 5), Packet::Stall { resets: 9 }, fill(0, 6)];
+    let job = made(alloc, 0, &[(0, Write)], &packets, &rt);
+    let Some((gpu, pass)) = opened(alloc, 8) else {
+        panic!(rt; "no device")
+    };
+    let mut pass = submitted(&gpu, pass, job, 0, &rt, alloc);
+    hangs(&gpu, &mut pass, &rt);
+    assert!(rt; gpu.status(&mut pass, 0) == Ok(-125));
+    let mut pass = reads(&gpu, pass, 0, 5, &rt, alloc);
+    assert!(rt; gpu.counts(&mut pass, &rt) == (1, 1));
+    Ok(())
+}
+
+// The first entity is stopped, and its queued job ends once the other's has.
+fn stops<R: Wait + Abort>(gpu: &Gpu, pass: &mut Pass, rt: &R)
+    requires gpu { IsPair gpu.now.spec }
+    requires pass { pass.old.gpu ≡ gpu.now }
+    ensures { pass.new.gpu ≡ gpu.now }
+{
+    assert!(rt; matches!(gpu.reap(pass, 0, rt), Err(Refusal::Nothing)));
+    assert!(rt; gpu.cancel(pass, 0, rt).is_ok());
+    assert!(rt; matches!(gpu.cancel(pass, 0, rt), Err(Refusal::AlreadyStopped)));
+    assert!(rt; matches!(gpu.reap(pass, 0, rt), Err(Refusal::Waits)));
+    assert!(rt; matches!(gpu.pick(pass, 0, 0, rt), Err(Refusal::Idle)));
+    runs(gpu, pass, 1, 0, (0, 1), rt);
+    assert!(rt; matches!(gpu.pick(pass, 0, 0, rt), Err(Refusal::Idle)));
+    assert!(rt; matches!(gpu.reap(pass, 0, rt), Ok(1)));
+    assert!(rt; matches!(gpu.reap(pass, 0, rt), Err(Refusal::Nothing)));
+}
+
+// A stopped entity takes no more jobs.
+fn is_stopped<R: Wait + Abort>(planned: Planned, rt: &R) -> Pass
+    ensures { result.gpu ≡ planned.entry.submission.pass.gpu }
+{
+    let Err((planned, Refusal::Stopped)) = planned.arm(rt) else {
+        panic!(rt; "not stopped")
+    };
+    let (pass, _job) = planned.abandon();
+    pass
+}
+
+#[test]
+fn a_job_of_a_stopped_entity_never_runs(rt: HostRuntime) -> Result<(), Fail> {
+    let alloc = rt.alloc();
+    let first = made(alloc, 1, &[(0, Write)], &[fill(0, 5)], &rt);
+    let second = made(alloc, 0, &[(0, Write)], &[fill(0, 6)], &rt);
+    let third = made(alloc, 0, &[(0, Write)], &[fill(0, 7)], &rt);
+    let Some((gpu, pass)) = opened(alloc, 8) else {
+        panic!(rt; "no device")
+    };
+    let pass = submitted(&gpu, pass, first, 0, &rt, alloc);
+    let mut pass = submitted(&gpu, pass, second, 1, &rt, alloc);
+    stops(&gpu, &mut pass, &rt);
+    assert!(rt; gpu.status(&mut pass, 1) == Ok(-3));
+    let pass = is_stopped(planned(begun(&gpu, pass, third, &rt, alloc), &rt), &rt);
+    reads(&gpu, pass, 0, 5, &rt, alloc);
+    Ok(())
+}

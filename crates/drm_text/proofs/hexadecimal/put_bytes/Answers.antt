@@ -1,0 +1,8 @@
+use Rattle.std.proofs.Common.{◌≡◌, ◌++◌, ℕ, List, append_assoc, sym, ap, ◌∙◌}
+use Rattle.drm_text.specs.Hexadecimal.{text_of_bytes}
+use Rattle.drm_text.proofs.Filled.{cut_text}
+use Rattle.drm_text.proofs.hexadecimal.put_bytes.Goals as goal
+
+pub loop-rest-preserved : goal.loop-rest-preserved
+loop-rest-preserved c =
+    rw (c.in_ok-put_block.ensures, append_assoc, c.split_at.ensures.front, c.split_at.ensures.back, cut_text 512 c.loop-rest.rest.now) c.loop-rest.invariant
