@@ -60,3 +60,5 @@ pub mod Words
 pub mod MarkedKeeps
 pub mod Alike
 pub mod EventsKept
+pub mod TurnsAlike
+pub mod BytesKept

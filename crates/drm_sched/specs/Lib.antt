@@ -13,6 +13,7 @@ pub mod Grows
 pub mod Steady
 pub mod Chosen
 pub mod Writers
+pub mod Readers
 pub mod Events
 -- What helps the bodies, and the words of a device's calls.
 pub mod Waits

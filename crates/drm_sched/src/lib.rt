@@ -29,7 +29,7 @@ pub use answer::{Answer, Expired, Finished, Picked, Refusal, Stepped};
 pub use device_calls::Device;
 pub use drm_fence::Phase;
 pub use journal::JobRecord;
-pub use laws::{choice_is_least, devices_stay_steady, reads_wait_for_writers};
+pub use laws::{bytes_stay, choice_is_least, devices_stay_steady, reads_wait_for_writers};
 pub use life::{BuildError, Closed};
 pub use marked::Begun;
 pub use plans::{Held, Plan};
