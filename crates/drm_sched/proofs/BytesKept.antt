@@ -1,9 +1,9 @@
 -- The bytes of a buffer whose writers have ended stay while no job that uses it is armed.
-use Rattle.std.proofs.Common.{◌≡◌, ℕ, zero, suc, ◌+◌, ◌<◌, ◌≤◌, Bool, true, false, ◌==◌, List, [], ◌∷◌, ◌++◌, length, map, get_or, take, drop, take-append-drop, take_all, Some, None, Option, refl, sym, ap, subst, ◌∙◌, inl, inr, ◌⊎◌, arith, slice_get}
-use Rattle.std.specs.Prelude.{Contains, fold, option_map, filter_map}
-use Rattle.std.specs.List.{list_any, cons_option, enumerate_from}
+use Rattle.std.proofs.Common.{◌≡◌, ℕ, zero, suc, ◌+◌, ◌<◌, ◌≤◌, true, false, ◌==◌, List, [], ◌∷◌, ◌++◌, length, get_or, take, drop, take-append-drop, take_all, Some, None, Option, refl, sym, ap, subst, ◌∙◌, inl, inr, arith, slice_get}
+use Rattle.std.specs.Prelude.{option_map, filter_map}
+use Rattle.std.specs.List.{list_any, cons_option}
 use Rattle.std.specs.Option.{option_map_or}
-use Rattle.std.proofs.lemmas.Bool.{cases_Bool, cases_lt, or_left, or_right}
+use Rattle.std.proofs.lemmas.Bool.{cases_Bool, or_left, or_right}
 use Rattle.std.proofs.lemmas.List.{take_more, length-map}
 use Rattle.std.proofs.lemmas.List.Sums.{fold_push, fold-append}
 use Rattle.std.proofs.lemmas.Option.{slice_get_within, get_or_from_slice_get}
@@ -143,8 +143,10 @@ given_from {X} {Y} h (x ∷ xs) j y is = by (h x) refl j (λ i at. given_from h 
   where
     Given : List X → Type 0
     Given zs = (k : ℕ) × (z : X) × (slice_get zs k ≡ Some z) × (h z ≡ Some y)
+
     behind : Given xs → Given (x ∷ xs)
     behind r = (suc r.0, r.1, r.2, r.3)
+
     by : (o : Option Y) → h x ≡ o → (j : ℕ) → ((i : ℕ) → slice_get (filter_map h xs) i ≡ Some y → Given xs)
         → slice_get (cons_option o (filter_map h xs)) j ≡ Some y → Given (x ∷ xs)
     by None none j rest is = behind (rest j is)
@@ -178,6 +180,7 @@ used_within b olds news k r u same at uses =
   where
     h_of : ℕ → Option Usage → Option (ℕ × Usage)
     h_of n o = option_map (λ v. (n, v)) o
+
     number_of : (o : Option Usage) (n k : ℕ) (u : Usage) → h_of n o ≡ Some (k, u) → n ≡ k
     number_of None n k u is = absurd (cc (is))
     number_of (Some v) n k u is = let pair : ◌≡◌ {A = ℕ × Usage} (n, v) (k, u) = cc (is) in ap (λ (p : ℕ × Usage). p.0) pair
