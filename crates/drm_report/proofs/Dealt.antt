@@ -10,12 +10,12 @@ abbrev pub FitRest : {J V : Type 0} → (V → List J) → ℕ → ℕ → List 
 FitRest items n place jobs rest shares =
     (length shares ≡ n) × ((s : ℕ) (v : _) → slice_get shares s ≡ Some v → items v ++ share_from n s place rest ≡ share_of n s jobs)
 
-get_set_same : {X : Type 0} (xs : List X) (i : ℕ) (x y : X) → slice_get xs i ≡ Some x → slice_get (set xs i y) i ≡ Some y
+pub get_set_same : {X : Type 0} (xs : List X) (i : ℕ) (x y : X) → slice_get xs i ≡ Some x → slice_get (set xs i y) i ≡ Some y
 get_set_same [] i x y is = absurd (cc (is))
 get_set_same (z ∷ xs) zero x y is = refl
 get_set_same (z ∷ xs) (suc i) x y is = get_set_same xs i x y is
 
-get_set_other : {X : Type 0} (xs : List X) (i k : ℕ) (y : X) → k ≢ i → slice_get (set xs i y) k ≡ slice_get xs k
+pub get_set_other : {X : Type 0} (xs : List X) (i k : ℕ) (y : X) → k ≢ i → slice_get (set xs i y) k ≡ slice_get xs k
 get_set_other [] i k y apart = refl
 get_set_other (x ∷ xs) zero zero y apart = absurd (apart refl)
 get_set_other (x ∷ xs) zero (suc k) y apart = refl

@@ -1,1 +1,4 @@
 pub mod Shares
+pub mod Jobs
+pub mod Armings
+pub mod Reports
