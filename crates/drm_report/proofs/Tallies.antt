@@ -3,9 +3,9 @@ use Rattle.std.proofs.Common.{◌≡◌, ◌≢◌, ◌<◌, ◌≤◌, ◌+◌,
 use Rattle.std.specs.Prelude.{if◌then◌else◌}
 use Rattle.std.specs.List.{filter}
 use Rattle.std.proofs.lemmas.Bool.{cases_eq}
-use Rattle.std.proofs.lemmas.Option.{slice_get_within}
+use Rattle.std.proofs.lemmas.Option.{slice_get_within, slice_get-get_or}
 use Rattle.drm_sched.specs.declared.journal.JobRecord.{JobRecord}
-use Rattle.drm_report.specs.Reports.{records_of}
+use Rattle.drm_report.specs.Reports.{records_of, AreCounts}
 use Rattle.drm_report.proofs.Dealt.{get_set_same, get_set_other}
 
 -- what is counted, with what is left to count, is what there is
@@ -72,3 +72,25 @@ none_left (r ∷ rs) (suc i) past = none_left rs i (omega (arith, past))
 -- all are counted
 pub all_counted : (rs : List JobRecord) (i : ℕ) (counts : List ℕ) → length rs ≤ i → Tally rs i counts → (ring k : ℕ) → slice_get counts ring ≡ Some k → k ≡ records_of ring rs
 all_counted rs i counts past tally ring k get = omega (arith, tally ring k get, ap (records_of ring) (none_left rs i past))
+
+-- what is told of each ring is the number of its records, where it is what was counted
+pub told_right : (rs seen : List JobRecord) (items told counts : List ℕ) (rings n : ℕ) → seen ≡ rs → told ≡ items → n ≡ rings
+    → ((ring k : ℕ) → slice_get counts ring ≡ Some k → k ≡ records_of ring seen)
+    → (length told ≡ n) × ((ring k : ℕ) → slice_get told ring ≡ Some k → slice_get counts ring ≡ Some k) → AreCounts rings rs items
+told_right rs seen items told counts rings n all is count counted same = (
+  omega (arith, ap length is, count, same.0),
+  λ ring k at. counted ring k (same.1 ring k (ap (λ l. slice_get l ring) is ∙ at)) ∙ ap (records_of ring) all,
+)
+
+-- and the other way round
+pub as_told : (rs seen : List JobRecord) (items told counts : List ℕ) (rings n : ℕ) → seen ≡ rs → told ≡ items → n ≡ rings → rings ≤ length counts
+    → ((ring k : ℕ) → slice_get counts ring ≡ Some k → k ≡ records_of ring seen) → AreCounts rings rs items
+    → (length told ≡ n) × ((ring k : ℕ) → slice_get told ring ≡ Some k → slice_get counts ring ≡ Some k)
+as_told rs seen items told counts rings n all is count wide counted are = (
+  omega (arith, ap length is, count, are.0),
+  λ ring k at.
+      let here : slice_get items ring ≡ Some k = ap (λ l. slice_get l ring) (sym is) ∙ at in
+      let within : ring < length items = slice_get_within items ring k here in
+      let there = slice_get-get_or counts ring 0 (omega (arith, within, are.0, wide)) in
+      there ∙ ap Some (counted ring _ there ∙ (ap (records_of ring) all ∙ sym (are.1 ring k here))),
+)
