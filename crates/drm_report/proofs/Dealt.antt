@@ -1,0 +1,50 @@
+-- Jobs are dealt one by one.
+use Rattle.std.proofs.Common.{◌≡◌, ◌≢◌, ◌==◌, ◌%◌, ◌+◌, ℕ, zero, suc, Bool, true, false, List, [], ◌∷◌, ◌++◌, length, set, map, replicate, Some, slice_get, refl, sym, ap, ◌∙◌, subst, arith, inl, inr, eq-eqb, ne_eqb}
+use Rattle.std.specs.Prelude.{if◌then◌else◌}
+use Rattle.std.proofs.lemmas.Bool.{cases_eq}
+use Rattle.std.proofs.lemmas.List.{append_assoc, append-nil, length-set}
+use Rattle.drm_report.specs.Shares.{share_from, share_of, AreShares}
+
+-- there are n lists, and each becomes its submitter's share with what the rest gives it
+abbrev pub FitRest : {J V : Type 0} → (V → List J) → ℕ → ℕ → List J → List J → List V → Type 0
+FitRest items n place jobs rest shares =
+    (length shares ≡ n) × ((s : ℕ) (v : _) → slice_get shares s ≡ Some v → items v ++ share_from n s place rest ≡ share_of n s jobs)
+
+pub get_set_same : {X : Type 0} (xs : List X) (i : ℕ) (x y : X) → slice_get xs i ≡ Some x → slice_get (set xs i y) i ≡ Some y
+get_set_same [] i x y is = absurd (cc (is))
+get_set_same (z ∷ xs) zero x y is = refl
+get_set_same (z ∷ xs) (suc i) x y is = get_set_same xs i x y is
+
+pub get_set_other : {X : Type 0} (xs : List X) (i k : ℕ) (y : X) → k ≢ i → slice_get (set xs i y) k ≡ slice_get xs k
+get_set_other [] i k y apart = refl
+get_set_other (x ∷ xs) zero zero y apart = absurd (apart refl)
+get_set_other (x ∷ xs) zero (suc k) y apart = refl
+get_set_other (x ∷ xs) (suc i) zero y apart = refl
+get_set_other (x ∷ xs) (suc i) (suc k) y apart = get_set_other xs i k y (λ e. apart (ap suc e))
+
+-- one job goes to the list whose turn it is
+pub one_dealt : {J V : Type 0} (items : V → List J) (n place : ℕ) (jobs rest : List J) (x : J) (shares new : List V) (v w : V)
+    → slice_get shares (place % n) ≡ Some v → items w ≡ items v ++ x ∷ [] → new ≡ set shares (place % n) w
+    → FitRest items n place jobs (x ∷ rest) shares → FitRest items n (place + 1) jobs rest new
+one_dealt {J} {V} items n place jobs rest x shares new v w at more is fit = subst (FitRest items n (place + 1) jobs rest) (sym is) (length-set shares (place % n) w ∙ fit.0, each) where
+  each : (s : ℕ) (u : V) → slice_get (set shares (place % n) w) s ≡ Some u → items u ++ share_from n s (place + 1) rest ≡ share_of n s jobs
+  each s u is = elim (cases_eq s (place % n)) [
+    | inl same ↦
+        let given : u ≡ w = cc (get_set_same shares (place % n) v w at, is, same) in
+        let turn : (place % n == s) ≡ true = eq-eqb (place % n) s (sym same) in
+        ap (λ z. items z ++ share_from n s (place + 1) rest) given
+        ∙ (ap (λ z. z ++ share_from n s (place + 1) rest) more
+        ∙ (append_assoc (items v) (x ∷ []) (share_from n s (place + 1) rest)
+        ∙ (ap (λ (b : Bool). items v ++ (if b then x ∷ share_from n s (place + 1) rest else share_from n s (place + 1) rest)) (sym turn)
+        ∙ fit.1 s v (ap (slice_get shares) same ∙ at))))
+    | inr apart ↦
+        let turn : (place % n == s) ≡ false = ne_eqb (place % n) s (λ e. apart (sym e)) in
+        ap (λ (b : Bool). items u ++ (if b then x ∷ share_from n s (place + 1) rest else share_from n s (place + 1) rest)) (sym turn)
+        ∙ fit.1 s u (sym (get_set_other shares (place % n) s w apart) ∙ is)
+  ]
+
+-- where none is left, the lists are the shares
+pub all_dealt : {J V : Type 0} (items : V → List J) (n place : ℕ) (jobs rest : List J) (shares : List V) → length rest ≡ 0
+    → FitRest items n place jobs rest shares → AreShares items n jobs shares
+all_dealt items n place jobs [] shares none fit = (fit.0, λ s v at. sym (append-nil (items v)) ∙ fit.1 s v at)
+all_dealt items n place jobs (x ∷ rest) shares none fit = absurd (omega (arith, none))

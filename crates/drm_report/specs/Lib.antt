@@ -1,0 +1,4 @@
+pub mod Shares
+pub mod Jobs
+pub mod Armings
+pub mod Reports
