@@ -1,0 +1,13 @@
+//! What each number means that the engines answer: the refusals of events and of library calls, and the faults of texts.
+//!
+//! The table (`table`) has a row for each: how one gets there, what to do, and the kernel's error or call that it models.
+//! `explain` finds the row of a number, and answers `None` exactly for a number that `specs/Numbers` does not list. The
+//! documents tell the same words in their tables, and a test compares them.
+#![tactic(auto)]
+
+mod explanation;
+mod table;
+mod text;
+
+pub use explanation::{Explanation, NUMBERS, explain, number_of_word};
+pub use text::list_text;
