@@ -9,6 +9,7 @@ pub mod PacketReaders
 pub mod InTurn
 pub mod Records
 pub mod RingLists
+pub mod RunReaders
 pub mod ScriptReaders
 pub mod CoreJournal
 pub mod ShortNumbers

@@ -1,5 +1,5 @@
 -- A word that begins as nothing that stands in a job is read as a packet, and is none.
-use Rattle.std.proofs.Common.{◌≡◌, ℕ, ◌==◌, Bool, true, false, ◌||◌, cond, List, [], ◌∷◌, ◌++◌, Option, Some, None, Result, Ok, Err, refl, sym, ap, ◌∙◌}
+use Rattle.std.proofs.Common.{◌≡◌, ℕ, ◌==◌, Bool, true, false, ◌||◌, cond, List, [], ◌∷◌, ◌++◌, Option, Some, None, Result, Ok, Err, refl, ap, ◌∙◌}
 use Rattle.std.specs.List.{list_any, slice_split, onto_first}
 use Rattle.std.specs.Str.{bytes_eq}
 use Rattle.std.specs.Prelude.{codes, unwrap_or}
@@ -12,7 +12,7 @@ use Rattle.drm_text.specs.declared.fault.TextFault.TheVariants as what
 use Rattle.drm_text.specs.Reading.{◌>>=◌, or_fault, fault_at}
 use Rattle.drm_script.specs.declared.job.Kind.{Kind}
 use Rattle.drm_script.specs.declared.job.Kind.TheVariants as kind
-use Rattle.drm_script.specs.Job.{kind_by_first, kind_of, kind_read, packet_named, packet_from, packet_at, fill_at, route_at, stall_at, four_of, five_of, is_late, with_item, with_word}
+use Rattle.drm_script.specs.Job.{kind_by_first, kind_read, packet_named, packet_from, packet_at, fill_at, route_at, stall_at, four_of, five_of, is_late, with_item, with_word}
 
 -- a name without pieces is no packet
 abbrev bad : Fault → Result Packet Fault

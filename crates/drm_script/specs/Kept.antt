@@ -1,5 +1,4 @@
 -- Events as a script keeps them.
-use Rattle.std.specs.Prelude.{ℕ}
 use Rattle.drm_core.specs.declared.event.Event.{Event}
 use Rattle.drm_core.specs.declared.event.Event.TheVariants as event
 use Rattle.drm_script.specs.declared.kept.Kept.{Kept}

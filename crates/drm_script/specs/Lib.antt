@@ -7,6 +7,8 @@ pub mod Journal
 pub mod JournalGrammar
 pub mod JournalText
 pub mod Leaving
+pub mod Run
+pub mod RunGrammar
 pub mod Script
 pub mod Transfer
 pub mod Kept

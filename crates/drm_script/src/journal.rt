@@ -142,7 +142,7 @@ impl JournalJob {
 
 /// The draft as a job of the device.
 #[tactic(auto, unfolding(crate::specs::Journal::is_job))]
-fn make_job(draft: Draft, spec: &DeviceSpec) -> Option<Job>
+pub fn make_job(draft: Draft, spec: &DeviceSpec) -> Option<Job>
     ensures some { IfSome result (λ job. (job ≡ draft) × IsTrue (is_job spec.now draft)) }
     ensures none { IfNone result (is_job spec.now draft ≡ false) }
 {

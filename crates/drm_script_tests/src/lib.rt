@@ -24,6 +24,8 @@ mod lines;
 mod numbers;
 #[cfg(test)]
 mod readers;
+#[cfg(test)]
+mod run_scripts;
 mod slow_reader;
 #[cfg(test)]
 mod words;
