@@ -12,3 +12,4 @@ pub mod Statuses
 pub mod Built
 pub mod Looking
 pub mod Left
+pub mod Agreeing

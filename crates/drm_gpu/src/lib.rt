@@ -22,6 +22,6 @@ pub use driver::{Driver, Task};
 pub use gpu::{CloseError, Closed, Gpu};
 pub use locking::{BeginError, BeginReadError, Locked, Locking};
 pub use pass::{NoFence, Pass};
-pub use reading::Reading;
+pub use reading::{Reading, readbacks_agree};
 pub use running::{Running, StartError};
 pub use submission::{Armed, Planned};

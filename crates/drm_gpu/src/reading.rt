@@ -2,13 +2,13 @@
 ghost use Rattle.std.specs.Prelude.{◌≡◌, length};
 ghost use Rattle.drm_buffer.specs.Memory.{bytes_of};
 ghost use Rattle.drm_gpu.specs.Passes.{Calls};
-ghost use Rattle.drm_gpu.specs.Reading.{ReadIs};
+ghost use Rattle.drm_gpu.specs.Reading.{ReadIs, ReadbacksAgree};
 
 use crate::gpu::Gpu;
 use crate::locking::{DeviceAcquire, give_up};
 use crate::pass::Pass;
 use crate::waiting::Needs;
-use drm_sched::Refusal;
+use drm_sched::{Refusal, bytes_stay};
 use drm_types::BufferId;
 use std::marker::Model;
 use std::snapshot::Snapshot;
@@ -70,4 +70,12 @@ impl<'g> Reading<'g> {
         } = self;
         give_up(gpu, acquire)
     }
+}
+
+/// Once a readback was answered, the next one of the same reading is answered too, and with the same bytes: nobody arms a
+/// writer of a buffer while its `dma_resv` is held.
+pub fn readbacks_agree()
+    ensures { ReadbacksAgree }
+{
+    bytes_stay();
 }

@@ -9,7 +9,7 @@ use Rattle.drm_sched.specs.Keeps.{Keeps}
 use Rattle.drm_sched.specs.Marks.{MarkedDevice}
 use Rattle.drm_sched.specs.Reservation.{Fits}
 use Rattle.drm_gpu.specs.Passes.{GrowsTo}
-use Rattle.drm_gpu.specs.Reading.{ReadingState, ReadIs}
+use Rattle.drm_gpu.specs.Reading.{ReadingState, HoldsFitting, ReadIs}
 use Rattle.drm_gpu.specs.Submissions.{Fitting}
 use Rattle.drm_gpu.proofs.Grown.{grows_itself, keeps_itself}
 use Rattle.drm_gpu.proofs.Holders.{called_with}
@@ -63,8 +63,11 @@ returns-clause-call g c =
     let x = (slice_index_or c.held.result.now 0 c.index-held-0.result).1.kept in
     let has : In (b, x) (kept_of c.self.inside.acquire.held.items) =
     subst (λ hs. In (b, x) (kept_of hs)) (sym at.1) (inl (ap (λ l. (b, (slice_index_or l 0 c.index-held-0.result).1.kept)) is)) in
+    let s : ReadingState = record { pass = c.args.self.now.pass; buffer = b; held = kept_of c.self.inside.acquire.held.items } in
+    let fitting : HoldsFitting s d =
+    (at.0.kept, ap kept_of at.1, c.enter_for_with-device.ensures.fit b at.0.kept (subst (λ hs. In (b, at.0.kept) (kept_of hs)) (sym at.1) (inl refl))) in
     called_with (ReadIs c.args.self.now r old new) gpu c.args.self.now.pass (view c.self.inside.acquire) (view c.enter_for_with-device.new.acquire) (view c.leave_with.new.acquire) d c.of-found.result.value d
     (ap (λ (s : ReadingState). s.pass) c.self.view_is) c.self.invariant.0.knows c.enter_for_with-device.ensures.found c.enter_for_with-device.ensures.same.1 c.of-found.ensures (grows_itself d)
     (c.leave_with.ensures.holding.0.knows, c.leave_with.ensures.holding.1) c.leave_with.ensures.call
     (subst (λ (s : ReadingState). ReadIs s r old new d d) c.self.view_is
-    (read_is (record { pass = c.args.self.now.pass; buffer = b; held = kept_of c.self.inside.acquire.held.items }) x has old new d c.enter_for_with-device.ensures.free r e.read e.writers e.busy e.writing))
+    (read_is s x has old new d c.enter_for_with-device.ensures.free fitting r e.read e.writers e.busy e.writing))
