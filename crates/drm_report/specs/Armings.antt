@@ -1,5 +1,5 @@
 -- The numbers that calls of the shared device have armed.
-use Rattle.std.specs.Prelude.{◌≡◌, ◌<◌, ◌≤◌, ◌+◌, nat_lt, ℕ, List, [], ◌∷◌, ◌++◌, if◌then◌else◌, length, All, IsPermutation}
+use Rattle.std.specs.Prelude.{◌<◌, ◌≤◌, ◌+◌, nat_lt, ℕ, List, [], ◌∷◌, ◌++◌, if◌then◌else◌, length, All, IsPermutation}
 use Rattle.drm_job.specs.declared.Draft.{Draft}
 use Rattle.ww_lock.specs.Rule.{In}
 use Rattle.ww_lock.specs.Steps.{IsChain}

@@ -1,4 +1,4 @@
-use Rattle.std.proofs.Common.{rules, ◌≡◌, ◌≤◌, ◌∙◌, length, refl, sym, ap, subst, arith, All, IsTrue}
+use Rattle.std.proofs.Common.{rules, ◌≤◌, length, refl, sym, ap, subst, arith, All, IsTrue}
 use Rattle.std.proofs.lemmas.Bool.{both_ways}
 use Rattle.drm_fence.specs.Phases.{has_ended}
 use Rattle.drm_report.specs.Reports.{IsComplete}
@@ -11,17 +11,19 @@ pub returns-then-not-are_counts-clause-refused : goal.returns-then-not-are_count
 returns-then-not-are_counts-clause-refused c =
     let records = c.args.closed.records in
     let rings = length c.args.closed.spec.rings in
-    let wide : rings ≤ length c.count_rings-counts.result = search rules in
-    (refl, λ whole. elim c.then-not-are_counts.branch [
-      | then-not-are_counts-via-then-not-are_counts w ↦
-          both_ways c.are_counts.result w.if-not-are_counts.true (c.are_counts.ensures.1
-          (as_told records c.as_slice-records.result.now c.args.picked.items c.deref.result.now c.count_rings-counts.result rings c.len-rings.result
-          c.as_slice-records.ensures c.deref.ensures.value c.len-rings.ensures wide c.count_rings-counts.ensures whole.picked))
-      | then-not-are_counts-via-else-not-are_counts+then-not-are_counts-2 w ↦
-          both_ways w.are_counts-else-not-are_counts.result w.if-not-are_counts-2.true (w.are_counts-else-not-are_counts.ensures.1
-          (as_told records c.as_slice-records.result.now c.args.finished.items w.deref-else-not-are_counts.result.now c.count_rings-counts.result rings c.len-rings.result
-          c.as_slice-records.ensures w.deref-else-not-are_counts.ensures.value c.len-rings.ensures wide c.count_rings-counts.ensures whole.finished))
-    ])
+    let wide : rings ≤ length c.count_rings-counts.result = search rules in (
+      refl,
+      λ whole. elim c.then-not-are_counts.branch [
+        | then-not-are_counts-via-then-not-are_counts w ↦
+            both_ways c.are_counts.result w.if-not-are_counts.true (c.are_counts.ensures.1
+            (as_told records c.as_slice-records.result.now c.args.picked.items c.deref.result.now c.count_rings-counts.result rings c.len-rings.result
+            c.as_slice-records.ensures c.deref.ensures.value c.len-rings.ensures wide c.count_rings-counts.ensures whole.picked))
+        | then-not-are_counts-via-else-not-are_counts+then-not-are_counts-2 w ↦
+            both_ways w.are_counts-else-not-are_counts.result w.if-not-are_counts-2.true (w.are_counts-else-not-are_counts.ensures.1
+            (as_told records c.as_slice-records.result.now c.args.finished.items w.deref-else-not-are_counts.result.now c.count_rings-counts.result rings c.len-rings.result
+            c.as_slice-records.ensures w.deref-else-not-are_counts.ensures.value c.len-rings.ensures wide c.count_rings-counts.ensures whole.finished))
+      ],
+    )
 
 pub returns-clause-report : goal.returns-clause-report
 returns-clause-report c spec list n long run =
