@@ -1,5 +1,5 @@
 -- Which calls arm a job.
-use Rattle.std.proofs.Common.{◌≡◌, ◌<◌, ◌≤◌, ◌+◌, ℕ, Bool, true, false, List, [], ◌∷◌, ◌++◌, arith, suc, zero, refl, sym, ap, ◌∙◌, subst, length, map, set, Some, None, Ok, Err, slice_get}
+use Rattle.std.proofs.Common.{◌≡◌, ◌<◌, ◌+◌, ℕ, Bool, true, false, List, [], ◌∷◌, ◌++◌, arith, refl, sym, ap, ◌∙◌, length, set, Some, None, Ok, Err, slice_get}
 use Rattle.std.specs.Prelude.{nat_lt, if◌then◌else◌, Option, Result}
 use Rattle.std.specs.Option.{option_map_or}
 use Rattle.std.proofs.lemmas.Bool.{ltb-true, ltb-false}
@@ -7,8 +7,6 @@ use Rattle.std.proofs.lemmas.List.{append-nil, length-set, length-map, length-ap
 use Rattle.drm_types.specs.Firsts.{first}
 use Rattle.drm_types.specs.declared.outcome.Outcome.TheVariants as outcome
 use Rattle.drm_packet.specs.declared.Packet.{Packet}
-use Rattle.drm_job.specs.declared.Draft.{Draft}
-use Rattle.drm_resv.specs.Reservation.{Reservation}
 use Rattle.drm_sched.specs.declared.answer.Answer.{Answer}
 use Rattle.drm_sched.specs.declared.answer.Answer.TheVariants as answer
 use Rattle.drm_sched.specs.declared.answer.Picked.{Picked}
@@ -21,12 +19,12 @@ use Rattle.drm_sched.specs.Arming.{new_record}
 use Rattle.drm_sched.specs.Choice.{choice, queue_of}
 use Rattle.drm_sched.specs.Journal.{changed_at, is_at, is_complete}
 use Rattle.drm_sched.specs.Marks.{MarkedDevice}
-use Rattle.drm_sched.specs.Outcomes.{at_record, stepped_by, hang_outcome, timeout_at, is_too_much, must_stall, picked_device, finished_device, final_outcome, ran_device, pick_outcome, step_outcome, finish_outcome, timeout_outcome, reap_outcome, hung, condemned, ended_at}
+use Rattle.drm_sched.specs.Outcomes.{at_record, stepped_by, hang_outcome, timeout_at, is_too_much, must_stall, picked_device, finished_device, final_outcome, pick_outcome, step_outcome, finish_outcome, timeout_outcome, reap_outcome, hung, condemned, ended_at}
 use Rattle.drm_sched.specs.Ring.{current_of, head_of, age_of, limit_of, is_guilty}
 use Rattle.drm_sched.specs.State.{DeviceState}
 use Rattle.drm_gpu.specs.Passes.{PassState, Calls}
 use Rattle.drm_gpu.specs.Answers.{PickIs, StepIs, FinishIs, TimeoutIs, CancelIs, ReapIs, CountsAre}
-use Rattle.drm_gpu.specs.Submissions.{ArmIs, ArmRefused}
+use Rattle.drm_gpu.specs.Submissions.{ArmRefused}
 use Rattle.drm_report.specs.Armings.{armed_by, armings, ArmsNothing, ArmsTheFence, OnlyArmingsArm}
 use Rattle.drm_report.proofs.Permuted.{armings_append}
 use Rattle.drm_report.proofs.Rising.{count_of}
@@ -123,10 +121,9 @@ arms_the_fence : ArmsTheFence
 arms_the_fence job deps held kept fence old new call =
     let d = call.found in
     let journal : new.last.state.journal ≡ d.state.journal ++ new_record d.state job ∷ [] = ap (λ (s : DeviceState). s.journal) call.event.armed in
-    let longer : count_of new.last ≡ count_of d + 1 = ap length journal ∙ length-append d.state.journal (new_record d.state job ∷ []) in
-    (
+    let longer : count_of new.last ≡ count_of d + 1 = ap length journal ∙ length-append d.state.journal (new_record d.state job ∷ []) in (
       one_more _ old new call
-      ∙ ap (λ xs. armings old.calls ++ (xs ++ [])) (one_armed (nat_lt (count_of d) (count_of new.last)) (count_of d) (count_of new.last) refl (omega (arith, longer)) ∙ ap (λ n. n ∷ []) (sym call.event.number)),
+          ∙ ap (λ xs. armings old.calls ++ (xs ++ [])) (one_armed (nat_lt (count_of d) (count_of new.last)) (count_of d) (count_of new.last) refl (omega (arith, longer)) ∙ ap (λ n. n ∷ []) (sym call.event.number)),
       (new_record d.state job, ap (λ rs. slice_get rs fence) journal ∙ (ap (slice_get (d.state.journal ++ new_record d.state job ∷ [])) call.event.number ∙ last_at d.state.journal (new_record d.state job)), refl),
     )
 

@@ -1,5 +1,5 @@
 //! How jobs are dealt to submitters.
-ghost use Rattle.std.specs.Prelude.{◌≡◌, ◌<◌, IfOk, All, [], vec_len};
+ghost use Rattle.std.specs.Prelude.{◌≡◌, ◌<◌, IfOk, All, [], length};
 ghost use Rattle.drm_report.specs.Shares.{AreShares};
 
 use drm_job::Job;
@@ -8,7 +8,7 @@ use std::alloc::{AllocError, Global};
 // As many empty lists, each with room for its share of so many jobs.
 fn empty_shares(alloc: Global, count: usize, submitters: usize) -> Result<Vec<Vec<Job>>, AllocError>
     requires { 0 < submitters }
-    ensures count { IfOk result (λ shares. vec_len shares ≡ submitters) }
+    ensures count { IfOk result (λ shares. length shares.items ≡ submitters) }
     ensures empty { IfOk result (λ shares. All (λ share. share.items ≡ []) shares.items) }
 {
     let each = count / submitters;

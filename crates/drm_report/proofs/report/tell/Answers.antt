@@ -41,3 +41,6 @@ returns-clause-report c spec list n long run =
           (c.are_counts-else-not-are_counts.ensures.0 c.if-not-are_counts-2.false);
     } in
     reported spec list n _ run (subst (λ k. IsComplete k c.args.closed c.args.picked.items c.args.finished.items) (sym long) complete)
+
+pub returns-clause-told : goal.returns-clause-told
+returns-clause-told c = search rules
