@@ -56,7 +56,7 @@ abbrev pub ArmsTheFence : Type 0
 ArmsTheFence = (job : Draft) (deps : List (ℕ × ℕ)) (held kept : List (ℕ × Reservation)) (fence : ℕ) (old new : PassState) → Calls (ArmIs job deps held kept fence) old new
     → (armings new.calls ≡ armings old.calls ++ fence ∷ []) × JobAt new.last.state.journal fence job
 
--- of the calls of a pass only armings arm
+-- of the calls by which a pass submits to the device and drives it only armings arm
 pub record OnlyArmingsArm : Type 0 where
   pub arm : ArmsTheFence
   pub refused : (job : Draft) (r : Refusal) → ArmsNothing (ArmRefused job r)
