@@ -1,7 +1,8 @@
 -- Jobs are dealt one by one.
-use Rattle.std.proofs.Common.{◌≡◌, ◌≢◌, ◌==◌, ◌%◌, ◌+◌, ℕ, zero, suc, Bool, true, false, List, [], ◌∷◌, ◌++◌, length, set, map, replicate, Some, slice_get, refl, sym, ap, ◌∙◌, subst, arith, inl, inr, eq-eqb, ne_eqb}
+use Rattle.std.proofs.Common.{◌≡◌, ◌≢◌, ◌==◌, ◌%◌, ◌+◌, ℕ, zero, suc, Bool, true, false, List, [], ◌∷◌, ◌++◌, length, set, Some, slice_get, refl, sym, ap, ◌∙◌, subst, arith, inl, inr, eq-eqb, ne_eqb, All}
 use Rattle.std.specs.Prelude.{if◌then◌else◌}
 use Rattle.std.proofs.lemmas.Bool.{cases_eq}
+use Rattle.std.proofs.lemmas.Option.{slice_get_within, get_or_from_slice_get}
 use Rattle.std.proofs.lemmas.List.{append_assoc, append-nil, length-set}
 use Rattle.drm_report.specs.Shares.{share_from, share_of, AreShares}
 
@@ -21,6 +22,16 @@ get_set_other (x ∷ xs) zero zero y apart = absurd (apart refl)
 get_set_other (x ∷ xs) zero (suc k) y apart = refl
 get_set_other (x ∷ xs) (suc i) zero y apart = refl
 get_set_other (x ∷ xs) (suc i) (suc k) y apart = get_set_other xs i k y (λ e. apart (ap suc e))
+
+-- at first all lists are empty
+pub none_dealt : {J V : Type 0} (items : V → List J) (n : ℕ) (jobs : List J) (shares : List V) → length shares ≡ n → All (λ v. items v ≡ []) shares
+    → FitRest items n 0 jobs jobs shares
+none_dealt items n jobs shares count empty = (
+  count,
+  λ s v at.
+      let here : items v ≡ [] = subst (λ w. items w ≡ []) (get_or_from_slice_get shares s v v at) (empty s v (slice_get_within shares s v at)) in
+      ap (λ given. given ++ share_from n s 0 jobs) here,
+)
 
 -- one job goes to the list whose turn it is
 pub one_dealt : {J V : Type 0} (items : V → List J) (n place : ℕ) (jobs rest : List J) (x : J) (shares new : List V) (v w : V)

@@ -5,3 +5,4 @@ pub mod Shared
 pub mod Tallies
 pub mod Reported
 pub mod Ordered
+pub mod Arms

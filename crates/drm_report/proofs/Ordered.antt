@@ -1,8 +1,7 @@
 -- The laws of what a pass has armed.
-use Rattle.std.proofs.Common.{◌≡◌, ◌<◌, ◌≤◌, ℕ, List, [], ◌∷◌, arith, sym, subst, length, All, IsPermutation}
+use Rattle.std.proofs.Common.{◌<◌, ℕ, List, [], ◌∷◌, arith, subst, All, IsPermutation}
 use Rattle.std.proofs.lemmas.List.Elements.{All-nil, All-cons}
-use Rattle.drm_gpu.specs.Passes.{PassState, IsJoinedOf}
-use Rattle.drm_report.specs.Armings.{armings, ArmingsRise, JoinedArmings, IsOrdered, IsRising}
+use Rattle.drm_report.specs.Armings.{armings, ArmingsRise, JoinedArmings}
 use Rattle.drm_report.proofs.Rising.{AllBelow, count_of, longer, rises, below}
 use Rattle.drm_report.proofs.Permuted.{armings_permuted, armings_append}
 

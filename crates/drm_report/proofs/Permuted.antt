@@ -1,5 +1,5 @@
 -- The numbers that calls have armed, where the calls change places.
-use Rattle.std.proofs.Common.{◌≡◌, ◌<◌, ◌+◌, ◌==◌, ℕ, Bool, true, false, List, [], ◌∷◌, ◌++◌, arith, suc, zero, refl, sym, ap, ◌∙◌, subst, length, get_or, inl, inr, eq-eqb, ne_eqb, IsPermutation}
+use Rattle.std.proofs.Common.{◌≡◌, ◌<◌, ◌+◌, ◌==◌, ℕ, Bool, List, [], ◌∷◌, ◌++◌, arith, suc, refl, sym, ap, ◌∙◌, length, get_or, inl, inr, eq-eqb, ne_eqb, IsPermutation}
 use Rattle.std.specs.Prelude.{if◌then◌else◌}
 use Rattle.std.specs.List.{sum_by, remove}
 use Rattle.std.proofs.lemmas.Bool.{cases_eq}
@@ -42,7 +42,7 @@ as_often (x ∷ xs) ys same =
     let f = found x ys here in
     let out : IsPermutation ys (x ∷ remove ys f.0) = IsPermutation-remove ys f.0 x f.1 f.2 in
     let rest : IsPermutation xs (remove ys f.0) = as_often xs (remove ys f.0) (λ n.
-        omega (arith, same n, sum_by-IsPermutation (one_at n) ys (x ∷ remove ys f.0) out, sum_by-cons (one_at n) x xs, sum_by-cons (one_at n) x (remove ys f.0))) in
+    omega (arith, same n, sum_by-IsPermutation (one_at n) ys (x ∷ remove ys f.0) out, sum_by-cons (one_at n) x xs, sum_by-cons (one_at n) x (remove ys f.0))) in
     IsPermutation-trans (x ∷ xs) (x ∷ remove ys f.0) ys (IsPermutation-cons x xs (remove ys f.0) rest) (IsPermutation-sym ys (x ∷ remove ys f.0) out)
 
 times_armed : (n : ℕ) (cs : List (MarkedDevice × MarkedDevice)) → times n (armings cs) ≡ sum_by (λ c. times n (armed_by c)) cs

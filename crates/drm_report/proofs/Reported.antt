@@ -1,12 +1,11 @@
 -- What a run leaves is a report.
-use Rattle.std.proofs.Common.{◌≡◌, ◌<◌, ◌≤◌, ◌+◌, ℕ, false, List, ◌∷◌, ◌++◌, arith, refl, sym, ap, ◌∙◌, subst, length, Some, All, slice_get, IsPermutation}
+use Rattle.std.proofs.Common.{◌≡◌, ◌<◌, ◌≤◌, ◌+◌, ℕ, false, List, arith, sym, ap, ◌∙◌, subst, length, Some, All, slice_get, IsPermutation}
 use Rattle.std.proofs.lemmas.List.Sorted.{length_permutation}
 use Rattle.std.proofs.lemmas.Option.{slice_get-get_or}
 use Rattle.drm_types.specs.declared.spec.DeviceSpec.{DeviceSpec}
 use Rattle.drm_job.specs.declared.Draft.{Draft}
 use Rattle.drm_serial.specs.Serial.{serial}
 use Rattle.drm_resv.specs.Reservation.{WithRoom}
-use Rattle.drm_sched.specs.declared.journal.JobRecord.{JobRecord}
 use Rattle.drm_sched.specs.Journal.{turns}
 use Rattle.drm_sched.specs.Lawful.{IsSound}
 use Rattle.drm_sched.specs.Reservation.{Fits}
@@ -25,8 +24,11 @@ module _ {V : Type 0} (items : V → List ℕ) (spec : DeviceSpec) (jobs : List 
   described = sym run.leaves.spec.0 ∙ (run.leaves.spec.1 ∙ run.described)
 
   order : AreInOrder items closed.records n jobs armed
-  order = (run.order.0, λ s v at. subst (λ rs. AreJobsOf rs (items v) (share_of n s jobs)) (sym run.leaves.records)
-      (jobs_stay run.pass.last run.leaves.device run.leaves.later (items v) (share_of n s jobs) (run.order.1 s v at)))
+  order = (
+    run.order.0,
+    λ s v at. subst (λ rs. AreJobsOf rs (items v) (share_of n s jobs)) (sym run.leaves.records)
+        (jobs_stay run.pass.last run.leaves.device run.leaves.later (items v) (share_of n s jobs) (run.order.1 s v at)),
+  )
 
   number : length (all_items items armed) ≡ length jobs
   number = as_many_as_jobs items n jobs armed run.submitters order.0 (λ s v at. as_many closed.records (items v) (share_of n s jobs) (order.1 s v at))

@@ -8,8 +8,8 @@ use Rattle.ww_lock.specs.Rule.{In}
 use Rattle.ww_lock.specs.Steps.{IsChain}
 use Rattle.drm_sched.specs.declared.journal.JobRecord.{JobRecord}
 use Rattle.drm_sched.specs.Marks.{MarkedDevice}
-use Rattle.drm_gpu.specs.Passes.{PassState, GrowsTo}
-use Rattle.drm_report.specs.Armings.{armed_by, armings, IsRising}
+use Rattle.drm_gpu.specs.Passes.{GrowsTo}
+use Rattle.drm_report.specs.Armings.{armings, IsRising}
 use Rattle.drm_report.specs.Jobs.{JobAt, AreJobsOf, numbers_from}
 
 abbrev pub AllBelow : ℕ → List ℕ → Type 0
@@ -31,9 +31,9 @@ longer d e g = reach (count_of d) (λ i h.
     let s = stands_within d.state.journal i h in
     let t = g.journal i s.0 s.1 in
     slice_get_within e.state.journal i t.0 t.1) where
-  reach : (n : ℕ) → ((i : ℕ) → i < n → i < count_of e) → n ≤ count_of e
-  reach zero f = omega arith
-  reach (suc n) f = let h = f n (omega arith) in omega arith
+      reach : (n : ℕ) → ((i : ℕ) → i < n → i < count_of e) → n ≤ count_of e
+      reach zero f = omega arith
+      reach (suc n) f = let h = f n (omega arith) in omega arith
 
 -- the most numbers that can rise below high
 few : (low high : ℕ) (xs : List ℕ) → low ≤ high → IsRising low xs → AllBelow high xs → low + length xs ≤ high

@@ -1,11 +1,19 @@
 -- The numbers that calls of the shared device have armed.
-use Rattle.std.specs.Prelude.{◌≡◌, ◌<◌, ◌≤◌, ◌+◌, nat_lt, ℕ, List, [], ◌∷◌, ◌++◌, if◌then◌else◌, length, All, IsPermutation}
+use Rattle.std.specs.Prelude.{◌≡◌, ◌<◌, ◌≤◌, ◌+◌, nat_lt, ℕ, List, [], ◌∷◌, ◌++◌, if◌then◌else◌, length, All, IsPermutation, Result}
 use Rattle.drm_job.specs.declared.Draft.{Draft}
 use Rattle.ww_lock.specs.Rule.{In}
 use Rattle.ww_lock.specs.Steps.{IsChain}
 use Rattle.drm_sched.specs.Marks.{MarkedDevice}
-use Rattle.drm_gpu.specs.Passes.{PassState, GrowsTo, IsJoinedOf}
-use Rattle.drm_report.specs.Jobs.{AreJobsOf}
+use Rattle.drm_resv.specs.Reservation.{Reservation}
+use Rattle.drm_sched.specs.declared.answer.Picked.{Picked}
+use Rattle.drm_sched.specs.declared.answer.Stepped.{Stepped}
+use Rattle.drm_sched.specs.declared.answer.Finished.{Finished}
+use Rattle.drm_sched.specs.declared.answer.Expired.{Expired}
+use Rattle.drm_sched.specs.declared.answer.Refusal.{Refusal}
+use Rattle.drm_gpu.specs.Passes.{PassState, Calls, GrowsTo, IsJoinedOf}
+use Rattle.drm_gpu.specs.Answers.{PickIs, StepIs, FinishIs, TimeoutIs, CancelIs, ReapIs, CountsAre}
+use Rattle.drm_gpu.specs.Submissions.{ArmIs, ArmRefused}
+use Rattle.drm_report.specs.Jobs.{JobAt, AreJobsOf}
 
 -- the number that a call has armed, if it has: it found so many records, and left more
 abbrev pub armed_by : MarkedDevice × MarkedDevice → List ℕ
@@ -38,3 +46,24 @@ JoinedArmings = (one other new : PassState) → IsJoinedOf one other new → IsO
 abbrev pub ArmedJobsStay : Type 0
 ArmedJobsStay = (old new : MarkedDevice) → GrowsTo old new → (numbers : List ℕ) (jobs : List Draft)
     → AreJobsOf old.state.journal numbers jobs → AreJobsOf new.state.journal numbers jobs
+
+-- a call of this kind arms nothing
+abbrev pub ArmsNothing : (MarkedDevice → MarkedDevice → Type 0) → Type 0
+ArmsNothing does = (old new : PassState) → Calls does old new → armings new.calls ≡ armings old.calls
+
+-- an arming that answered this fence arms that number, whose record is that of the job
+abbrev pub ArmsTheFence : Type 0
+ArmsTheFence = (job : Draft) (deps : List (ℕ × ℕ)) (held kept : List (ℕ × Reservation)) (fence : ℕ) (old new : PassState) → Calls (ArmIs job deps held kept fence) old new
+    → (armings new.calls ≡ armings old.calls ++ fence ∷ []) × JobAt new.last.state.journal fence job
+
+-- of the calls by which a pass submits to the device and drives it only armings arm
+pub record OnlyArmingsArm : Type 0 where
+  pub arm : ArmsTheFence
+  pub refused : (job : Draft) (r : Refusal) → ArmsNothing (ArmRefused job r)
+  pub pick : (ring now : ℕ) (answer : Result Picked Refusal) → ArmsNothing (PickIs ring now answer)
+  pub step : (ring : ℕ) (answer : Result Stepped Refusal) → ArmsNothing (StepIs ring answer)
+  pub finish : (ring now : ℕ) (answer : Result Finished Refusal) → ArmsNothing (FinishIs ring now answer)
+  pub timeout : (ring now : ℕ) (answer : Expired) → ArmsNothing (TimeoutIs ring now answer)
+  pub cancel : (entity : ℕ) (answer : Result (Unit {0}) Refusal) → ArmsNothing (CancelIs entity answer)
+  pub reap : (entity : ℕ) (answer : Result ℕ Refusal) → ArmsNothing (ReapIs entity answer)
+  pub counts : (counts : ℕ × ℕ) → ArmsNothing (CountsAre counts)

@@ -1,18 +1,14 @@
 //! How jobs are dealt to submitters.
-ghost use Rattle.std.specs.Prelude.{◌≡◌, ◌<◌, IfOk, All, [], vec_len};
+ghost use Rattle.std.specs.Prelude.{◌≡◌, ◌<◌, IfOk, All, [], length};
 ghost use Rattle.drm_report.specs.Shares.{AreShares};
 
 use drm_job::Job;
 use std::alloc::{AllocError, Global};
 
 // As many empty lists, each with room for its share of so many jobs.
-fn empty_shares(
-    alloc: Global,
-    count: usize,
-    submitters: usize,
-) -> Result<Vec<Vec<Job>>, AllocError>
+fn empty_shares(alloc: Global, count: usize, submitters: usize) -> Result<Vec<Vec<Job>>, AllocError>
     requires { 0 < submitters }
-    ensures count { IfOk result (λ shares. vec_len shares ≡ submitters) }
+    ensures count { IfOk result (λ shares. length shares.items ≡ submitters) }
     ensures empty { IfOk result (λ shares. All (λ share. share.items ≡ []) shares.items) }
 {
     let each = count / submitters;
@@ -31,11 +27,7 @@ fn empty_shares(
 /// # Errors
 ///
 /// Where memory for the lists is refused. The jobs are dropped.
-pub fn deal(
-    alloc: Global,
-    jobs: Vec<Job>,
-    submitters: u32,
-) -> Result<Vec<Vec<Job>>, AllocError>
+pub fn deal(alloc: Global, jobs: Vec<Job>, submitters: u32) -> Result<Vec<Vec<Job>>, AllocError>
     requires { 0 < submitters }
     ensures shares { IfOk result (λ shares. AreShares (λ share. share.items) submitters jobs.items shares.items) }
 {

@@ -1,5 +1,5 @@
 //! Laws over the definitions, on functions that do nothing.
-ghost use Rattle.drm_report.specs.Armings.{ArmingsRise, ArmedJobsStay, JoinedArmings};
+ghost use Rattle.drm_report.specs.Armings.{ArmingsRise, ArmedJobsStay, JoinedArmings, OnlyArmingsArm};
 
 /// The numbers that a pass has armed rise, and are those of records of the device that it saw last.
 pub fn armings_rise()
@@ -14,4 +14,10 @@ pub fn joined_armings()
 /// The jobs of numbers are those of the same numbers later.
 pub fn armed_jobs_stay()
     ensures { ArmedJobsStay }
+{}
+
+/// An arming that is not refused arms the number that it answers. One that is refused arms none, nor does a call by which a
+/// pass drives the device.
+pub fn only_armings_arm()
+    ensures { OnlyArmingsArm }
 {}

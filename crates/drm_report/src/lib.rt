@@ -4,7 +4,8 @@
 //! gives a `Report` where every job has its outcome and the counts of the workers are those of the records: such a report
 //! promises (`specs/Reports`) that each job was armed once, under the number that its submitter tells, and that the buffers
 //! are those of the machine that runs the jobs one after another. `specs/Armings` says which numbers the calls of a pass
-//! have armed, with its laws in `armings_rise`, `joined_armings` and `armed_jobs_stay`.
+//! have armed, with its laws in `only_armings_arm`, `armings_rise`,
+//! `joined_armings` and `armed_jobs_stay`.
 #![tactic(auto)]
 
 mod counting;
@@ -13,5 +14,5 @@ mod laws;
 mod report;
 
 pub use dealing::deal;
-pub use laws::{armed_jobs_stay, armings_rise, joined_armings};
+pub use laws::{armed_jobs_stay, armings_rise, joined_armings, only_armings_arm};
 pub use report::{Report, tell};

@@ -27,15 +27,13 @@ loop-record-preserved c =
     elim c.if-ring-lt-MOST_RINGS.branch [
       | then-ring-lt-MOST_RINGS w ↦
           let here : slice_get counts r.ring ≡ Some (slice_index_or counts r.ring 0) =
-          slice_get-get_or counts r.ring 0 (omega (arith, c.loop-record.invariant.0, w.if-ring-lt-MOST_RINGS.true)) in
-          (
+          slice_get-get_or counts r.ring 0 (omega (arith, c.loop-record.invariant.0, w.if-ring-lt-MOST_RINGS.true)) in (
             ap length w.counts-is ∙ (length-set counts r.ring (slice_index_or counts r.ring 0 + 1) ∙ c.loop-record.invariant.0),
             counted rs i r counts c.if-ring-lt-MOST_RINGS.counts (slice_index_or counts r.ring 0) at here w.counts-is c.loop-record.invariant.1,
           )
-      | else-ring-lt-MOST_RINGS w ↦
-          (
-            ap length w.counts-is ∙ c.loop-record.invariant.0,
-            subst (Tally rs (i + 1)) (sym w.counts-is)
+      | else-ring-lt-MOST_RINGS w ↦ (
+        ap length w.counts-is ∙ c.loop-record.invariant.0,
+        subst (Tally rs (i + 1)) (sym w.counts-is)
             (passed_over rs i r counts at (omega (arith, c.loop-record.invariant.0, w.if-ring-lt-MOST_RINGS.false)) c.loop-record.invariant.1),
-          )
+      )
     ]

@@ -1,9 +1,21 @@
-use Rattle.std.proofs.Common.{rules, ◌≡◌, ◌<◌, ◌%◌, ◌+◌, ◌∷◌, Some, length, slice_get, subst, refl, ap, arith}
+use Rattle.std.proofs.Common.{rules, ◌≡◌, ◌<◌, ◌%◌, ◌+◌, ◌∷◌, Some, length, slice_get, subst, refl, ap, arith, sym}
 use Rattle.std.specs.Vec.Iter.{into_iter_items, into_iter_len}
 use Rattle.std.proofs.lemmas.Nat.{mod_below}
 use Rattle.std.proofs.lemmas.Option.{slice_get_read}
-use Rattle.drm_report.proofs.Dealt.{FitRest, one_dealt, all_dealt}
+use Rattle.drm_report.proofs.Dealt.{FitRest, none_dealt, one_dealt, all_dealt}
 use Rattle.drm_report.proofs.dealing.deal.Goals as goal
+
+pub loop-job-init : goal.loop-job-init
+loop-job-init c =
+    let all : into_iter_items c.into_iter-job-iterator.result ≡ c.args.jobs.items = c.into_iter-job-iterator.ensures.into_iter_gives.0 in
+    let left : length (into_iter_items c.into_iter-job-iterator.result) ≡ into_iter_len c.into_iter-job-iterator.result = search rules in
+    let none : length c.in_ok-shares.shares.items ≡ c.args.submitters = c.in_ok-shares.ensures.count in
+    record {
+      fit = subst (λ rest. FitRest (λ share. share.items) c.args.submitters 0 c.args.jobs.items rest c.in_ok-shares.shares.items) (sym all)
+          (none_dealt (λ share. share.items) c.args.submitters c.args.jobs.items c.in_ok-shares.shares.items none c.in_ok-shares.ensures.empty);
+      left = left;
+      dealt = omega (arith, left, ap length all);
+    }
 
 pub loop-job-preserved : goal.loop-job-preserved
 loop-job-preserved c =

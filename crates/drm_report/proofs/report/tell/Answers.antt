@@ -1,4 +1,4 @@
-use Rattle.std.proofs.Common.{rules, ◌≡◌, ◌≤◌, ◌∙◌, length, refl, sym, ap, subst, arith, All, IsTrue}
+use Rattle.std.proofs.Common.{rules, ◌≤◌, length, refl, sym, ap, subst, arith, All, IsTrue}
 use Rattle.std.proofs.lemmas.Bool.{both_ways}
 use Rattle.drm_fence.specs.Phases.{has_ended}
 use Rattle.drm_report.specs.Reports.{IsComplete}
@@ -11,25 +11,27 @@ pub returns-then-not-are_counts-clause-refused : goal.returns-then-not-are_count
 returns-then-not-are_counts-clause-refused c =
     let records = c.args.closed.records in
     let rings = length c.args.closed.spec.rings in
-    let wide : rings ≤ length c.count_rings-counts.result = search rules in
-    (refl, λ whole. elim c.then-not-are_counts.branch [
-      | then-not-are_counts-via-then-not-are_counts w ↦
-          both_ways c.are_counts.result w.if-not-are_counts.true (c.are_counts.ensures.1
-          (as_told records c.as_slice-records.result.now c.args.picked.items c.deref.result.now c.count_rings-counts.result rings c.len-rings.result
-          c.as_slice-records.ensures c.deref.ensures.value c.len-rings.ensures wide c.count_rings-counts.ensures whole.picked))
-      | then-not-are_counts-via-else-not-are_counts+then-not-are_counts-2 w ↦
-          both_ways w.are_counts-else-not-are_counts.result w.if-not-are_counts-2.true (w.are_counts-else-not-are_counts.ensures.1
-          (as_told records c.as_slice-records.result.now c.args.finished.items w.deref-else-not-are_counts.result.now c.count_rings-counts.result rings c.len-rings.result
-          c.as_slice-records.ensures w.deref-else-not-are_counts.ensures.value c.len-rings.ensures wide c.count_rings-counts.ensures whole.finished))
-    ])
+    let wide : rings ≤ length c.count_rings-counts.result = search rules in (
+      refl,
+      λ whole. elim c.then-not-are_counts.branch [
+        | then-not-are_counts-via-then-not-are_counts w ↦
+            both_ways c.are_counts.result w.if-not-are_counts.true (c.are_counts.ensures.1
+            (as_told records c.as_slice-records.result.now c.args.picked.items c.deref.result.now c.count_rings-counts.result rings c.len-rings.result
+            c.as_slice-records.ensures c.deref.ensures.value c.len-rings.ensures wide c.count_rings-counts.ensures whole.picked))
+        | then-not-are_counts-via-else-not-are_counts+then-not-are_counts-2 w ↦
+            both_ways w.are_counts-else-not-are_counts.result w.if-not-are_counts-2.true (w.are_counts-else-not-are_counts.ensures.1
+            (as_told records c.as_slice-records.result.now c.args.finished.items w.deref-else-not-are_counts.result.now c.count_rings-counts.result rings c.len-rings.result
+            c.as_slice-records.ensures w.deref-else-not-are_counts.ensures.value c.len-rings.ensures wide c.count_rings-counts.ensures whole.finished))
+      ],
+    )
 
-pub returns-clause-report : goal.returns-clause-report
-returns-clause-report c spec list n long run =
+pub returns-clause-complete : goal.returns-clause-complete
+returns-clause-complete c =
     let records = c.args.closed.records in
     let seen = c.as_slice-records.result.now in
     let rings = length c.args.closed.spec.rings in
     let counts = c.count_rings-counts.result in
-    let complete : IsComplete c.args.jobs c.args.closed c.args.picked.items c.args.finished.items = record {
+    record {
       count = omega (arith, ap length c.as_slice-records.ensures, c.if-records-jobs.false);
       ended = subst (All (λ r. IsTrue (has_ended r.phase))) c.as_slice-records.ensures (c.have_ended.ensures.0 c.if-not-have_ended.false);
       picked = told_right records seen c.args.picked.items c.deref.result.now counts rings c.len-rings.result
@@ -37,5 +39,11 @@ returns-clause-report c spec list n long run =
       finished = told_right records seen c.args.finished.items c.deref-else-not-are_counts.result.now counts rings c.len-rings.result
           c.as_slice-records.ensures c.deref-else-not-are_counts.ensures.value c.len-rings.ensures c.count_rings-counts.ensures
           (c.are_counts-else-not-are_counts.ensures.0 c.if-not-are_counts-2.false);
-    } in
-    reported spec list n _ run (subst (λ k. IsComplete k c.args.closed c.args.picked.items c.args.finished.items) (sym long) complete)
+    }
+
+pub returns-clause-report : goal.returns-clause-report
+returns-clause-report c spec list n long run =
+    reported spec list n _ run (subst (λ k. IsComplete k c.args.closed c.args.picked.items c.args.finished.items) (sym long) (returns-clause-complete c))
+
+pub returns-clause-told : goal.returns-clause-told
+returns-clause-told c = search rules
