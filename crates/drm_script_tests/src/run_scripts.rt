@@ -112,6 +112,9 @@ fn faults_of_lines_for_threads(rt: HostRuntime) -> Result<(), Fail> {
 #[test]
 fn faults_of_headers_for_threads(rt: HostRuntime) {
     assert_eq!(rt; fault_of(rt.alloc(), b""), Some((1, 1, 73)));
-    assert_eq!(rt; fault_of(rt.alloc(), b"buffer 00\nring 4 10 0\n"), Some((3, 1, 73)));
+    assert_eq!(rt;
+        fault_of(rt.alloc(), b"buffer 00\nring 4 10 0\n"),
+        Some((3, 1, 73))
+    );
     assert_eq!(rt; fault_of(rt.alloc(), b"submit 0 1\n"), Some((1, 1, 73)));
 }
