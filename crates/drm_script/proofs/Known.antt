@@ -13,6 +13,7 @@ use Rattle.drm_text.specs.declared.fault.ReadError.{ReadError}
 use Rattle.drm_text.specs.declared.fault.ReadError.TheVariants as errors
 use Rattle.drm_text.specs.Reading.{Fails}
 use Rattle.drm_script.specs.Transfer.{IsReadOf, LosesAtMost, input_error_of}
+use Rattle.drm_script.specs.Run.{judge_run}
 use Rattle.drm_script.specs.Script.{judge_script}
 use Rattle.drm_script.specs.Journal.{judge_journal}
 
@@ -62,6 +63,14 @@ judge_script_taken text =
     elim (cases_lt 1048576 (length text)) [
       | inl lt ↦ rw (lt-ltb 1048576 (length text) lt, lt-ltb 1048576 (length (take 1048577 text)) (omega (arith, length-take 1048577 text)))
       | inr le ↦ ap judge_script (take_all 1048577 text (omega arith))
+    ]
+
+pub judge_run_taken : (text : List ℕ) → judge_run (take 1048577 text) ≡ judge_run text
+unfolding judge_run
+judge_run_taken text =
+    elim (cases_lt 1048576 (length text)) [
+      | inl lt ↦ rw (lt-ltb 1048576 (length text) lt, lt-ltb 1048576 (length (take 1048577 text)) (omega (arith, length-take 1048577 text)))
+      | inr le ↦ ap judge_run (take_all 1048577 text (omega arith))
     ]
 
 pub judge_journal_taken : (text : List ℕ) → judge_journal (take 1048577 text) ≡ judge_journal text

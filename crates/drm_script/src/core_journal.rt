@@ -1,14 +1,17 @@
-//! The journal of what a core did.
+//! The journal of what a device or a core did.
 
-ghost use Rattle.std.specs.Prelude.{◌≡◌, IfOk, length, map};
+ghost use Rattle.std.specs.Prelude.{◌≡◌, IfOk, None, length, map};
 ghost use Rattle.drm_buffer.specs.Stored.{AreIn};
 ghost use Rattle.drm_fence.specs.Phases.{outcome_of as outcome_in};
-ghost use Rattle.drm_script.specs.Leaving.{left_by, told_of, journal_left};
+ghost use Rattle.drm_sched.specs.Journal.{turns};
+ghost use Rattle.drm_serial.specs.Serial.{serial};
+ghost use Rattle.drm_types.specs.Limits.{spec_fault};
+ghost use Rattle.drm_script.specs.Leaving.{AreLeft, left_by, told_of, journal_told, journal_left};
 
 use crate::journal::{Journal, JournalJob};
 use drm_buffer::Store;
 use drm_core::{Closed, Core, JobRecord, Phase};
-use drm_types::{BufferId, Outcome, Sequence};
+use drm_types::{BufferId, DeviceSpec, Outcome, Sequence};
 use std::alloc::{AllocError, Global};
 
 /// How a job of this phase ended, if it has.
@@ -73,6 +76,26 @@ fn tell_buffers(
 }
 
 impl Journal {
+    /// The journal of a device that has closed: of its records in arming order, and of the bytes in its store. Where these
+    /// are the bytes of the machine that runs the jobs one after another, a check of the journal finds no difference.
+    pub fn of_records(
+        alloc: Global,
+        spec: DeviceSpec,
+        records: Sequence<JobRecord>,
+        buffers: &Store,
+    ) -> Result<Journal, AllocError>
+        requires limits { spec_fault spec ≡ None }
+        requires left { AreLeft spec records }
+        requires sizes { map length buffers.now.bytes ≡ map length spec.buffers }
+        requires inside { AreIn (length spec.buffers) buffers.now.out }
+        ensures value { IfOk result (λ journal. journal ≡ journal_told spec records buffers.now.bytes) }
+        ensures same { IfOk result (λ journal. buffers.now.bytes ≡ serial spec.buffers (turns records) → left_by journal ≡ journal.finals) }
+    {
+        let jobs = tell_records(alloc, records)?;
+        let finals = tell_buffers(alloc, buffers, spec.buffers.len() as u32)?;
+        Ok(Journal::new(spec, jobs, finals))
+    }
+
     /// The journal of what the core did, whatever that was. The machine that runs its jobs one after another leaves
     /// its last bytes, so a check of it finds no difference.
     pub fn of_core(alloc: Global, core: Core) -> Result<Journal, AllocError>
@@ -84,8 +107,6 @@ impl Journal {
             records,
             buffers,
         } = core.close();
-        let jobs = tell_records(alloc, records)?;
-        let finals = tell_buffers(alloc, &buffers, spec.buffers.len() as u32)?;
-        Ok(Journal::new(spec, jobs, finals))
+        Journal::of_records(alloc, spec, records, &buffers)
     }
 }

@@ -6,10 +6,12 @@ ghost use Rattle.std.specs.IoError.{error_kind};
 ghost use Rattle.drm_types.specs.Limits.{spec_fault};
 ghost use Rattle.drm_script.specs.Commands.{AllNamesExist};
 ghost use Rattle.drm_script.specs.Journal.{IsJournal, judge_journal};
+ghost use Rattle.drm_script.specs.Run.{AreRunnable, judge_run};
 ghost use Rattle.drm_script.specs.Script.{judge_script};
 ghost use Rattle.drm_script.specs.Transfer.{IsFailure, IsReadOf, LosesAtMost, input_error_of};
 
 use crate::journal::{Journal, read_journal};
+use crate::run_script::{RunScript, read_run};
 use crate::script::{Script, read_script};
 use drm_text::{Fault, MAX_TEXT, ReadError};
 use std::alloc::{AllocError, Global};
@@ -139,6 +141,20 @@ pub fn read_script_from<R: Read>(alloc: Global, reader: &mut R) -> Result<Script
 {
     let text = read_input(alloc, reader)?;
     match read_script(alloc, &text) {
+        Ok(script) => Ok(script),
+        Err(error) => Err(to_input_error(error)),
+    }
+}
+
+/// The script for threads that all bytes of the reader spell.
+pub fn read_run_from<R: Read>(alloc: Global, reader: &mut R) -> Result<RunScript, InputError>
+    ensures value { IsReadOf judge_run (R.remaining reader.old) result }
+    ensures most { LosesAtMost 1048577 (R.remaining reader.old) (R.remaining reader.new) }
+    ensures fits { IfOk result (λ script. spec_fault script.spec ≡ None) }
+    ensures runnable { IfOk result (λ script. AreRunnable script.spec script.jobs × (length script.jobs ≤ script.spec.max_jobs)) }
+{
+    let text = read_input(alloc, reader)?;
+    match read_run(alloc, &text) {
         Ok(script) => Ok(script),
         Err(error) => Err(to_input_error(error)),
     }

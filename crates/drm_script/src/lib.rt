@@ -24,7 +24,7 @@ mod script;
 pub use answers::{put_line, write_answers};
 pub use drm_text::{Fault, ReadError, TextFault};
 pub use events::{Events, EventsLeft};
-pub use input::{InputError, read_input, read_journal_from, read_script_from};
+pub use input::{InputError, read_input, read_journal_from, read_run_from, read_script_from};
 pub use journal::{Journal, JournalJob, read_journal};
 pub use journal_text::write_journal;
 pub use laws::{a_text_spells_one, texts_are_judged_as_spelled};

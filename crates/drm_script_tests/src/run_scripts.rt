@@ -1,6 +1,6 @@
 use crate::joined;
 use drm_packet::Packet;
-use drm_script::{RunScript, read_run};
+use drm_script::{RunScript, read_run, read_run_from};
 use drm_text::{Fault, ReadError};
 use drm_types::{Access, BufferId};
 use std::alloc::Global;
@@ -13,7 +13,8 @@ const TWO_JOBS: &[u8] = b"buffer 00000000\nring 4 10 0\nentity 0 normal\njobs 2\
 submit 0 1 w0 fill:0:0:4:05\nsubmit 0 3 r0\n";
 
 fn two_jobs(alloc: Global) -> Option<RunScript> {
-    read_run(alloc, TWO_JOBS).ok()
+    let mut text = TWO_JOBS;
+    read_run_from(alloc, &mut text).ok()
 }
 
 #[test]
@@ -111,6 +112,9 @@ fn faults_of_lines_for_threads(rt: HostRuntime) -> Result<(), Fail> {
 #[test]
 fn faults_of_headers_for_threads(rt: HostRuntime) {
     assert_eq!(rt; fault_of(rt.alloc(), b""), Some((1, 1, 73)));
-    assert_eq!(rt; fault_of(rt.alloc(), b"buffer 00\nring 4 10 0\n"), Some((3, 1, 73)));
+    assert_eq!(rt;
+        fault_of(rt.alloc(), b"buffer 00\nring 4 10 0\n"),
+        Some((3, 1, 73))
+    );
     assert_eq!(rt; fault_of(rt.alloc(), b"submit 0 1\n"), Some((1, 1, 73)));
 }
