@@ -14,6 +14,8 @@ mod abandoning;
 #[cfg(test)]
 mod alone;
 #[cfg(test)]
+mod calling;
+#[cfg(test)]
 mod calls;
 #[cfg(test)]
 mod locking;

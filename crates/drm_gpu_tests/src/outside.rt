@@ -13,6 +13,8 @@ use std::alloc::Global;
 use std::process::Abort;
 use std::sync::Wait;
 use std::test::Fail;
+use std::thread;
+use std::thread::Threads;
 
 // The ring's next packet goes out, which is of this job.
 fn started<'g, R: Wait + Abort>(
@@ -96,6 +98,71 @@ fn a_packet_that_is_dropped_keeps_the_device(rt: HostRuntime) -> Result<(), Fail
     let beside = started(&gpu, other, 1, 1, &rt);
     drop(beside);
     assert!(rt; matches!(gpu.close(alloc, one), Err(CloseError::Inside)));
+    Ok(())
+}
+
+// The first ring's job ends well.
+fn first_ends<R: Wait + Abort>(gpu: &Gpu, pass: Pass, rt: &R) -> Pass
+    requires { IsPair gpu.now.spec × (pass.gpu ≡ gpu.now) }
+    ensures { result.gpu ≡ gpu.now }
+{
+    let mut pass = pass;
+    let outcome = Outcome::Good;
+    finishes(gpu, &mut pass, 0, Finished { fence: 0, outcome }, 1, rt);
+    pass
+}
+
+// The packet runs once many looks have shown that its job has not ended.
+fn run_late<R: Wait + Abort>(gpu: &Gpu, pass: Pass, running: Running, rt: &R) -> Pass
+    requires { IsPair gpu.now.spec × (pass.gpu ≡ gpu.now) × (running.pass.gpu ≡ gpu.now) }
+    ensures { result.gpu ≡ gpu.now }
+{
+    let mut pass = pass;
+    for _ in 0..1000 {
+        assert!(rt; gpu.counts(&mut pass, rt) == (2, 0));
+    }
+    gpu.join(pass, reported(running, 0, 0, rt))
+}
+
+// Another thread ends the job whose packet is out. It is kept until the packet has run.
+fn end_meanwhile<R: Threads + Wait + Abort + Sync>(
+    gpu: &Gpu,
+    passes: (Pass, Pass),
+    running: Running,
+    rt: &R,
+) -> Pass
+    requires gpu { IsPair gpu.now.spec × (running.pass.gpu ≡ gpu.now) }
+    requires passes { (passes.0.gpu ≡ gpu.now) × (passes.1.gpu ≡ gpu.now) }
+    ensures { result.gpu ≡ gpu.now }
+{
+    let (one, other) = passes;
+    gpu.crosses_threads();
+    let (one, other) = thread::join(
+        rt,
+        move ||
+            requires { IsPair gpu.now.spec × (one.gpu ≡ gpu.now) }
+            ensures { result.gpu ≡ gpu.entry.now }
+        { first_ends(gpu, one, rt) },
+        move ||
+            requires { IsPair gpu.now.spec × (other.gpu ≡ gpu.now) × (running.pass.gpu ≡ gpu.now) }
+            ensures { result.gpu ≡ gpu.entry.now }
+        { run_late(gpu, other, running, rt) },
+    );
+    gpu.join(one, other)
+}
+
+#[test]
+fn a_packet_that_is_out_keeps_others_until_it_has_run(rt: HostRuntime) -> Result<(), Fail> {
+    let alloc = rt.alloc();
+    let Some((gpu, pass)) = opened(alloc, 8) else {
+        panic!(rt; "no device")
+    };
+    let pass = both_picked(&gpu, pass, &rt, alloc);
+    let (one, other) = gpu.split(pass);
+    let (one, third) = gpu.split(one);
+    let running = started(&gpu, other, 0, 0, &rt);
+    let mut pass = end_meanwhile(&gpu, (one, third), running, &rt);
+    assert!(rt; gpu.counts(&mut pass, &rt) == (2, 1));
     Ok(())
 }
 

@@ -5,10 +5,9 @@ ghost use Rattle.drm_gpu_tests.specs.Pairs.{IsPair, pair_of};
 
 use crate::alone::bytes_alone;
 use crate::calls::begun;
-use crate::{add, fill, job_of, opened, pair};
-use drm_gpu::{Closed, Driver, Gpu, Locked, Locking, Pass};
+use crate::{add, fill, job_of, opened};
+use drm_gpu::{Closed, Gpu, Locked, Locking, Pass};
 use drm_job::Job;
-use drm_sched::Device;
 use drm_types::Access::{Read, Write};
 use drm_types::{BufferId, FenceId, RingId};
 use std::alloc::{AllocError, Global};
@@ -17,7 +16,7 @@ use std::sync::Wait;
 use std::test::Fail;
 use std::thread;
 use std::thread::Threads;
-use ww_lock::{Board, LockError};
+use ww_lock::LockError;
 
 // How many jobs each thread submits.
 const ROUNDS: u32 = 150;
@@ -68,7 +67,7 @@ fn holds_both<R: Wait + Abort>(locking: &mut Locking, first: u32, second: u32, r
     match locking.lock(BufferId::new(second), rt) {
         Ok(()) => true,
         Err(LockError::Backoff { holder: _ }) => {
-            locking.release(BufferId::new(first));
+            locking.release_all();
             false
         }
         Err(LockError::Already) => panic!(rt; "held before"),
@@ -248,27 +247,17 @@ fn hire(gpu: &Gpu, pass: Pass, count: u32, alloc: Global) -> Result<(Vec<Worker>
     Ok((workers, left))
 }
 
-// A board of the kind that a device has: by it a proof knows what of a device may cross threads.
-fn spare_board<R: Abort>(alloc: Global, rt: &R) -> Result<Board<Driver>, AllocError> {
-    let Ok(device) = Device::build(alloc, pair(alloc, 1)?) else {
-        panic!(rt; "no device")
-    };
-    let (board, _seat) = Board::<Driver>::new(alloc, device, Vec::new(alloc), 0)?;
-    Ok(board)
-}
-
 // Each worker in a thread of its own.
 fn work_in_threads<R: Threads + Wait + Abort + Sync>(
     gpu: &Gpu,
     workers: Vec<Worker>,
-    spare: &Board<Driver>,
     rt: &R,
     alloc: Global,
 ) -> Result<Vec<Worker>, AllocError>
     requires { IsPair gpu.now.spec × All (λ w. w.pass.gpu ≡ gpu.now) workers.items }
     ensures { IfOk result (λ done. All (λ w. w.pass.gpu ≡ gpu.now) done.items) }
 {
-    spare.crosses_threads();
+    gpu.crosses_threads();
     thread::map_vec(
         rt,
         workers,
@@ -368,7 +357,7 @@ fn threads_leave_what_their_jobs_leave_alone(rt: HostRuntime) -> Result<(), Fail
         panic!(rt; "no device")
     };
     let (workers, pass) = hire(&gpu, pass, threads, alloc)?;
-    let done = work_in_threads(&gpu, workers, &spare_board(alloc, &rt)?, &rt, alloc)?;
+    let done = work_in_threads(&gpu, workers, &rt, alloc)?;
     let mut worker = all_together(&gpu, hired(pass, 0), done);
     drain(&gpu, &mut worker, jobs, &rt);
     each_once(&worker, jobs, &rt);

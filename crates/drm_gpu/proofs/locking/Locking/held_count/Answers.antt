@@ -1,7 +1,6 @@
 use Rattle.std.proofs.Common.{◌∙◌, ap, sym, length}
 use Rattle.std.proofs.lemmas.List.{length-map}
 use Rattle.drm_resv.specs.Reservation.{WithRoom}
-use Rattle.drm_sched.specs.Held.{kept_of}
 use Rattle.drm_gpu.specs.Submissions.{Submission}
 use Rattle.drm_gpu.proofs.locking.Locking.held_count.Goals as goal
 
