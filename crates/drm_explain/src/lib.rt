@@ -7,7 +7,9 @@
 
 mod explanation;
 mod table;
+mod telling;
 mod text;
 
 pub use explanation::{Explanation, NUMBERS, explain, number_of_word};
+pub use telling::{Telling, tell_word};
 pub use text::list_text;

@@ -1,6 +1,6 @@
--- Words that clap refuses nowhere name the command of an engine.
-use Rattle.std.proofs.Common.{◌≡◌, ◌≢◌, ℕ, Bool, true, false, cond, List, [], ◌∷◌, Option, Some, None, refl, ap, ◌∙◌, sym, codes, option_map}
-use Rattle.std.specs.Prelude.{⊤, ◌&&◌, ◌||◌, not, is_some, if◌then◌else◌, fold, IfSome}
+-- Words that clap refuses nowhere name a command.
+use Rattle.std.proofs.Common.{◌≡◌, ◌≢◌, ◌⊎◌, inl, inr, ℕ, Bool, true, false, cond, List, [], ◌∷◌, Option, Some, None, refl, ap, ◌∙◌, sym, codes, option_map}
+use Rattle.std.specs.Prelude.{⊤, option_and_then, ◌&&◌, ◌||◌, not, is_some, if◌then◌else◌, fold, IfSome}
 use Rattle.std.specs.Str.{bytes_eq}
 use Rattle.std.proofs.lemmas.Slice.Eq.{bytes_eq-Decides}
 use Rattle.clap.specs.declared.error.kind.ErrorKind.{ErrorKind}
@@ -20,7 +20,11 @@ use Rattle.clap.specs.Simple.{App, HasMatchesOf, Shape, is_simple, subcommand_of
 use Rattle.drm_engine.specs.Engines.{word_of}
 use Rattle.drm_engine.specs.declared.engine.Engine.{Engine}
 use Rattle.drm_engine.specs.declared.engine.Engine.TheVariants as engine
-use Rattle.drmsim.specs.CommandLine.{program_app, word_entered}
+use Rattle.std.proofs.lemmas.Option.{same_Some}
+use Rattle.clap.specs.Walk.{first_of, rows_of}
+use Rattle.clap.specs.Matches.{first_value, found_of}
+use Rattle.clap.proofs.WalkLemmas.{first_value-rows}
+use Rattle.drmsim.specs.CommandLine.{number_entered, program_app, word_entered}
 
 -- where the walk over the words has not stopped at `help`
 abbrev StopsElsewhere : Option (Text × List Text) → Type 0
@@ -114,19 +118,21 @@ wants_command true wants_help wants_argument passed = refl
 wants_command false true wants_argument passed = absurd (cc)
 wants_command false false wants_argument passed = absurd (cc)
 
+-- what was entered is the command of an engine, or that which explains
 abbrev Named : {X : Type 0} → (X → Text) → Option X → Type 0
-Named name entered = (engine : Engine) × (option_map name entered ≡ Some (word_of engine))
+Named name entered = ((engine : Engine) × (option_map name entered ≡ Some (word_of engine))) ⊎ (option_map name entered ≡ Some (codes "explain"))
 
--- what was entered is one of the first three of four
-first_three : {X Y : Type 0} (enter : X → Y) (name : Y → Text) (a b c d : X) (is_a is_b is_c is_d : Bool)
-    → name (enter a) ≡ word_of engine.Replay → name (enter b) ≡ word_of engine.Serial → name (enter c) ≡ word_of engine.Check → is_d ≡ false
-    → is_some (option_map enter (cond (is_a || false) (Some a) (cond (is_b || false) (Some b) (cond (is_c || false) (Some c) (cond (is_d || false) (Some d) None))))) ≡ true
-    → Named name (option_map enter (cond (is_a || false) (Some a) (cond (is_b || false) (Some b) (cond (is_c || false) (Some c) (cond (is_d || false) (Some d) None)))))
-first_three enter name a b c d true is_b is_c is_d x y z other some = (engine.Replay, ap Some x)
-first_three enter name a b c d false true is_c is_d x y z other some = (engine.Serial, ap Some y)
-first_three enter name a b c d false false true is_d x y z other some = (engine.Check, ap Some z)
-first_three enter name a b c d false false false true x y z other some = absurd (cc)
-first_three enter name a b c d false false false false x y z other some = absurd (cc)
+-- what was entered is one of the first four of five
+first_four : {X Y : Type 0} (enter : X → Y) (name : Y → Text) (a b c e d : X) (is_a is_b is_c is_e is_d : Bool)
+    → name (enter a) ≡ word_of engine.Replay → name (enter b) ≡ word_of engine.Serial → name (enter c) ≡ word_of engine.Check → name (enter e) ≡ codes "explain" → is_d ≡ false
+    → is_some (option_map enter (cond (is_a || false) (Some a) (cond (is_b || false) (Some b) (cond (is_c || false) (Some c) (cond (is_e || false) (Some e) (cond (is_d || false) (Some d) None)))))) ≡ true
+    → Named name (option_map enter (cond (is_a || false) (Some a) (cond (is_b || false) (Some b) (cond (is_c || false) (Some c) (cond (is_e || false) (Some e) (cond (is_d || false) (Some d) None))))))
+first_four enter name a b c e d true is_b is_c is_e is_d x y z v other some = inl (engine.Replay, ap Some x)
+first_four enter name a b c e d false true is_c is_e is_d x y z v other some = inl (engine.Serial, ap Some y)
+first_four enter name a b c e d false false true is_e is_d x y z v other some = inl (engine.Check, ap Some z)
+first_four enter name a b c e d false false false true is_d x y z v other some = inr (ap Some v)
+first_four enter name a b c e d false false false false true x y z v other some = absurd (cc)
+first_four enter name a b c e d false false false false false x y z v other some = absurd (cc)
 
 is_false : (b : Bool) → (b ≡ true → ⊥) → b ≡ false
 is_false true never = absurd (never refl)
@@ -135,12 +141,13 @@ is_false false never = refl
 not_equal : (a b : Text) → (a ≢ b) → bytes_eq a b ≡ false
 not_equal a b differ = is_false (bytes_eq a b) (λ same. differ ((bytes_eq-Decides a b).0 same))
 
--- a command that was entered is that of an engine, where the walk has not stopped at `help`
+-- a command that was entered is one of the program's own, where the walk has not stopped at `help`
 entered_named : (stop : Option (Text × List Text)) → StopsElsewhere stop → is_some (entered (built program_app) stop) ≡ true → Named (λ p. p.0) (entered (built program_app) stop)
 entered_named None elsewhere some = absurd (cc)
 entered_named (Some stop) elsewhere some =
     let other : bytes_eq (codes "help") stop.0 ≡ false = not_equal _ _ (λ same. elsewhere (sym same)) in
-    first_three (λ s. rows_at s stop.1) (λ p. p.0) _ _ _ _ (bytes_eq (codes "replay") stop.0) (bytes_eq (codes "serial") stop.0) (bytes_eq (codes "check") stop.0) (bytes_eq (codes "help") stop.0) refl refl refl other some
+    first_four (λ s. rows_at s stop.1) (λ p. p.0) _ _ _ _ _ (bytes_eq (codes "replay") stop.0) (bytes_eq (codes "serial") stop.0) (bytes_eq (codes "check") stop.0) (bytes_eq (codes "explain") stop.0)
+    (bytes_eq (codes "help") stop.0) refl refl refl refl other some
 
 -- one level that clap refuses nowhere was walked to its end and has met the command that it wants
 level_passed : (s : Shape) (names : Names) (h : Held) (words : List Text) (has : Bool) (below : Kinds) → s.subcommand_required ≡ true
@@ -161,8 +168,8 @@ level_passed s names h words has below required passed =
           (rw required at checked),
     )
 
-pub engine_entered : (words : List Text) → fault_of program_app words ≡ [] → (engine : Engine) × (word_entered words ≡ Some (word_of engine))
-engine_entered words passed =
+pub command_entered : (words : List Text) → fault_of program_app words ≡ [] → Named (λ (p : Text × List Row). p.0) (subcommand_of program_app words)
+command_entered words passed =
     let all = built program_app in
     let stop = (walk all.top.rules (names_of all) nothing_held (argument_words program_app words)).stopped in
     let level = level_passed all.top (names_of all) nothing_held (argument_words program_app words) (is_some (entered all stop)) (entered_fault all stop) refl passed in
@@ -174,12 +181,24 @@ module _ {Z : Type 0} where
   same_name None rows name is found = absurd (cc)
   same_name (Some b) rows name is found = ap (option_map (λ p. p.0)) (sym is) ∙ sym found
 
+number_at : (entered : Option (Text × List Row)) (rows : List Row) → option_map (λ p. p.1) entered ≡ Some rows
+    → option_and_then (λ p. first_of (codes "number") p.1) entered ≡ first_of (codes "number") rows
+number_at None rows is = absurd (cc)
+number_at (Some p) rows is = ap (first_of (codes "number")) (same_Some _ _ is)
+
 -- the command that a parse found is the one that the words name
 pub word_found : (a : App) (words : List Text) (m : ArgMatches) (name : Text) → a ≡ program_app → HasMatchesOf a words m
     → Some name ≡ subcommand_name_of m → word_entered words ≡ Some name
 word_found a words m name is matches found =
     let rows = (matches (ap is_simple is ∙ refl)).1 in
     same_name (out-ArgMatches m).subcommand (subcommand_of program_app words) name (rows ∙ ap (λ (b : App). subcommand_of b words) is) found
+
+-- the rows of a command that was entered are those that clap finds, and so is the first value of its argument
+pub number_found : (a : App) (words : List Text) (m own : ArgMatches) → a ≡ program_app → HasMatchesOf a words m
+    → option_map (λ p. p.1) (subcommand_rows (out-ArgMatches m).subcommand) ≡ Some (rows_of (found_of own)) → number_entered words ≡ first_value (found_of own) (codes "number")
+number_found a words m own is matches rows =
+    let found = (matches (ap is_simple is ∙ refl)).1 ∙ ap (λ (b : App). subcommand_of b words) is in
+    number_at (subcommand_of program_app words) (rows_of (found_of own)) (sym (ap (option_map (λ p. p.1)) found) ∙ rows) ∙ sym (first_value-rows (found_of own) (codes "number"))
 
 -- a parse that succeeds has no fault
 pub none_refused : (a : App) (words : List Text) → a ≡ program_app → (is_simple_and_free a ≡ true → fault_of a words ≡ []) → fault_of program_app words ≡ []

@@ -9,7 +9,7 @@ use Rattle.drm_engine.specs.declared.engine.Engine.{Engine}
 use Rattle.drm_engine.specs.declared.engine.Engine.TheVariants as engine
 use Rattle.drm_engine.specs.declared.ending.Ending.TheVariants.{NoMemory}
 
-untouched : (bytes : Option (List ℕ)) → Keeps bytes bytes
+pub untouched : (bytes : Option (List ℕ)) → Keeps bytes bytes
 untouched None = tt
 untouched (Some bytes) = refl
 

@@ -1,5 +1,5 @@
 -- A command line of two words, the program's name and the word of an engine.
-use Rattle.std.proofs.Common.{◌≡◌, true, [], ◌∷◌, Some, refl, ap, slice_index, ◌==◌}
+use Rattle.std.proofs.Common.{◌≡◌, true, [], ◌∷◌, Option, Some, None, is_some, sym, codes, refl, ap, slice_index, ◌==◌}
 use Rattle.std.proofs.lemmas.Bool.{true≢false}
 use Rattle.clap.specs.Words.{Text, takes, is_simple, is_simple_and_free}
 use Rattle.clap.proofs.OnLiterals.{clap_on_literals}
@@ -43,3 +43,14 @@ pub names_some : (engine : Engine) (word : Text) → word ≡ word_of engine →
 names_some engine.Replay word is none = none.0 is
 names_some engine.Serial word is none = none.1 is
 names_some engine.Check word is none = none.2 is
+
+-- the word of no engine is that of the command that explains
+pub not_explain : (engine : Engine) → word_of engine ≡ codes "explain" → ⊥
+not_explain engine.Replay same = absurd (true≢false (ap (λ (t : Text). slice_index t 0 == 114) same))
+not_explain engine.Serial same = absurd (true≢false (ap (λ (t : Text). slice_index t 0 == 115) same))
+not_explain engine.Check same = absurd (true≢false (ap (λ (t : Text). slice_index t 0 == 99) same))
+
+-- what is none is not there
+pub none_is_not : {X : Type 0} (o : Option X) → o ≡ None → is_some o ≡ true → ⊥
+none_is_not None is some = absurd (true≢false (sym some))
+none_is_not (Some x) is some = absurd (true≢false (ap is_some is))

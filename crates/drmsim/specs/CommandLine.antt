@@ -1,10 +1,12 @@
 -- The words of the command line.
-use Rattle.std.specs.Prelude.{◌≡◌, List, [], ◌∷◌, Option, Result, MatchResult, codes, option_map, true}
-use Rattle.clap.specs.Words.{App, Text, new_app, subcommand_of, with_subcommand, kind_of}
+use Rattle.std.specs.Prelude.{◌≡◌, List, [], ◌∷◌, Option, Some, Result, MatchResult, codes, option_and_then, option_map, true}
+use Rattle.clap.specs.Words.{App, Text, first_of, new_app, new_rule, subcommand_of, with_rule, with_subcommand, kind_of}
 use Rattle.clap.specs.declared.error.Error.{Error}
 use Rattle.clap.specs.declared.error.kind.ErrorKind.TheVariants.{OutOfMemory}
 use Rattle.drm_engine.specs.Engines.{word_of}
 use Rattle.drm_engine.specs.declared.engine.Engine.{Engine}
+use Rattle.drmsim.specs.declared.command_line.Request.{Request}
+use Rattle.drmsim.specs.declared.command_line.Request.TheVariants.{Run, Explain}
 
 -- the program without its commands, as clap reads it
 abbrev pub top_app : App
@@ -13,18 +15,31 @@ top_app = record {
   subs = [];
 }
 
+-- the command that explains a number, which may follow it
+abbrev pub explain_app : App
+explain_app = with_rule (new_app (codes "explain")) (record (new_rule (codes "number")) { value_names = 1 })
+
 -- the program with its commands
 abbrev pub program_app : App
-program_app = with_subcommand (with_subcommand (with_subcommand top_app (new_app (codes "replay")).top) (new_app (codes "serial")).top) (new_app (codes "check")).top
+program_app = with_subcommand (with_subcommand (with_subcommand (with_subcommand top_app (new_app (codes "replay")).top) (new_app (codes "serial")).top) (new_app (codes "check")).top) explain_app.top
 
 -- the name of the command that clap finds in the words
 abbrev pub word_entered : List Text → Option Text
 word_entered words = option_map (λ p. p.0) (subcommand_of program_app words)
 
+-- the word behind the command that clap finds, where one stands for a number
+abbrev pub number_entered : List Text → Option Text
+number_entered words = option_and_then (λ p. first_of (codes "number") p.1) (subcommand_of program_app words)
+
+-- clap finds in the words what is asked for: the command of the engine, or that which explains, and the word behind it
+abbrev pub IsAsked : List Text → Request → Type 0
+IsAsked words (Run engine) = word_entered words ≡ Some (word_of engine)
+IsAsked words (Explain word) = (word_entered words ≡ Some (codes "explain")) × (number_entered words ≡ option_map (λ w. w.now) word)
+
 -- the words are the program's name and the word of the engine
 abbrev pub IsCommandLineOf : Engine → List Text → Type 0
 IsCommandLineOf engine words = (name : Text) × (words ≡ name ∷ word_of engine ∷ [])
 
--- it is the engine, unless memory was refused
-abbrev pub GivesAlone : Engine → Result Engine Error → Type 0
-GivesAlone engine result = MatchResult result (λ found. found ≡ engine) (λ error. kind_of error ≡ OutOfMemory)
+-- it is to run the engine, unless memory was refused
+abbrev pub GivesAlone : Engine → Result Request Error → Type 0
+GivesAlone engine result = MatchResult result (λ found. found ≡ Run engine) (λ error. kind_of error ≡ OutOfMemory)

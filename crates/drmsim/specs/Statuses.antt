@@ -1,5 +1,5 @@
 -- The exit status of the program.
-use Rattle.std.specs.Prelude.{◌≡◌, ◌⊎◌, ℕ, Bool, List, Option, Some, if◌then◌else◌}
+use Rattle.std.specs.Prelude.{◌≡◌, ◌⊎◌, ℕ, Bool, List, Option, Some, codes, if◌then◌else◌}
 use Rattle.clap.specs.Words.{IsAmong, Kinds, Text}
 use Rattle.clap.specs.declared.error.kind.ErrorKind.{ErrorKind}
 use Rattle.clap.specs.declared.error.kind.ErrorKind.TheVariants as kind
@@ -7,15 +7,37 @@ use Rattle.drm_engine.specs.declared.ending.Ending.{Ending}
 use Rattle.drm_engine.specs.declared.engine.Engine.{Engine}
 use Rattle.drm_engine.specs.Endings.{status_of}
 use Rattle.drm_engine.specs.Engines.{Runs, word_of}
-use Rattle.drmsim.specs.CommandLine.{word_entered}
+use Rattle.drm_explain.specs.Telling.{Tells}
+use Rattle.drm_explain.specs.declared.telling.Telling.{Telling}
+use Rattle.drm_explain.specs.declared.telling.Telling.TheVariants as telling
+use Rattle.drmsim.specs.CommandLine.{number_entered, word_entered}
 
 -- the engine ran to an ending, of which this is the exit status
 abbrev pub EndsAs : Engine → Option (List ℕ) → Option (List ℕ) → Option (List ℕ) → ℕ → Type 0
 EndsAs engine input old new status = (ending : Ending) × Runs engine input old new ending × (status ≡ status_of ending)
 
+-- the exit status after an explanation: a number that is none is a fault of the command line
+abbrev pub status_of_telling : Telling → ℕ
+status_of_telling telling.Told = 0
+status_of_telling telling.Unknown = 2
+status_of_telling telling.NoMemory = 3
+status_of_telling telling.NoOutput = 4
+
+-- the number that the word spells, or the list of all, was told as this exit status tells
+abbrev pub ToldAs : Option Text → Option (List ℕ) → Option (List ℕ) → ℕ → Type 0
+ToldAs word old new status = (how : Telling) × Tells word old new how × (status ≡ status_of_telling how)
+
 -- the words name the command of an engine, which ended as this exit status tells
+abbrev pub IsRun : List Text → Option (List ℕ) → Option (List ℕ) → Option (List ℕ) → ℕ → Type 0
+IsRun words input old new status = (engine : Engine) × (word_entered words ≡ Some (word_of engine)) × EndsAs engine input old new status
+
+-- the words name the command that explains, which ended so
+abbrev pub IsExplained : List Text → Option (List ℕ) → Option (List ℕ) → ℕ → Type 0
+IsExplained words old new status = (word_entered words ≡ Some (codes "explain")) × ToldAs (number_entered words) old new status
+
+-- the words name a command, which ended as this exit status tells
 abbrev pub IsObeyed : List Text → Option (List ℕ) → Option (List ℕ) → Option (List ℕ) → ℕ → Type 0
-IsObeyed words input old new status = (engine : Engine) × (word_entered words ≡ Some (word_of engine)) × EndsAs engine input old new status
+IsObeyed words input old new status = IsRun words input old new status ⊎ IsExplained words old new status
 
 -- the exit status after an error of the words, which was printed or could not be: help and the version are asked for
 abbrev pub status_of_error : ErrorKind → Bool → ℕ

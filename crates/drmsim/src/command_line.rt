@@ -1,14 +1,13 @@
 //! The command line.
 
-ghost use Rattle.std.specs.Prelude.{◌≡◌, IfOk, Some, false, map};
+ghost use Rattle.std.specs.Prelude.{◌≡◌, IfOk, false, map};
 ghost use Rattle.std.specs.String.{string_bytes};
 ghost use Rattle.clap.specs.Words.{FailsBy, app_of, fault_of, new_app};
 ghost use Rattle.clap.specs.declared.builder.command.Command.TheViews.{out-Command};
-ghost use Rattle.drm_engine.specs.Engines.{word_of};
 ghost use Rattle.drm_engine.specs.declared.engine.Engine.{Engine as EngineOf};
-ghost use Rattle.drmsim.specs.CommandLine.{GivesAlone, IsCommandLineOf, program_app, top_app, word_entered};
+ghost use Rattle.drmsim.specs.CommandLine.{GivesAlone, IsAsked, IsCommandLineOf, explain_app, program_app, top_app};
 
-use clap::{Command, Error};
+use clap::{Arg, Command, Error};
 use drm_engine::Engine;
 use std::alloc::{AllocError, Global};
 
@@ -43,6 +42,14 @@ Example:
 | drmsim check
 writes 'differs at buffer 0 byte 1'.";
 
+const EXPLAIN_HELP: &str = "\
+Writes what the number of a refusal or of a fault means: how one gets there, what to do, and the kernel's error or call \
+that it stands for. Without a number it writes one line for each. It reads nothing.
+
+Example:
+  drmsim explain 46
+begins with 'refused 46 F'.";
+
 const STATUS_HELP: &str = "\
 Examples:
   drmsim replay < examples/first_fill.script
@@ -63,6 +70,23 @@ fn command<'a>(alloc: Global, name: &'a str, about: &'a str, help: &'a str) -> C
     ensures local { (out-Command result).has_globals ≡ false }
 {
     Command::new(alloc, name).about(about).long_about(help)
+}
+
+/// The command that explains a number.
+fn explain_command<'a>(alloc: Global) -> Result<Command<'a>, AllocError>
+    ensures app { IfOk result (λ command. app_of command ≡ explain_app) }
+    ensures local { IfOk result (λ command. (out-Command command).has_globals ≡ false) }
+{
+    let number = Arg::new(alloc, "number")
+        .value_name("NUMBER")
+        .help("The number behind 'refused' or 'fault'");
+    command(
+        alloc,
+        "explain",
+        "Tells what the number of a refusal or a fault means",
+        EXPLAIN_HELP,
+    )
+    .arg(number)
 }
 
 /// The program without its commands.
@@ -101,23 +125,37 @@ fn program<'a>(alloc: Global) -> Result<Command<'a>, AllocError>
         "Compares these buffers with the last bytes that the journal tells",
         CHECK_HELP,
     );
+    let explain = explain_command(alloc)?;
     bare_program(alloc)
         .subcommand(replay)?
         .subcommand(serial)?
-        .subcommand(check)
+        .subcommand(check)?
+        .subcommand(explain)
+}
+
+/// What the words of the command line ask for.
+#[derive(Clone, Copy, Debug, PartialEq, Eq)]
+pub enum Request<'a> {
+    /// To run an engine.
+    Run(Engine),
+    /// To explain the number that a word spells, or to list all numbers where there is no word.
+    Explain(Option<&'a str>),
 }
 
 /// What the words ask for, the program's name first. An error is what `clap` says of words that ask for nothing
 /// known, of a request for help or the version, and of refused memory.
-pub fn read_words(alloc: Global, words: &[String]) -> Result<Engine, Error>
-    ensures named { IfOk result (λ engine. word_entered (map string_bytes words.now) ≡ Some (word_of engine)) }
+pub fn read_words<'a>(alloc: Global, words: &'a [String]) -> Result<Request<'a>, Error>
+    ensures named { IfOk result (λ request. IsAsked (map string_bytes words.now) request) }
     ensures command { (engine : EngineOf) → IsCommandLineOf engine (map string_bytes words.now) → GivesAlone engine result }
     ensures kinds { FailsBy (fault_of program_app (map string_bytes words.now)) result }
 {
     let matches = program(alloc)?.try_get_matches_from(words)?;
+    if let Some(explain) = matches.subcommand_matches("explain") {
+        return Ok(Request::Explain(explain.get_str("number")));
+    }
     match matches.subcommand_name() {
         Some(name) => match Engine::of_word(name) {
-            Some(engine) => Ok(engine),
+            Some(engine) => Ok(Request::Run(engine)),
             None => unreachable!(),
         },
         None => unreachable!(),

@@ -6,7 +6,7 @@
 //! writer, and its clauses are what the program promises.
 #![tactic(auto)]
 
-ghost use Rattle.std.specs.Prelude.{◌≡◌, ◌≢◌, [], Bool, map};
+ghost use Rattle.std.specs.Prelude.{◌≡◌, ◌≢◌, [], Bool, map, option_map};
 ghost use Rattle.std.specs.Io.KnownBytes.{Keeps};
 ghost use Rattle.std.specs.IoError.{error_kind};
 ghost use Rattle.std.specs.Process.{exit_status};
@@ -15,18 +15,22 @@ ghost use Rattle.clap.specs.Words.{fault_of, kind_of};
 ghost use Rattle.drm_engine.specs.Endings.{status_of};
 ghost use Rattle.drm_engine.specs.declared.engine.Engine.{Engine as EngineOf};
 ghost use Rattle.drmsim.specs.CommandLine.{IsCommandLineOf, program_app};
-ghost use Rattle.drmsim.specs.Statuses.{EndsAs, IsObeyed, IsRefusal, status_of_error};
+ghost use Rattle.drmsim.specs.Statuses.{EndsAs, IsObeyed, IsRefusal, ToldAs, status_of_error, status_of_telling};
 
 mod command_line;
 #[cfg(test)]
 mod tests;
 
 use clap::error::ErrorKind as WordsError;
-use command_line::read_words;
+use command_line::{Request, read_words};
 use drm_engine::Ending;
+use drm_explain::{Telling, tell_word};
 use std::env;
 use std::io::{self, ErrorKind, Read, Write};
 use std::process::ExitCode;
+
+/// The exit status where a number is asked for that is none: the command line is refused.
+const UNKNOWN_NUMBER: u8 = 2;
 
 /// The words of the command line, the program's name first.
 fn words(rt: &HostRuntime) -> io::Result<Vec<String>> {
@@ -69,6 +73,31 @@ fn explain(rt: &HostRuntime, error: &clap::Error) -> ExitCode
     ExitCode::from(error.exit_code() as u8)
 }
 
+/// Tells on standard error why nothing was explained, or that the explanation could not be written.
+fn tell_telling(rt: &HostRuntime, how: Telling, word: &str) -> ExitCode
+    ensures { exit_status result ≡ status_of_telling how }
+{
+    match how {
+        Telling::Told => tell(rt, &Ending::Done),
+        Telling::NoMemory => tell(rt, &Ending::NoMemory),
+        Telling::NoOutput => tell(rt, &Ending::NoOutput),
+        Telling::Unknown => {
+            eprintln!(rt;
+                "error: invalid value '{word}' for '[NUMBER]': no refusal and no fault has this number\n\nFor more information, try '--help'."
+            ).ok();
+            ExitCode::from(UNKNOWN_NUMBER)
+        }
+    }
+}
+
+/// Explains the number that the word spells, or lists all numbers.
+fn explain_number<W: Write>(rt: &HostRuntime, word: Option<&str>, writer: &mut W) -> ExitCode
+    ensures { ToldAs (option_map (λ w. w.now) word.entry) (W.contents writer.old) (W.contents writer.new) (exit_status result) }
+{
+    let how = tell_word(rt.alloc(), word, writer);
+    tell_telling(rt, how, word.unwrap_or(""))
+}
+
 /// Does what the words ask for, between the reader and the writer.
 fn obey<R: Read, W: Write>(
     rt: &HostRuntime,
@@ -86,7 +115,8 @@ fn obey<R: Read, W: Write>(
         → IsRefusal (fault_of program_app (map string_bytes words.now)) (exit_status result) }
 {
     match read_words(rt.alloc(), words) {
-        Ok(engine) => tell(rt, &engine.run(rt.alloc(), reader, writer)),
+        Ok(Request::Run(engine)) => tell(rt, &engine.run(rt.alloc(), reader, writer)),
+        Ok(Request::Explain(word)) => explain_number(rt, word, writer),
         Err(error) => explain(rt, &error),
     }
 }

@@ -1,6 +1,6 @@
 //! The command line.
 
-use crate::command_line::read_words;
+use crate::command_line::{Request, read_words};
 use clap::error::ErrorKind as WordsError;
 use drm_engine::Engine;
 use std::test::Fail;
@@ -22,14 +22,18 @@ fn command_lines(rt: HostRuntime) -> Result<(), Fail> {
     ];
     for (name, engine) in taken {
         let given = words(&rt, &["drmsim", name])?;
-        assert_eq!(rt; read_words(rt.alloc(), &given)?, engine);
+        assert_eq!(rt; read_words(rt.alloc(), &given)?, Request::Run(engine));
     }
+    let one = words(&rt, &["drmsim", "explain", "46"])?;
+    assert_eq!(rt; read_words(rt.alloc(), &one)?, Request::Explain(Some("46")));
+    let all = words(&rt, &["drmsim", "explain"])?;
+    assert_eq!(rt; read_words(rt.alloc(), &all)?, Request::Explain(None));
     Ok(())
 }
 
 #[test]
 fn refused_command_lines(rt: HostRuntime) -> Result<(), Fail> {
-    let refused: [(&[&str], WordsError, i32); 13] = [
+    let refused: [(&[&str], WordsError, i32); 15] = [
         (&["drmsim"], WordsError::MissingSubcommand, 2),
         (&["drmsim", "run"], WordsError::InvalidSubcommand, 2),
         (&["drmsim", "Check"], WordsError::InvalidSubcommand, 2),
@@ -37,6 +41,16 @@ fn refused_command_lines(rt: HostRuntime) -> Result<(), Fail> {
         (&["drmsim", "check", "-v"], WordsError::UnknownArgument, 2),
         (
             &["drmsim", "serial", "check"],
+            WordsError::UnknownArgument,
+            2,
+        ),
+        (
+            &["drmsim", "explain", "46", "47"],
+            WordsError::UnknownArgument,
+            2,
+        ),
+        (
+            &["drmsim", "explain", "--all"],
             WordsError::UnknownArgument,
             2,
         ),
@@ -55,7 +69,7 @@ fn refused_command_lines(rt: HostRuntime) -> Result<(), Fail> {
     for (all, kind, status) in refused {
         let given = words(&rt, all)?;
         match read_words(rt.alloc(), &given) {
-            Ok(engine) => panic!(rt; "{engine:?}"),
+            Ok(request) => panic!(rt; "{request:?}"),
             Err(error) => {
                 assert_eq!(rt; error.kind(), kind);
                 assert_eq!(rt; error.exit_code(), status);

@@ -1,28 +1,30 @@
-use Rattle.std.proofs.Common.{◌≡◌, ◌∙◌, ap, map, subst}
+use Rattle.std.proofs.Common.{◌≡◌, ◌∙◌, ap, inl, inr, map, subst}
 use Rattle.std.specs.String.{string_bytes}
 use Rattle.drm_engine.specs.declared.engine.Engine.{Engine}
 use Rattle.drm_engine.specs.declared.ending.Ending.TheVariants.{NoMemory}
+use Rattle.drm_explain.specs.declared.telling.Telling.TheVariants as telling
 use Rattle.drmsim.specs.Statuses.{EndsAs, status_of_error}
-use Rattle.drmsim.proofs.Entered.{engine_entered}
-use Rattle.drmsim.proofs.Statuses.{memory_alone, runs_without_memory}
+use Rattle.drmsim.proofs.Entered.{command_entered}
+use Rattle.drmsim.proofs.Statuses.{memory_alone, runs_without_memory, untouched}
 use Rattle.drmsim.proofs.obey.Goals as goal
 
-pub returns-in-Ok-clause-commands : goal.returns-in-Ok-clause-commands
-returns-in-Ok-clause-commands g c = λ engine line.
-    let found : c.in-Ok.engine ≡ engine = c.in-Ok.ensures.command engine line in
+pub returns-in-Ok-Run-clause-commands : goal.returns-in-Ok-Run-clause-commands
+returns-in-Ok-Run-clause-commands g c = λ engine line.
+    let found : c.in-Ok-Run.engine ≡ engine = cc (c.in-Ok-Run.ensures.command engine line) in
     subst (λ (e : Engine). EndsAs e (g.R.Read.remaining c.args.reader.now) (g.W.Write.contents c.args.writer.now) (g.W.Write.contents c.run.new.writer) c.tell.result.status)
     found (c.run.result, c.run.ensures, c.tell.ensures)
+
+pub returns-in-Ok-Explain-clause-commands : goal.returns-in-Ok-Explain-clause-commands
+returns-in-Ok-Explain-clause-commands g c = λ engine line. absurd (cc (c.in-Ok-Explain.ensures.command engine line))
 
 pub returns-in-Err-clause-commands : goal.returns-in-Err-clause-commands
 returns-in-Err-clause-commands g c = λ engine line.
     (NoMemory, runs_without_memory engine _ _, c.explain.ensures.1 ∙ ap (λ kind. status_of_error kind c.explain.ensures.0) (c.in-Err.ensures.command engine line))
 
-pub returns-in-Ok-clause-accepted : goal.returns-in-Ok-clause-accepted
-returns-in-Ok-clause-accepted g c = λ passed.
-    (c.in-Ok.engine, c.in-Ok.ensures.named, (c.run.result, c.run.ensures, c.tell.ensures))
-
 pub returns-in-Err-clause-accepted : goal.returns-in-Err-clause-accepted
 returns-in-Err-clause-accepted g c = λ passed.
-    let memory = memory_alone _ _ passed c.in-Err.ensures.kinds in
-    let named = engine_entered (map string_bytes c.args.words.now) passed in
-    (named.0, named.1, (NoMemory, runs_without_memory named.0 _ _, c.explain.ensures.1 ∙ ap (λ kind. status_of_error kind c.explain.ensures.0) memory))
+    let ended = c.explain.ensures.1 ∙ ap (λ kind. status_of_error kind c.explain.ensures.0) (memory_alone _ _ passed c.in-Err.ensures.kinds) in
+    elim (command_entered (map string_bytes c.args.words.now) passed) [
+      | inl named ↦ inl (named.0, named.1, (NoMemory, runs_without_memory named.0 _ _, ended))
+      | inr named ↦ inr (named, (telling.NoMemory, untouched _, ended))
+    ]
