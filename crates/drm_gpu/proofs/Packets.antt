@@ -17,7 +17,7 @@ use Rattle.drm_sched.specs.Ring.{current_of}
 use Rattle.drm_gpu.specs.declared.running.OutPacket.{OutPacket}
 use Rattle.drm_gpu.specs.Laws.{reflexive}
 use Rattle.drm_gpu.specs.Passes.{GrowsTo}
-use Rattle.drm_gpu.specs.Running.{IsOfJob, task_of, written}
+use Rattle.drm_gpu.specs.Running.{IsPacketOfItsJob, task_of, written}
 
 -- a task of another ring, where the ring has none
 other_ring : (d : MarkedDevice) (t s : Task) → mark_of d t.ring ≡ None → IsBusy d s → s.ring ≡ t.ring → ⊥
@@ -55,7 +55,7 @@ waits_for d e out (job, at, current, count, next, runs, write_is, read_is, e_is)
 
 -- and has it of its job
 pub sent_of_job : (d e : MarkedDevice) (out : OutPacket) → HasBegun d out.ring (Work out.fence out.packet out.copy out.write out.read) e
-    → MayRun (Work out.fence out.packet out.copy out.write out.read) → IsOfJob e out
+    → MayRun (Work out.fence out.packet out.copy out.write out.read) → IsPacketOfItsJob e out
 sent_of_job d e out (job, at, current, count, next, runs, write_is, read_is, e_is) may = record {
   copy =
       ap (λ x. packet_at x.state.journal out.fence out.packet) e_is
@@ -107,7 +107,7 @@ not_out true o x free is = absurd (cc (free))
 not_out false o x free is = is
 
 -- a packet is that of its job on every later device
-pub job_later : (d e : MarkedDevice) (out : OutPacket) → IsOfJob d out → GrowsTo d e → IsOfJob e out
+pub job_later : (d e : MarkedDevice) (out : OutPacket) → IsPacketOfItsJob d out → GrowsTo d e → IsPacketOfItsJob e out
 job_later d e out is on = record { copy = later (slice_get d.state.journal out.fence) refl; runs = is.runs }
   where
     later : (o : Option JobRecord) → slice_get d.state.journal out.fence ≡ o → packet_at e.state.journal out.fence out.packet ≡ Some out.copy
@@ -118,5 +118,5 @@ job_later d e out is on = record { copy = later (slice_get d.state.journal out.f
         ∙ (ap (λ job. slice_get job.packets out.packet) n.2.job ∙ (ap (λ o. option_map_or (λ (r : JobRecord). slice_get r.job.packets out.packet) o None) (sym at) ∙ is.copy))
 
 -- and may be reported once it ran
-pub may_report : (d : MarkedDevice) (out : OutPacket) → IsOfJob d out → IsBusy d (task_of out) → IsReport d out.ring (written out) out.read
+pub may_report : (d : MarkedDevice) (out : OutPacket) → IsPacketOfItsJob d out → IsBusy d (task_of out) → IsReport d out.ring (written out) out.read
 may_report d out is busy = ((task_of out).mark, out.copy, busy, is.copy, refl, refl)

@@ -45,3 +45,7 @@ ReapIs entity (Err r) d e = (reap_refusal d.state entity ≡ Some r) × (e ≡ d
 -- the numbers of armed and of ended jobs
 abbrev pub CountsAre : ℕ × ℕ → MarkedDevice → MarkedDevice → Type 0
 CountsAre n d e = (n.0 ≡ length d.state.journal) × (n.1 ≡ length (filter (λ r. has_ended r.phase) d.state.journal)) × (e ≡ d)
+
+-- a call that leaves the device as it found it
+abbrev pub ChangesNothing : MarkedDevice → MarkedDevice → Type 0
+ChangesNothing d e = e ≡ d

@@ -64,7 +64,7 @@ abbrev pub task_of : OutPacket → Task
 task_of out = record { ring = out.ring; mark = record { fence = out.fence; packet = out.packet; write = out.write; read = out.read } }
 
 -- the packet is that of its job, and finds its ranges in its buffers
-pub record IsOfJob (d : MarkedDevice) (out : OutPacket) : Type 0 where
+pub record IsPacketOfItsJob (d : MarkedDevice) (out : OutPacket) : Type 0 where
   pub copy : packet_at d.state.journal out.fence out.packet ≡ Some out.copy
   pub runs : (bytes : List ℕ) → out.write ≡ Some bytes → IsTrue (fits_parts out.copy bytes out.read)
 
@@ -73,9 +73,9 @@ abbrev pub written : OutPacket → Option (List ℕ)
 written out = option_map (λ bytes. part_effect out.copy bytes out.read) out.write
 
 -- a seat that has this packet out
-pub record HasOut (gpu : GpuState) (out : OutPacket) (s : DeviceSeat) : Type 0 where
+pub record SeatHasOut (gpu : GpuState) (out : OutPacket) (s : DeviceSeat) : Type 0 where
   pub seat : SeatedWith (task_of out) gpu (last_of (sees s)) s
-  pub job : IsOfJob (last_of (sees s)) out
+  pub job : IsPacketOfItsJob (last_of (sees s)) out
 
 -- the packet went out of the device that was found
 pub record GoesOut (gpu : GpuState) (ring : ℕ) (out : OutPacket) (v : Seeing) (s : DeviceSeat) : Type 0 where
@@ -86,7 +86,7 @@ pub record GoesOut (gpu : GpuState) (ring : ℕ) (out : OutPacket) (v : Seeing) 
   pub free : is_in_way found ring ≡ false
   pub taken : step_refusal found.state ring ≡ None
   pub begun : HasBegun found ring (Work out.fence out.packet out.copy out.write out.read) (last_of (sees s))
-  pub has : HasOut gpu out s
+  pub has : SeatHasOut gpu out s
 
 -- what came of a step that a seat began
 abbrev pub IsSent : GpuState → ℕ → Sent → Seeing → DeviceSeat → Type 0

@@ -1,15 +1,17 @@
 //! What a pass does with the device.
-ghost use Rattle.std.specs.Prelude.{◌≡◌, ◌<◌, length};
+ghost use Rattle.std.specs.Prelude.{◌≡◌, ◌<◌, length, MatchResult, Some};
 ghost use Rattle.drm_sched.specs.Marks.{MarkedDevice};
 ghost use Rattle.drm_fence.specs.declared.phase.Phase.TheVariants.{Ended};
 ghost use Rattle.drm_sched.specs.Keeps.{word_of};
+ghost use Rattle.drm_job.specs.Fault.{IsJob, job_fault};
 ghost use Rattle.drm_gpu.specs.Passes.{Calls, word_shown};
 ghost use Rattle.drm_gpu.specs.Status.{AnswersStatus, LooksAt, TellsStatus};
-ghost use Rattle.drm_gpu.specs.Answers.{PickIs, FinishIs, TimeoutIs, CancelIs, ReapIs, CountsAre};
+ghost use Rattle.drm_gpu.specs.Answers.{PickIs, FinishIs, TimeoutIs, CancelIs, ReapIs, CountsAre, ChangesNothing};
 
 use crate::gpu::Gpu;
 use crate::pass::{NoFence, Pass};
 use crate::waiting::Needs;
+use drm_job::{Draft, Job, JobFault, check};
 use drm_sched::{Expired, Finished, Picked, Refusal};
 use drm_types::{EntityId, FenceId, Moment, Outcome, RingId};
 use std::snapshot::Snapshot;
@@ -154,6 +156,30 @@ impl Gpu {
         let counts = (device.armed(), device.ended());
         self.leave(&mut pass.seat, device, &found);
         counts
+    }
+
+    /// Makes a job of a draft, by the description of the device (`drm_sched_job_init`). It takes no memory.
+    ///
+    /// # Errors
+    ///
+    /// The draft, untouched, with the first of its faults in the order of `JobFault`.
+    pub fn check<R: Wait>(
+        &self,
+        pass: &mut Pass,
+        draft: Draft,
+        rt: &R,
+    ) -> Result<Job, (Draft, JobFault)>
+        requires pass { pass.old.gpu ≡ self.now }
+        ensures checked { MatchResult result
+            (λ job. (job ≡ draft) × IsJob self.now.spec draft)
+            (λ back. (back.0 ≡ draft) × (job_fault self.now.spec draft ≡ Some back.1)) }
+        ensures call { Calls ChangesNothing pass.old pass.new }
+    {
+        let device = self.enter(&mut pass.seat, rt);
+        let found = Snapshot::of(&device);
+        let checked = check(draft, device.spec());
+        self.leave(&mut pass.seat, device, &found);
+        checked
     }
 
     /// The status of the job's finished fence (`dma_fence_get_status`): 0 while the job goes on, 1 once it has run to its

@@ -6,6 +6,7 @@
 //! device's own call does. Whatever other passes do meanwhile, no call is lost and none works on an old copy.
 #![tactic(auto)]
 
+mod crossing;
 mod device_calls;
 mod driver;
 mod gpu;

@@ -1,5 +1,5 @@
 //! A submission that takes its locks.
-ghost use Rattle.std.specs.Prelude.{◌≡◌, ◌<◌, ◌∷◌, ℕ, [], length, true, false, IfOk, IfErr, MatchOption};
+ghost use Rattle.std.specs.Prelude.{◌≡◌, ◌<◌, ◌∷◌, ℕ, [], length, true, false, IfOk, IfErr, MatchOption, option_map, slice_get};
 ghost use Rattle.ww_lock.specs.Held.{Lacks};
 ghost use Rattle.ww_lock.specs.Rule.{In};
 ghost use Rattle.ww_lock.specs.Steps.{without};
@@ -307,6 +307,25 @@ impl<'g> Locking<'g> {
         has_buffer(self.acquire.held(), buffer)
     }
 
+    /// How many buffers are held.
+    pub fn held_count(&self) -> usize
+        ensures { result ≡ length self.now.held }
+    {
+        self.acquire.held().len()
+    }
+
+    /// The buffer at this place among those that are held, in the order in which they were locked.
+    pub fn held_at(&self, place: usize) -> Option<BufferId>
+        ensures { result ≡ option_map (λ h. h.0) (slice_get self.now.held place) }
+    {
+        let held = self.acquire.held();
+        if place < held.len() {
+            Some(held[place].0)
+        } else {
+            None
+        }
+    }
+
     /// Locks a buffer if nobody holds it, and never waits (`ww_mutex_trylock`).
     pub fn try_lock(&mut self, buffer: BufferId) -> Result<(), TryLockError>
         requires { buffer < length self.old.pass.gpu.spec.buffers }
@@ -343,6 +362,15 @@ impl<'g> Locking<'g> {
     {
         let gpu = self.gpu;
         gpu.board.release(&mut self.acquire, buffer);
+    }
+
+    /// Gives back everything that is held (`drm_exec_unlock_all`): what a caller does who has to back off, before it locks
+    /// the contended buffer by `lock_slow`.
+    pub fn release_all(&mut self)
+        ensures { self.new ≡ record self.old { held = [] } }
+    {
+        let gpu = self.gpu;
+        release_all(gpu, &mut self.acquire);
     }
 
     /// Locks every buffer that the job declares, and begins anew with the one for which it had to back off.

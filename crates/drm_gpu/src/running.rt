@@ -5,7 +5,7 @@ ghost use Rattle.ww_lock.specs.Begun.{sees};
 ghost use Rattle.drm_sched.specs.declared.answer.Stepped.TheVariants.{Ran};
 ghost use Rattle.drm_gpu.specs.Answers.{StepIs};
 ghost use Rattle.drm_gpu.specs.Passes.{Calls, CallsAs, IsPassSeat};
-ghost use Rattle.drm_gpu.specs.Running.{HasOut, IsSent, RunsNothing, Starts, task_of, written};
+ghost use Rattle.drm_gpu.specs.Running.{SeatHasOut, IsSent, RunsNothing, Starts, task_of, written};
 
 use crate::driver::Task;
 use crate::gpu::Gpu;
@@ -62,13 +62,13 @@ pub struct Running<'g> {
 impl<'g> Model for Running<'g> {
     ghost use Rattle.ww_lock.specs.Begun.{sees};
     ghost use Rattle.drm_gpu.specs.Passes.{pass_of};
-    ghost use Rattle.drm_gpu.specs.Running.{HasOut, RunningState};
+    ghost use Rattle.drm_gpu.specs.Running.{SeatHasOut, RunningState};
 
     ghost Value = { RunningState };
 
     ghost view = { λ r. record { pass = pass_of r.gpu.now.home (sees r.seat); ring = r.out.ring; fence = r.out.fence; packet = r.out.packet } };
 
-    ghost invariant = { λ r. HasOut r.gpu.now r.out r.seat };
+    ghost invariant = { λ r. SeatHasOut r.gpu.now r.out r.seat };
 }
 
 impl OutPacket {
@@ -139,7 +139,7 @@ impl Gpu {
 
     // Runs a packet that is out, and takes it back.
     fn run_out<R: Wait>(&self, seat: &mut DeviceSeat, out: OutPacket, rt: &R) -> Stepped
-        requires { HasOut self.now out seat.old }
+        requires { SeatHasOut self.now out seat.old }
         ensures ran { result ≡ Ran out.fence out.packet }
         ensures seat { IsPassSeat self.now seat.new }
         ensures call { CallsAs (StepIs out.ring (Ok (Ran out.fence out.packet))) (sees seat.old) (sees seat.new) }

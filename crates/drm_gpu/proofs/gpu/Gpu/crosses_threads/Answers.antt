@@ -1,0 +1,21 @@
+use denote.Param.Send.{IsSend, IsSync, sendable}
+use Rattle.drm_gpu.specs.contracts.driver.Driver as Driver
+use Rattle.drm_gpu.specs.contracts.driver.Task as Task
+use Rattle.drm_gpu.specs.contracts.driver.DriverWard.TheImpl.{ghosts as ward}
+use Rattle.drm_sched.specs.contracts.device_calls.Device as Device
+use Rattle.drm_resv.specs.contracts.resv.Resv as Resv
+use Rattle.ww_lock.specs.contracts.board.Board as Board
+use Rattle.ww_lock.specs.contracts.lifetime.Seat as Seat
+use Rattle.drm_gpu.proofs.gpu.Gpu.crosses_threads.Goals as goal
+
+pub returns-clause-pass : goal.returns-clause-pass
+returns-clause-pass c =
+    let s = c.crosses_threads.ensures.seats in
+    let seat : IsSend (Seat.the_field Device.the_row Resv.the_row Task.the_row).row = record { owned = s.owned; leaving = s.leaving } in
+    search sendable depth 20
+
+pub returns-clause-gpu : goal.returns-clause-gpu
+returns-clause-gpu c =
+    let b = c.crosses_threads.ensures.board in
+    let board : IsSync (Board.the_field Driver.the_row Device.the_row Resv.the_row Task.the_row ward).row = record { shared = λ x o p κ. b.shared x o p κ } in
+    search sendable depth 20
