@@ -14,9 +14,10 @@ use Rattle.drm_sched.specs.declared.journal.JobRecord.{JobRecord}
 use Rattle.drm_sched.specs.Arming.{new_record}
 use Rattle.drm_sched.specs.Marks.{MarkedDevice}
 use Rattle.drm_gpu.specs.Answers.{CountsAre, FinishIs, PickIs, StepIs, TimeoutIs}
-use Rattle.drm_gpu.specs.Laws.{transitive}
+use Rattle.drm_gpu.specs.Laws.{reflexive, transitive}
 use Rattle.drm_gpu.specs.Passes.{Calls, GrowsTo, PassState}
-use Rattle.drm_gpu.specs.Submissions.{ArmIs, ArmRefused}
+use Rattle.drm_gpu.specs.Running.{RunningState, Starts}
+use Rattle.drm_gpu.specs.Submissions.{ArmIs, ArmRefused, GoesOn, Submission}
 use Rattle.drm_workers.specs.Armings.{AreJobsOf, ArmsNothing, Call, HasArmed, JobAt, armed_by, armings}
 use Rattle.drm_workers.proofs.Counts.{counts_count, finish_count, pick_count, step_count, timeout_count}
 use Rattle.drm_workers.proofs.Lists.{joined, unit}
@@ -83,10 +84,37 @@ arm_job job deps held left fence old new c =
 
 -- what was armed stays, while the device grows
 pub job_stays : (d e : MarkedDevice) (n : ℕ) (job : Draft) → GrowsTo d e → JobAt d.state.journal n job → JobAt e.state.journal n job
-job_stays d e n job g h = let x = g.journal n h.0 h.1.0 in (x.0, x.1.0, x.1.1.job ∙ h.1.1)
+job_stays d e n job g h = let x = g.journal n h.0 h.1 in (x.0, x.1, x.2.job ∙ h.2)
 
 pub jobs_stay : (d e : MarkedDevice) (ns : List ℕ) (jobs : List Draft) → GrowsTo d e → AreJobsOf d.state.journal ns jobs → AreJobsOf e.state.journal ns jobs
 jobs_stay d e [] [] g h = tt
 jobs_stay d e [] (job ∷ jobs) g h = absurd h
 jobs_stay d e (n ∷ ns) [] g h = absurd h
 jobs_stay d e (n ∷ ns) (job ∷ jobs) g h = (job_stays d e n job g h.0, jobs_stay d e ns jobs g h.1)
+
+pub nothing_then : (a b c : PassState) → ArmsNothing a b → ArmsNothing b c → ArmsNothing a c
+nothing_then a b c x y = (y.0 ∙ x.0, y.1 ∙ x.1)
+
+pub has_then : (numbers : List ℕ) (a b c : PassState) → HasArmed [] a b → HasArmed numbers b c → HasArmed numbers a c
+has_then numbers a b c x y = record {
+  gpu = y.gpu ∙ x.gpu;
+  later = transitive a.last b.last c.last x.later y.later;
+  armed = y.armed ∙ ap (λ ns. ns ++ numbers) (x.armed ∙ unit (armings a.calls));
+}
+
+-- a pass that knows of no more calls
+pub stays : (old new : PassState) → new.gpu ≡ old.gpu → new.last ≡ old.last → new.calls ≡ old.calls → HasArmed [] old new
+stays old new gpu last calls = record {
+  gpu = gpu;
+  later = subst (λ d. GrowsTo old.last d) (sym last) (reflexive old.last);
+  armed = ap armings calls ∙ sym (unit (armings old.calls));
+}
+
+pub same_pass : (old new : PassState) → new ≡ old → HasArmed [] old new
+same_pass old new is = stays old new (ap (λ p. p.gpu) is) (ap (λ p. p.last) is) (ap (λ p. p.calls) is)
+
+pub locks_arm : (old new : Submission) → GoesOn old new → HasArmed [] old.pass new.pass
+locks_arm old new on = stays old.pass new.pass (ap (λ p. p.gpu) on.2) (ap (λ p. p.last) on.2) (ap (λ p. p.calls) on.2)
+
+pub packet_arms : (ring : ℕ) (x : Result Stepped Refusal) (old new : PassState) (out : RunningState) → Starts ring old out → Calls (StepIs out.ring x) out.pass new → ArmsNothing old new
+packet_arms ring x old new out s c = nothing_then old out.pass new (s.gpu, ap (λ (p : PassState). armings p.calls) s.pass) (step_arms out.ring x out.pass new c)

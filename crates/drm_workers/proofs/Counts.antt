@@ -84,20 +84,20 @@ same_device : (d e : MarkedDevice) → e ≡ d → Same d.state e.state
 same_device d e is = ap (λ (x : MarkedDevice). length x.state.journal) is
 
 pub pick_count : (ring now : ℕ) (x : Result Picked Refusal) (d e : MarkedDevice) → PickIs ring now x d e → length e.state.journal ≡ length d.state.journal
-pick_count ring now (Ok p) d e h = left_by d.state _ _ e.state (pick_same d.state ring now) h.1.0
+pick_count ring now (Ok p) d e h = left_by d.state _ _ e.state (pick_same d.state ring now) h.1
 pick_count ring now (Err r) d e h = same_device d e h.1
 
 pub step_count : (ring : ℕ) (x : Result Stepped Refusal) (d e : MarkedDevice) → StepIs ring x d e → length e.state.journal ≡ length d.state.journal
-step_count ring (Ok (stepped.Ran f p)) d e h = left_by d.state _ _ e.state (step_same d.state ring) h.1.1.1.1.1.1.1
-step_count ring (Ok (stepped.Stalled f)) d e h = same_device d e h.1.1.1
-step_count ring (Err r) d e h = same_device d e h.1.1
+step_count ring (Ok (stepped.Ran f p)) d e h = left_by d.state _ _ e.state (step_same d.state ring) h.7
+step_count ring (Ok (stepped.Stalled f)) d e h = same_device d e h.3
+step_count ring (Err r) d e h = same_device d e h.2
 
 pub finish_count : (ring now : ℕ) (x : Result Finished Refusal) (d e : MarkedDevice) → FinishIs ring now x d e → length e.state.journal ≡ length d.state.journal
-finish_count ring now (Ok p) d e h = left_by d.state _ _ e.state (finish_same d.state ring now) h.1.1.0
-finish_count ring now (Err r) d e h = same_device d e h.1.1
+finish_count ring now (Ok p) d e h = left_by d.state _ _ e.state (finish_same d.state ring now) h.2
+finish_count ring now (Err r) d e h = same_device d e h.2
 
 pub timeout_count : (ring now : ℕ) (x : Expired) (d e : MarkedDevice) → TimeoutIs ring now x d e → length e.state.journal ≡ length d.state.journal
-timeout_count ring now x d e h = left_by d.state _ _ e.state (timeout_same d.state ring now) h.1.0
+timeout_count ring now x d e h = left_by d.state _ _ e.state (timeout_same d.state ring now) h.1
 
 pub counts_count : (n : ℕ × ℕ) (d e : MarkedDevice) → CountsAre n d e → length e.state.journal ≡ length d.state.journal
-counts_count n d e h = same_device d e h.1.1
+counts_count n d e h = same_device d e h.2

@@ -1,3 +1,4 @@
 pub mod Lists
 pub mod Counts
 pub mod Arming
+pub mod Joining

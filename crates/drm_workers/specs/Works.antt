@@ -34,7 +34,7 @@ pub record MayWork (gpu : GpuState) (worker : Worker) : Type 0 where
 pub record Worked (gpu : GpuState) (jobs : List Draft) (done : Done) : Type 0 where
   pub pass : done.pass.gpu ≡ gpu
   pub armings : armings done.pass.calls ≡ done.armed.items
-  pub jobs : done.is_done ≡ true → AreJobsOf done.pass.last.state.journal done.armed.items jobs
+  pub order : done.is_done ≡ true → AreJobsOf done.pass.last.state.journal done.armed.items jobs
 
 -- each worker is over as it should be
 abbrev pub AllWorked : GpuState → List Worker → List Done → Type 0

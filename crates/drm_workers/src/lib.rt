@@ -3,6 +3,7 @@
 #![tactic(auto)]
 
 mod rings;
+mod run;
 mod submit;
 mod turns;
 mod work;
@@ -10,6 +11,7 @@ mod work;
 use drm_types::{BadSpec, Moment};
 use thiserror::Error;
 
+pub use run::run_workers;
 pub use work::{Done, Duty, Limits, Worker};
 
 /// What tells workers the time.
