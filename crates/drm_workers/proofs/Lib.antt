@@ -2,3 +2,4 @@ pub mod Lists
 pub mod Counts
 pub mod Arming
 pub mod Joining
+pub mod Crosses

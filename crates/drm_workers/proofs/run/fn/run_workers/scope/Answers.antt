@@ -2,6 +2,19 @@ use Rattle.std.proofs.Common.{◌≡◌, ◌≤◌, ◌+◌, false, List, [], �
 use Rattle.std.proofs.lemmas.List.Elements.{All-head, All-rest, All-same}
 use Rattle.std.specs.Vec.Iter.{into_iter_items, into_iter_len}
 use Rattle.std.specs.declared.thread.PromisedHandle.{PromisedHandle}
+use contract.Lifetimes.{Lfts}
+use denote.Param.{param}
+use denote.Param.Send.{IsSend, IsSync, sendable}
+use Rattle.std.proofs.Crossing.{crosses}
+use Rattle.std.proofs.alloc.Global.TheSendSync as handle
+use Rattle.std.proofs.sync.atomic.AtomicBool.TheSendSync as flag
+use Rattle.drm_gpu.specs.contracts.gpu.Gpu as Gpu
+use Rattle.drm_gpu.specs.contracts.pass.Pass as Pass
+use Rattle.drm_workers.proofs.work.Limits.TheSendSync as limits
+use Rattle.drm_workers.specs.contracts.run.fn.run_workers.scope.{R-row, C-row, G-row}
+use Rattle.drm_workers.proofs.run.fn.run_workers.scope.Given.{Over}
+use Rattle.drm_workers.proofs.run.fn.run_workers.scope.Lts.{arg-15-2}
+use Rattle.drm_workers.proofs.Crosses.{gpu_row_sync, worker_send}
 use Rattle.drm_workers.specs.declared.work.Charge.{Charge}
 use Rattle.drm_workers.specs.declared.work.Done.{Done}
 use Rattle.drm_workers.specs.Works.{AllWorked, MayWork}
@@ -24,8 +37,13 @@ loop-worker-init g c =
       refl,
     )
 
+crossing : (g : Over) → IsSend (Pass.the_field).row → IsSync (Gpu.the_field).row → IsSync (R-row g.row.R g.row.C g.row.G) → IsSync (C-row g.row.R g.row.C g.row.G) → IsSync (G-row g.row.R g.row.C g.row.G) → (κs : Lfts 11)
+    → IsSend (param 2 (arg-15-2 g.row.R g.row.C g.row.G g.R.laws g.C.laws g.G.laws g.R.Threads-dict g.R.Wait-dict g.C.Clock-dict g.G.Gate-dict κs))
+crossing g p q r c h κs = let w = worker_send p in let s = gpu_row_sync q in let f = flag.the_sync in let l = limits.the_field_send in let a = handle.the_field_send in search (sendable, crosses) depth 20
+
 pub spawn_with-started-requires-send-F : goal.spawn_with-started-requires-send-F
-spawn_with-started-requires-send-F g c κs within = ?
+spawn_with-started-requires-send-F g c κs within =
+    crossing g c.crosses_threads.ensures.pass c.crosses_threads.ensures.gpu c.requires.shared.0 c.requires.shared.1 c.requires.shared.2 κs
 
 pub push_reserved-requires : goal.push_reserved-requires
 push_reserved-requires g c = let was = c.loop-worker.invariant.2 in let step = c.in-Some.ensures.steps.1 in omega arith
