@@ -78,9 +78,12 @@ get_last (x ∷ xs) y = get_last xs y
 
 pub arm_job : (job : Draft) (deps : List (ℕ × ℕ)) (held left : List (ℕ × Reservation)) (fence : ℕ) (old new : PassState) → Calls (ArmIs job deps held left fence) old new → JobAt new.last.state.journal fence job
 arm_job job deps held left fence old new c =
-    let e = c.event in let d = c.found.state in
-    (new_record d job, subst (λ n. slice_get new.last.state.journal n ≡ Some (new_record d job)) (sym e.number)
-      (subst (λ s. slice_get s.journal (length d.journal) ≡ Some (new_record d job)) (sym e.armed) (get_last d.journal (new_record d job))), refl)
+    let e = c.event in let d = c.found.state in (
+      new_record d job,
+      subst (λ n. slice_get new.last.state.journal n ≡ Some (new_record d job)) (sym e.number)
+          (subst (λ s. slice_get s.journal (length d.journal) ≡ Some (new_record d job)) (sym e.armed) (get_last d.journal (new_record d job))),
+      refl,
+    )
 
 -- what was armed stays, while the device grows
 pub job_stays : (d e : MarkedDevice) (n : ℕ) (job : Draft) → GrowsTo d e → JobAt d.state.journal n job → JobAt e.state.journal n job

@@ -34,7 +34,7 @@ changed journal f change =
 at_each : (d : DeviceState) (F : ℕ → JobRecord → Answer × DeviceState) (none : Answer × DeviceState) (o : Option ℕ) → Same d none.1 → ((f : ℕ) (r : JobRecord) → Same d (F f r).1)
     → Same d (at_record {A = Answer × DeviceState} d F none o).1
 at_each d F none None n k = n
-at_each d F none (Some f) n k = elim (slice_get d.journal f) as (λ o. Same d (option_map_or (F f) o none).1) [ | None ↦ n | Some r ↦ k f r ]
+at_each d F none (Some f) n k = elim (slice_get d.journal f) as (λ o. Same d (option_map_or (F f) o none).1) [ None ↦ n | Some r ↦ k f r ]
 
 pick_same : (d : DeviceState) (ring now : ℕ) → Same d (pick_outcome d ring now).1
 pick_same d ring now =
@@ -59,23 +59,23 @@ finish_same d ring now =
 hang_same : (d : DeviceState) (ring now f : ℕ) (r : JobRecord) → Same d (hang_outcome d ring now f r).1
 hang_same d ring now f r =
     elim (is_too_much d ring r) as (λ b. Same d
-      (cond {A = Answer × DeviceState} b (answer.Guilty r.job.entity, condemned_device (hung_device d ring now f) ring r.job.entity) (answer.Resumed, hung_device d ring now f)).1) [
-        | true ↦ length-map (hung_device d ring now f).journal (condemned ring r.job.entity) ∙ changed d.journal f _
-        | false ↦ changed d.journal f _
-      ]
+    (cond {A = Answer × DeviceState} b (answer.Guilty r.job.entity, condemned_device (hung_device d ring now f) ring r.job.entity) (answer.Resumed, hung_device d ring now f)).1) [
+      | true ↦ length-map (hung_device d ring now f).journal (condemned ring r.job.entity) ∙ changed d.journal f _
+      | false ↦ changed d.journal f _
+    ]
 
 timeout_same : (d : DeviceState) (ring now : ℕ) → Same d (timeout_outcome d ring now).1
 timeout_same d ring now =
     at_each d (timeout_at d ring now) (answer.Empty, d) (head_of d ring) refl
     (λ f r. elim (nat_lt (age_of d ring now) (limit_of (λ l. l.timeout) d ring)) as (λ b. Same d
-      (cond {A = Answer × DeviceState} b (answer.NotYet (limit_of (λ l. l.timeout) d ring - age_of d ring now), d)
-        (cond {A = Answer × DeviceState} (is_complete r) (answer.Complete, d) (hang_outcome d ring now f r))).1) [
-          | true ↦ refl
-          | false ↦ elim (is_complete r) as (λ b. Same d (cond {A = Answer × DeviceState} b (answer.Complete, d) (hang_outcome d ring now f r)).1) [
-            | true ↦ refl
-            | false ↦ hang_same d ring now f r
-          ]
-      ])
+    (cond {A = Answer × DeviceState} b (answer.NotYet (limit_of (λ l. l.timeout) d ring - age_of d ring now), d)
+    (cond {A = Answer × DeviceState} (is_complete r) (answer.Complete, d) (hang_outcome d ring now f r))).1) [
+      | true ↦ refl
+      | false ↦ elim (is_complete r) as (λ b. Same d (cond {A = Answer × DeviceState} b (answer.Complete, d) (hang_outcome d ring now f r)).1) [
+        | true ↦ refl
+        | false ↦ hang_same d ring now f r
+      ]
+    ])
 
 left_by : (d : DeviceState) (o : Answer × DeviceState) (a : Answer) (e : DeviceState) → Same d o.1 → o ≡ (a, e) → Same d e
 left_by d o a e s is = ap (λ (p : Answer × DeviceState). length p.1.journal) (sym is) ∙ s

@@ -1,5 +1,11 @@
-//! The workers that drive a shared device in threads of their own: submitters arm jobs, and for each ring one worker
-//! picks and one runs and finishes, and a watchdog looks for hangs.
+//! The workers that drive a shared device in threads of their own: submitters arm jobs, for each ring one worker picks and
+//! one runs packets and finishes, and a watchdog looks for hangs.
+//!
+//! `run_workers` starts each `Worker` in a thread, and gives back what each has done. It promises (`specs/Works`) that a
+//! submitter tells the numbers that its calls have armed, and that these are the numbers of its jobs, in their order, where
+//! it is done; that no other worker arms anything; and that all passes come back, to be joined. A worker that tries in vain
+//! costs a turn, and one that has none left gives back all that it holds, runs the packet that it has out, and stops. That
+//! workers get on is not promised: they wait for one another.
 #![tactic(auto)]
 
 mod rings;
@@ -8,10 +14,9 @@ mod submit;
 mod turns;
 mod work;
 
-use drm_types::{BadSpec, Moment};
-use thiserror::Error;
-
+use drm_types::Moment;
 pub use run::run_workers;
+use thiserror::Error;
 pub use work::{Done, Duty, Limits, Worker};
 
 /// What tells workers the time.
@@ -39,22 +44,13 @@ pub trait Gate {
     fn open(&self, worker: u32, point: Point) -> bool;
 }
 
-/// Why there is no report of a run.
+/// Why workers did not run to their ends.
 #[derive(Clone, Copy, Debug, PartialEq, Eq, Error)]
 pub enum RunFault {
-    /// The description is out of its limits.
-    #[error("the description is out of its limits")]
-    Spec(BadSpec),
     /// Memory was refused.
     #[error("memory was refused")]
     Memory,
     /// A thread could not be started.
     #[error("a thread could not be started")]
     NoThread,
-    /// The worker of this number made all its turns before it was done: the least such number.
-    #[error("worker {worker} gave up")]
-    GaveUp {
-        /// The number of the worker.
-        worker: u32,
-    },
 }

@@ -43,7 +43,7 @@ pub fn run_workers<R: Threads + Wait + Sync, C: Clock + Sync, G: Gate + Sync>(
 ) -> Result<Vec<Done>, RunFault>
     requires workers { All (MayWork gpu.now) workers.items }
     requires rings { limits.rings ≡ length gpu.now.spec.rings }
-    ensures { IfOk result (λ dones. AllWorked gpu.now workers.items dones.items) }
+    ensures worked { IfOk result (λ dones. AllWorked gpu.now workers.items dones.items) }
 {
     let is_off = AtomicBool::new(false);
     let off = &is_off;
@@ -57,10 +57,10 @@ pub fn run_workers<R: Threads + Wait + Sync, C: Clock + Sync, G: Gate + Sync>(
             ensures { IfOk result (λ dones. AllWorked gpu.entry.now workers.items dones.items) }
         {
             gpu.crosses_threads();
-            let mut handles: Vec<Handle> =
-                Vec::with_capacity(alloc, workers.len()).map_err(|_| RunFault::Memory)?;
-            let mut dones =
-                Vec::with_capacity(alloc, workers.len()).map_err(|_| RunFault::Memory)?;
+            let mut handles: Vec<Handle> = Vec::with_capacity(alloc, workers.len()).map_err(
+                |_| RunFault::Memory,
+            )?;
+            let mut dones = Vec::with_capacity(alloc, workers.len()).map_err(|_| RunFault::Memory)?;
             let mut is_short = false;
             for worker in workers {
                 let promise = Charge {

@@ -105,7 +105,11 @@ pub(crate) fn work<R: Wait, C: Clock, G: Gate>(
     let Worker { number, pass, duty } = worker;
     let mut pass = pass;
     let mut turns = Turns::new(limits.turns, is_off);
-    let Limits { jobs, rings, turns: _ } = limits;
+    let Limits {
+        jobs,
+        rings,
+        turns: _,
+    } = limits;
     let tally = match duty {
         Duty::Submit { jobs, armed } => {
             let mut armed = armed;
@@ -121,8 +125,9 @@ pub(crate) fn work<R: Wait, C: Clock, G: Gate>(
         }
         Duty::Schedule { ring } => schedule(gpu, &mut pass, ring, jobs, &mut turns, clock, rt),
         Duty::Run { ring } => {
-            let (same, tally) =
-                run_ring(gpu, pass, ring, number, jobs, &mut turns, clock, gate, rt);
+            let (same, tally) = run_ring(
+                gpu, pass, ring, number, jobs, &mut turns, clock, gate, rt,
+            );
             pass = same;
             tally
         }

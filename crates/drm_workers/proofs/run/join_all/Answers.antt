@@ -15,7 +15,7 @@ pub loop-handle-preserved : goal.loop-handle-preserved
 loop-handle-preserved g c =
     let all = c.args.handles.items in let was = c.loop-handle.invariant in let step = c.in-Some.ensures.steps in let d = c.join.result in (
       (λ ds k. subst (λ xs. AreKept (λ h. h.promise) all (xs ++ ds)) (sym c.push_reserved.ensures.items)
-        (subst (λ xs. AreKept (λ h. h.promise) all xs) (sym (one_more c.loop-handle.dones.items d ds))
+          (subst (λ xs. AreKept (λ h. h.promise) all xs) (sym (one_more c.loop-handle.dones.items d ds))
           (was.0 (d ∷ ds) (subst (λ hs. AreKept (λ h. h.promise) hs (d ∷ ds)) (sym step.0) (c.join.ensures, k))))),
       search rules,
     )
@@ -25,4 +25,4 @@ returns g c =
     let was = c.loop-handle.invariant in let it = c.loop-handle.handle-iterator in
     let few : length (into_iter_items it) ≡ 0 = search rules in
     subst (λ xs. AreKept (λ h. h.promise) c.args.handles.items xs) (unit c.loop-handle.dones.items)
-      (was.0 [] (subst (λ hs. AreKept (λ h. h.promise) hs []) (sym (none_left (into_iter_items it) few)) tt))
+    (was.0 [] (subst (λ hs. AreKept (λ h. h.promise) hs []) (sym (none_left (into_iter_items it) few)) tt))

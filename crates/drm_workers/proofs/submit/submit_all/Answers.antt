@@ -16,9 +16,9 @@ loop-job-preserved g c =
       h.armed ∙ (ap (λ ns. ns ++ fence ∷ []) was.1 ∙ sym c.push_reserved.ensures.items),
       All-rest (IsJob c.args.gpu.now.spec) _ _ _ step.0 was.2,
       (λ d ns g k. subst (λ xs. AreJobsOf d.state.journal (xs ++ ns) all) (sym c.push_reserved.ensures.items)
-        (subst (λ xs. AreJobsOf d.state.journal xs all) (sym (one_more c.loop-job.armed.items fence ns))
+          (subst (λ xs. AreJobsOf d.state.journal xs all) (sym (one_more c.loop-job.armed.items fence ns))
           (was.3 d (fence ∷ ns) (transitive c.loop-job.pass.last new.last d h.later g)
-            (subst (λ js. AreJobsOf d.state.journal (fence ∷ ns) js) (sym step.0) (job_stays new.last d fence c.in-Some.job g c.in-Ok.ensures.1, k))))),
+          (subst (λ js. AreJobsOf d.state.journal (fence ∷ ns) js) (sym step.0) (job_stays new.last d fence c.in-Some.job g c.in-Ok.ensures.1, k))))),
       search rules,
     )
 
@@ -27,4 +27,4 @@ returns-clause-jobs g c done =
     let was = c.loop-job.invariant in let it = c.loop-job.job-iterator in let last = c.loop-job.pass.last in
     let few : length (into_iter_items it) ≡ 0 = search rules in
     subst (λ xs. AreJobsOf last.state.journal xs c.args.jobs.items) (unit c.loop-job.armed.items)
-      (was.3 last [] (reflexive last) (subst (λ js. AreJobsOf last.state.journal [] js) (sym (none_left (into_iter_items it) few)) tt))
+    (was.3 last [] (reflexive last) (subst (λ js. AreJobsOf last.state.journal [] js) (sym (none_left (into_iter_items it) few)) tt))

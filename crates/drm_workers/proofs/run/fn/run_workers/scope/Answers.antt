@@ -55,10 +55,10 @@ loop-worker-preserved g c =
     let all = into_iter_items c.into_iter-worker-iterator.result in
     let charge : IsCharge gpu c.in-Some.worker h.promise = record {
       device = ap (λ p. p.gpu.value) c.in-Ok.ensures.ok ∙ c.of.ensures;
-      by = ap (λ p. p.worker.value) c.in-Ok.ensures.ok ∙ c.of-in-loop-worker.ensures
+      by = ap (λ p. p.worker.value) c.in-Ok.ensures.ok ∙ c.of-in-loop-worker.ensures;
     } in (
       (λ hs k. subst (λ xs. AreCharges (λ h. h.promise) gpu all (xs ++ hs)) (sym c.push_reserved.ensures.items)
-        (subst (λ xs. AreCharges (λ h. h.promise) gpu all xs) (sym (one_more c.loop-worker.handles.items h hs))
+          (subst (λ xs. AreCharges (λ h. h.promise) gpu all xs) (sym (one_more c.loop-worker.handles.items h hs))
           (was.0 (h ∷ hs) (subst (λ ws. AreCharges (λ h. h.promise) gpu ws (h ∷ hs)) (sym step.0) (charge, k))))),
       All-rest (MayWork gpu) _ _ _ step.0 was.1,
       search rules,
@@ -73,12 +73,12 @@ returns g c =
     let was = c.loop-worker.invariant in let it = c.loop-worker.worker-iterator in
     let all = into_iter_items c.into_iter-worker-iterator.result in let hs = c.loop-worker.handles.items in
     elim c.match-next.branch [
-      in-None w ↦
-        let few : length (into_iter_items it) ≡ 0 = search rules in
-        let charges : AreCharges (λ (h : PromisedHandle Done Charge). h.promise) gpu all hs =
+      | in-None w ↦
+          let few : length (into_iter_items it) ≡ 0 = search rules in
+          let charges : AreCharges (λ (h : PromisedHandle Done Charge). h.promise) gpu all hs =
           subst (λ xs. AreCharges (λ (h : PromisedHandle Done Charge). h.promise) gpu all xs) (unit hs)
-            (was.0 [] (subst (λ ws. AreCharges (λ (h : PromisedHandle Done Charge). h.promise) gpu ws []) (sym (none_left (into_iter_items it) few)) tt)) in
-        subst (λ ws. AllWorked gpu ws c.join_all.new.dones.items) c.into_iter-worker-iterator.ensures.into_iter_gives.0
+          (was.0 [] (subst (λ ws. AreCharges (λ (h : PromisedHandle Done Charge). h.promise) gpu ws []) (sym (none_left (into_iter_items it) few)) tt)) in
+          subst (λ ws. AllWorked gpu ws c.join_all.new.dones.items) c.into_iter-worker-iterator.ensures.into_iter_gives.0
           (all_worked (λ (h : PromisedHandle Done Charge). h.promise) gpu all hs c.join_all.new.dones.items charges c.join_all.ensures)
-    | in-Some+in-Err w ↦ absurd (true_is_false (sym w.is_short-is ∙ c.if-is_short-2.false))
+      | in-Some+in-Err w ↦ absurd (true_is_false (sym w.is_short-is ∙ c.if-is_short-2.false))
     ]
