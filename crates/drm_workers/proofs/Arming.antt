@@ -1,5 +1,5 @@
 -- What one call more has armed.
-use Rattle.std.proofs.Common.{◌≡◌, ◌+◌, ◌<◌, arith, suc, zero, Bool, true, false, cond, ℕ, List, [], ◌∷◌, ◌++◌, Result, Ok, Err, refl, sym, ap, ◌∙◌, subst, length, Some, slice_get}
+use Rattle.std.proofs.Common.{◌≡◌, ◌+◌, arith, Bool, true, false, cond, ℕ, List, [], ◌∷◌, ◌++◌, Result, refl, sym, ap, ◌∙◌, subst, length, Some, slice_get}
 use Rattle.std.specs.Prelude.{nat_lt}
 use Rattle.std.proofs.lemmas.Bool.{ltb-true, ltb-false}
 use Rattle.std.proofs.lemmas.List.{length-append}
@@ -10,7 +10,6 @@ use Rattle.drm_sched.specs.declared.answer.Picked.{Picked}
 use Rattle.drm_sched.specs.declared.answer.Stepped.{Stepped}
 use Rattle.drm_sched.specs.declared.answer.Finished.{Finished}
 use Rattle.drm_sched.specs.declared.answer.Expired.{Expired}
-use Rattle.drm_sched.specs.declared.journal.JobRecord.{JobRecord}
 use Rattle.drm_sched.specs.Arming.{new_record}
 use Rattle.drm_sched.specs.Marks.{MarkedDevice}
 use Rattle.drm_gpu.specs.Answers.{CountsAre, FinishIs, PickIs, StepIs, TimeoutIs}

@@ -1,9 +1,8 @@
 -- The calls that drive rings leave as many records as they found.
-use Rattle.std.proofs.Common.{◌≡◌, ℕ, ◌-◌, Bool, true, false, cond, List, length, Some, None, Option, Result, Ok, Err, refl, sym, ap, ◌∙◌, set, slice_get}
+use Rattle.std.proofs.Common.{◌≡◌, ℕ, ◌-◌, true, false, cond, List, length, Some, None, Option, Result, Ok, Err, refl, sym, ap, ◌∙◌, set, slice_get}
 use Rattle.std.specs.Option.{option_map_or}
 use Rattle.std.specs.Prelude.{nat_lt}
 use Rattle.std.proofs.lemmas.List.{length-set, length-map}
-use Rattle.drm_packet.specs.declared.Packet.{Packet}
 use Rattle.drm_sched.specs.declared.answer.Answer.{Answer}
 use Rattle.drm_sched.specs.declared.answer.Answer.TheVariants as answer
 use Rattle.drm_sched.specs.declared.answer.Picked.{Picked}

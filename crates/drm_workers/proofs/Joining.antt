@@ -1,5 +1,5 @@
 -- Threads are started and joined one by one.
-use Rattle.std.proofs.Common.{◌≡◌, List, [], ◌∷◌, subst}
+use Rattle.std.proofs.Common.{List, [], ◌∷◌, subst}
 use Rattle.drm_gpu.specs.Passes.{GpuState}
 use Rattle.drm_workers.specs.declared.work.Worker.{Worker}
 use Rattle.drm_workers.specs.declared.work.Done.{Done}

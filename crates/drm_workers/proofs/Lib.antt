@@ -3,3 +3,4 @@ pub mod Counts
 pub mod Arming
 pub mod Joining
 pub mod Crosses
+pub mod Hiring

@@ -1,5 +1,5 @@
 -- Lists that grow at their end.
-use Rattle.std.proofs.Common.{◌≡◌, ◌+◌, arith, suc, zero, Bool, true, false, ℕ, List, [], ◌∷◌, ◌++◌, refl, sym, ap, ◌∙◌, subst, length, Some}
+use Rattle.std.proofs.Common.{◌≡◌, arith, Bool, true, false, List, [], ◌∷◌, ◌++◌, refl, ap, subst, length}
 
 pub unit : {A : Type 0} → (xs : List A) → xs ++ [] ≡ xs
 unit [] = refl

@@ -1,5 +1,5 @@
 -- What a worker may begin with, and what it gives back.
-use Rattle.std.specs.Prelude.{◌≡◌, ◌<◌, ◌≤◌, All, true, length, vec_len, vec_capacity, List, [], ◌∷◌}
+use Rattle.std.specs.Prelude.{◌≡◌, ◌<◌, ◌≤◌, ◌++◌, All, true, length, map, vec_len, vec_capacity, List, [], ◌∷◌}
 use Rattle.drm_types.specs.declared.spec.DeviceSpec.{DeviceSpec}
 use Rattle.drm_job.specs.declared.Draft.{Draft}
 use Rattle.drm_job.specs.Fault.{IsJob}
@@ -42,3 +42,8 @@ AllWorked gpu [] [] = Unit {0}
 AllWorked gpu [] (done ∷ dones) = ⊥
 AllWorked gpu (worker ∷ workers) [] = ⊥
 AllWorked gpu (worker ∷ workers) (done ∷ dones) = Worked gpu (jobs_of worker.duty) done × AllWorked gpu workers dones
+
+-- workers with these lists of jobs were hired behind those that there were. Each may begin where those may
+abbrev pub Hires : GpuState → List (List Draft) → List Worker → List Worker → Type 0
+Hires gpu lists old new =
+    (map (λ w. jobs_of w.duty) new ≡ map (λ w. jobs_of w.duty) old ++ lists) × (All (MayWork gpu) old → All (MayWork gpu) new)

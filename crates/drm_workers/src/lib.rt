@@ -1,13 +1,14 @@
 //! The workers that drive a shared device in threads of their own: submitters arm jobs, for each ring one worker picks and
 //! one runs packets and finishes, and a watchdog looks for hangs.
 //!
-//! `run_workers` starts each `Worker` in a thread, and gives back what each has done. It promises (`specs/Works`) that a
+//! `hire_all` makes the workers of a run, each with a pass of its own. `run_workers` starts each `Worker` in a thread, and gives back what each has done. It promises (`specs/Works`) that a
 //! submitter tells the numbers that its calls have armed, and that these are the numbers of its jobs, in their order, where
 //! it is done; that no other worker arms anything; and that all passes come back, to be joined. A worker that tries in vain
 //! costs a turn, and one that has none left gives back all that it holds, runs the packet that it has out, and stops. That
 //! workers get on is not promised: they wait for one another.
 #![tactic(auto)]
 
+mod hire;
 mod rings;
 mod run;
 mod submit;
@@ -15,6 +16,7 @@ mod turns;
 mod work;
 
 use drm_types::Moment;
+pub use hire::hire_all;
 pub use run::run_workers;
 use thiserror::Error;
 pub use work::{Done, Duty, Limits, Worker};

@@ -1,5 +1,5 @@
-use Rattle.std.proofs.Common.{◌≡◌, ◌≤◌, ◌+◌, List, [], ◌∷◌, ◌++◌, length, vec_len, vec_capacity, rules, arith, sym, ap, ◌∙◌, subst}
-use Rattle.std.specs.Vec.Iter.{into_iter_items, into_iter_len}
+use Rattle.std.proofs.Common.{◌≡◌, [], ◌∷◌, ◌++◌, length, rules, sym, subst}
+use Rattle.std.specs.Vec.Iter.{into_iter_items}
 use Rattle.drm_workers.specs.Charges.{AreKept}
 use Rattle.drm_workers.proofs.Lists.{unit, one_more, none_left}
 use Rattle.drm_workers.proofs.run.join_all.Goals as goal

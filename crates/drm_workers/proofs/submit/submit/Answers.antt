@@ -1,5 +1,5 @@
-use Rattle.std.proofs.Common.{rules, ◌≡◌, ◌∙◌, [], ◌∷◌, sym, ap, subst}
-use Rattle.drm_workers.specs.Armings.{HasArmed, JobAt}
+use Rattle.std.proofs.Common.{rules, ◌∙◌, [], sym, ap, subst}
+use Rattle.drm_workers.specs.Armings.{HasArmed}
 use Rattle.drm_workers.proofs.Arming.{has_then, locks_arm, same_pass}
 use Rattle.drm_workers.proofs.submit.submit.Goals as goal
 

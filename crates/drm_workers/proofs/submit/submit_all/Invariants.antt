@@ -1,7 +1,7 @@
 use Rattle.std.proofs.Common.{◌≡◌, ◌≤◌, ◌+◌, All, List, ℕ, ◌++◌, vec_len, vec_capacity}
 use Rattle.std.specs.Vec.Iter.{into_iter_items, into_iter_len}
 use Rattle.drm_job.specs.Fault.{IsJob}
-use Rattle.drm_gpu.specs.Passes.{GrowsTo, PassState}
+use Rattle.drm_gpu.specs.Passes.{GrowsTo}
 use Rattle.drm_sched.specs.Marks.{MarkedDevice}
 use Rattle.drm_workers.specs.Armings.{AreJobsOf, armings}
 use Rattle.drm_workers.proofs.submit.submit_all.Given as goal
