@@ -1,0 +1,3 @@
+pub mod Armings
+pub mod Works
+pub mod Charges

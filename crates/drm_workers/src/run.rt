@@ -1,0 +1,95 @@
+//! How the workers of a run are started and joined.
+ghost use Rattle.std.specs.Prelude.{◌≡◌, ◌≤◌, [], All, IfOk, vec_len, vec_capacity, length};
+ghost use denote.Param.Send.{IsSync};
+ghost use Rattle.drm_workers.specs.Works.{AllWorked, MayWork, Worked, jobs_of};
+ghost use Rattle.drm_workers.specs.Charges.{AreKept};
+
+use crate::work::{Charge, Done, Limits, Worker, work};
+use crate::{Clock, Gate, RunFault};
+use drm_gpu::Gpu;
+use std::alloc::Global;
+use std::snapshot::Snapshot;
+use std::sync::Wait;
+use std::sync::atomic::{AtomicBool, Ordering};
+use std::thread;
+use std::thread::{PromisedHandle, Threads};
+
+type Handle = PromisedHandle<Done, Charge>;
+
+// Waits for each thread, and notes what it gives back.
+fn join_all<R: Threads>(handles: Vec<Handle>, dones: &mut Vec<Done>, rt: &R)
+    requires { (dones.old.items ≡ []) × (vec_len handles ≤ vec_capacity dones.old) }
+    ensures { AreKept (λ h. h.promise) handles.items dones.new.items }
+{
+    for handle in handles {
+        dones.push_reserved(handle.join(rt));
+    }
+}
+
+/// Runs each worker in a thread of its own, and waits for all of them. What each gives back stands in the worker's place.
+///
+/// # Errors
+///
+/// Where memory for the lists is refused (`Memory`), or a thread cannot be started (`NoThread`): the workers that run are
+/// told to give up then, and are waited for.
+pub fn run_workers<R: Threads + Wait + Sync, C: Clock + Sync, G: Gate + Sync>(
+    gpu: &Gpu,
+    alloc: Global,
+    workers: Vec<Worker>,
+    limits: Limits,
+    clock: &C,
+    gate: &G,
+    rt: &R,
+) -> Result<Vec<Done>, RunFault>
+    requires workers { All (MayWork gpu.now) workers.items }
+    requires rings { limits.rings ≡ length gpu.now.spec.rings }
+    ensures worked { IfOk result (λ dones. AllWorked gpu.now workers.items dones.items) }
+{
+    let is_off = AtomicBool::new(false);
+    let off = &is_off;
+    thread::scope(
+        thread::scope_env(),
+        rt,
+        |scope| -> Result<Vec<Done>, RunFault>
+            requires workers { All (MayWork gpu.now) workers.items }
+            requires rings { limits.rings ≡ length gpu.now.spec.rings }
+            requires shared { IsSync R.row × IsSync C.row × IsSync G.row }
+            ensures { IfOk result (λ dones. AllWorked gpu.entry.now workers.items dones.items) }
+        {
+            gpu.crosses_threads();
+            let mut handles: Vec<Handle> = Vec::with_capacity(alloc, workers.len()).map_err(
+                |_| RunFault::Memory,
+            )?;
+            let mut dones = Vec::with_capacity(alloc, workers.len()).map_err(|_| RunFault::Memory)?;
+            let mut is_short = false;
+            for worker in workers {
+                let promise = Charge {
+                    gpu: Snapshot::of(&*gpu),
+                    worker: Snapshot::of(&worker),
+                };
+                let started = scope.spawn_with(
+                    promise,
+                    move || -> Done
+                        requires { MayWork gpu.now worker × (limits.rings ≡ length gpu.now.spec.rings) }
+                        ensures { Worked gpu.entry.now (jobs_of worker.duty) result }
+                    { work(gpu, alloc, worker, limits, off, clock, gate, rt) },
+                );
+                match started {
+                    Ok(handle) => handles.push_reserved(handle),
+                    Err(_) => {
+                        is_short = true;
+                        break;
+                    }
+                }
+            }
+            if is_short {
+                off.store(true, Ordering::SeqCst);
+            }
+            join_all(handles, &mut dones, rt);
+            if is_short {
+                return Err(RunFault::NoThread);
+            }
+            Ok(dones)
+        },
+    )
+}
