@@ -8,7 +8,7 @@ use Rattle.drm_gpu_tests.proofs.outside.end_meanwhile.Lts.{arg-1-1}
 use Rattle.drm_gpu_tests.specs.contracts.outside.end_meanwhile.{R-row}
 use Rattle.drm_gpu_tests.proofs.outside.end_meanwhile.Goals as goal
 
-crossing : (g : Over) → IsSync (R-row g.row.R) → IsSend (Pass.the_field).row → IsSync (Gpu.the_field).row → (κs : Lfts _) → IsSend (param 1 (arg-1-1 g.row.R g.R.laws g.R.Threads-dict g.R.Wait-dict g.R.Abort-dict κs))
+crossing : (g : Over) → IsSync (R-row g.row.R) → IsSend (Pass.the_field).row → IsSync (Gpu.the_field).row → (κs : Lfts 11) → IsSend (param 1 (arg-1-1 g.row.R g.R.laws g.R.Threads-dict g.R.Wait-dict g.R.Abort-dict κs))
 crossing g y p d κs = search sendable depth 20
 
 pub join-one-requires-send-F : goal.join-one-requires-send-F

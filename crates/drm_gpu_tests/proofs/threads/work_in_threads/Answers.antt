@@ -21,7 +21,7 @@ map_vec-requires-send-J g c κs within = let w = worker_send c.crosses_threads.e
 pub map_vec-requires-send-X : goal.map_vec-requires-send-X
 map_vec-requires-send-X g c κs within = let w = worker_send c.crosses_threads.ensures.pass in search sendable depth 20
 
-crossing : (g : Over) → IsSync (R-row g.row.R) → IsSync (Gpu.the_field).row → (κs : Lfts _) → IsSync (param 4 (arg-1-4 g.row.R g.R.laws g.R.Threads-dict g.R.Wait-dict g.R.Abort-dict κs))
+crossing : (g : Over) → IsSync (R-row g.row.R) → IsSync (Gpu.the_field).row → (κs : Lfts 9) → IsSync (param 4 (arg-1-4 g.row.R g.R.laws g.R.Threads-dict g.R.Wait-dict g.R.Abort-dict κs))
 crossing g y d κs = let h = handle.the_field_sync in search sendable depth 20
 
 pub map_vec-requires-sync-F : goal.map_vec-requires-sync-F
