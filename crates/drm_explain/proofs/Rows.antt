@@ -1,9 +1,8 @@
 -- Rows in the order of their numbers.
-use Rattle.std.proofs.Common.{Bool, List, None, Option, Some, [], ap, arith, cond, false, get_or, length, refl, take, true, ℕ, ◌++◌, ◌+◌, ◌<◌, ◌==◌, ◌∙◌, ◌∷◌, ◌≡◌}
+use Rattle.std.proofs.Common.{Bool, List, Some, [], ap, arith, cond, false, get_or, length, refl, take, true, ℕ, ◌++◌, ◌+◌, ◌<◌, ◌==◌, ◌∙◌, ◌∷◌, ◌≡◌}
 use Rattle.std.proofs.lemmas.List.Folds.{list_any_at}
 use Rattle.std.proofs.lemmas.Grind.{common_steps}
 use Rattle.std.specs.Prelude.{◌||◌, find}
-use Rattle.std.proofs.lemmas.Option.{same_Some}
 use Rattle.drm_explain.specs.Numbers.{is_in}
 use Rattle.drm_explain.specs.Texts.{IsList, line_of}
 use Rattle.drm_explain.specs.declared.explanation.Explanation.{Explanation}

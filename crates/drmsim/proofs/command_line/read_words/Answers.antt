@@ -1,5 +1,5 @@
 use Rattle.std.specs.String.{string_bytes}
-use Rattle.std.proofs.Common.{rules, map, ◌≡◌, ◌∙◌, ap, ap₂, sym, refl, inl, inr}
+use Rattle.std.proofs.Common.{rules, map, ◌∙◌, ap, ap₂, sym, refl, inl, inr}
 use Rattle.std.proofs.lemmas.Option.{same_Some}
 use Rattle.clap.specs.Words.{takes}
 use Rattle.drmsim.specs.declared.command_line.Request.TheVariants.{Run}
