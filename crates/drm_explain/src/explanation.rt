@@ -5,7 +5,7 @@ ghost use Rattle.std.specs.Fmt.{decimal};
 ghost use Rattle.std.specs.Str.{bytes_eq};
 ghost use Rattle.drm_explain.specs.Numbers.{is_in, numbers};
 
-use crate::table::{of_contexts, of_jobs, of_rings, of_texts};
+use crate::table::{of_contexts, of_devices, of_jobs, of_packets, of_rings, of_runs, of_texts};
 
 /// What a number means.
 #[derive(Clone, Copy)]
@@ -36,10 +36,13 @@ pub fn explain(number: u32) -> Option<Explanation>
     ensures known { is_some result ≡ is_in numbers number }
 {
     match number {
-        0..=29 => of_jobs(number),
-        30..=49 => of_rings(number),
+        0..=15 => of_jobs(number),
+        16..=29 => of_packets(number),
+        30..=39 => of_devices(number),
+        40..=49 => of_rings(number),
+        50..=59 => of_contexts(number),
         70..=79 => of_texts(number),
-        _ => of_contexts(number),
+        _ => of_runs(number),
     }
 }
 

@@ -1,10 +1,11 @@
 //! The rows of the table.
 
 ghost use Rattle.std.specs.Prelude.{◌≡◌, is_some, IfSome};
-ghost use Rattle.drm_explain.specs.Numbers.{context_numbers, is_in, job_numbers, ring_numbers, text_numbers};
+ghost use Rattle.drm_explain.specs.Numbers.{context_numbers, device_numbers, is_in, job_numbers, packet_numbers, ring_numbers, run_numbers, text_numbers};
 
 use crate::explanation::Explanation;
-/// The row of a number of the device of a header, and of jobs.
+
+/// The row of a number of a header, or of a job and what it declares.
 pub(crate) fn of_jobs(number: u32) -> Option<Explanation>
     ensures number { IfSome result (λ row. row.number ≡ number) }
     ensures known { is_some result ≡ is_in job_numbers number }
@@ -66,6 +67,17 @@ pub(crate) fn of_jobs(number: u32) -> Option<Explanation>
             kernel: "drm_exec_lock_obj: -EALREADY, unless duplicates are to be ignored",
             details: "",
         },
+        _ => return None,
+    };
+    Some(row)
+}
+
+/// The row of a number of a job's packets, moves and fences.
+pub(crate) fn of_packets(number: u32) -> Option<Explanation>
+    ensures number { IfSome result (λ row. row.number ≡ number) }
+    ensures known { is_some result ≡ is_in packet_numbers number }
+{
+    let row = match number {
         16 => Explanation {
             number,
             form: "refused 16 N",
@@ -119,10 +131,10 @@ pub(crate) fn of_jobs(number: u32) -> Option<Explanation>
     Some(row)
 }
 
-/// The row of a number of what a device takes, and of rings, entities and readbacks.
-pub(crate) fn of_rings(number: u32) -> Option<Explanation>
+/// The row of a number of what a device takes, or of a lock that is contended.
+pub(crate) fn of_devices(number: u32) -> Option<Explanation>
     ensures number { IfSome result (λ row. row.number ≡ number) }
-    ensures known { is_some result ≡ is_in ring_numbers number }
+    ensures known { is_some result ≡ is_in device_numbers number }
 {
     let row = match number {
         30 => Explanation {
@@ -149,6 +161,17 @@ pub(crate) fn of_rings(number: u32) -> Option<Explanation>
             kernel: "ww_mutex_lock: -EDEADLK",
             details: "",
         },
+        _ => return None,
+    };
+    Some(row)
+}
+
+/// The row of a number of rings, entities and readbacks.
+pub(crate) fn of_rings(number: u32) -> Option<Explanation>
+    ensures number { IfSome result (λ row. row.number ≡ number) }
+    ensures known { is_some result ≡ is_in ring_numbers number }
+{
+    let row = match number {
         40 => Explanation {
             number,
             form: "refused 40",
@@ -218,7 +241,7 @@ pub(crate) fn of_rings(number: u32) -> Option<Explanation>
     Some(row)
 }
 
-/// The row of a number of contexts, tickets, runs and locks.
+/// The row of a number of contexts.
 pub(crate) fn of_contexts(number: u32) -> Option<Explanation>
     ensures number { IfSome result (λ row. row.number ≡ number) }
     ensures known { is_some result ≡ is_in context_numbers number }
@@ -288,6 +311,17 @@ pub(crate) fn of_contexts(number: u32) -> Option<Explanation>
             kernel: "a submission waits in drm_exec_lock_obj until the lock is free",
             details: "",
         },
+        _ => return None,
+    };
+    Some(row)
+}
+
+/// The row of a number of tickets, of a run by threads, or of a lock that is held already.
+pub(crate) fn of_runs(number: u32) -> Option<Explanation>
+    ensures number { IfSome result (λ row. row.number ≡ number) }
+    ensures known { is_some result ≡ is_in run_numbers number }
+{
+    let row = match number {
         60 => Explanation {
             number,
             form: "refused 60",
@@ -398,8 +432,8 @@ pub(crate) fn of_texts(number: u32) -> Option<Explanation>
         77 => Explanation {
             number,
             form: "fault 77",
-            meaning: "the job of a journal's line is none that the device can have taken",
-            remedy: "see \"Journals that are refused\"",
+            meaning: "the job of a journal's line is none that the device can have taken, or that of a line of a script for threads none that they can submit",
+            remedy: "see \"Journals that are refused\" and \"Scripts for threads\"",
             kernel: "nothing: no text reaches the kernel; a driver answers -EINVAL to a submission that it can't read",
             details: "Column: 1\n",
         },
