@@ -124,7 +124,7 @@ fn run_late<R: Wait + Abort>(gpu: &Gpu, pass: Pass, running: Running, rt: &R) ->
     gpu.join(pass, reported(running, 0, 0, rt))
 }
 
-// Another thread ends the job whose packet is out. It is kept until the packet has run.
+// Another thread ends the job whose packet is out. It is kept until the packet has run. Its pass comes back.
 fn end_meanwhile<R: Threads + Wait + Abort + Sync>(
     gpu: &Gpu,
     passes: (Pass, Pass),
@@ -137,7 +137,7 @@ fn end_meanwhile<R: Threads + Wait + Abort + Sync>(
 {
     let (one, other) = passes;
     gpu.crosses_threads();
-    let (one, other) = thread::join(
+    let (one, _other) = thread::join(
         rt,
         move ||
             requires { IsPair gpu.now.spec × (one.gpu ≡ gpu.now) }
@@ -148,7 +148,7 @@ fn end_meanwhile<R: Threads + Wait + Abort + Sync>(
             ensures { result.gpu ≡ gpu.entry.now }
         { run_late(gpu, other, running, rt) },
     );
-    gpu.join(one, other)
+    one
 }
 
 #[test]

@@ -16,6 +16,3 @@ join-one-requires-send-F g c κs within = crossing g c.type_bounds.sync-R c.cros
 
 pub join-one-requires-send-A : goal.join-one-requires-send-A
 join-one-requires-send-A g c κs within = let p = c.crosses_threads.ensures.pass in search sendable depth 20
-
-pub join-requires : goal.join-requires
-join-requires g c = (c.join-one.ensures.first, c.join-one.ensures.second)
