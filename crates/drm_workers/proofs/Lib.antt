@@ -1,6 +1,9 @@
 pub mod Lists
-pub mod Counts
 pub mod Arming
 pub mod Joining
 pub mod Crosses
 pub mod Hiring
+pub mod Gathering
+pub mod Sharing
+pub mod Described
+pub mod Running

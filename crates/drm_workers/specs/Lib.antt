@@ -1,3 +1,5 @@
 pub mod Armings
 pub mod Works
 pub mod Charges
+pub mod Gathers
+pub mod Faults

@@ -8,7 +8,8 @@ use Rattle.drm_workers.specs.declared.work.Duty.{Duty}
 use Rattle.drm_workers.specs.declared.work.Duty.TheVariants as duty
 use Rattle.drm_workers.specs.declared.work.Worker.{Worker}
 use Rattle.drm_workers.specs.declared.work.Done.{Done}
-use Rattle.drm_workers.specs.Armings.{AreJobsOf, armings}
+use Rattle.drm_report.specs.Armings.{armings}
+use Rattle.drm_report.specs.Jobs.{AreJobsOf}
 
 -- the jobs of a worker
 abbrev pub jobs_of : Duty → List Draft
@@ -35,6 +36,10 @@ pub record Worked (gpu : GpuState) (jobs : List Draft) (done : Done) : Type 0 wh
   pub pass : done.pass.gpu ≡ gpu
   pub armings : armings done.pass.calls ≡ done.armed.items
   pub order : done.is_done ≡ true → AreJobsOf done.pass.last.state.journal done.armed.items jobs
+
+-- a worker tells the numbers that it has armed at this device
+abbrev pub Tells : GpuState → Done → Type 0
+Tells gpu done = (done.pass.gpu ≡ gpu) × (armings done.pass.calls ≡ done.armed.items)
 
 -- each worker is over as it should be
 abbrev pub AllWorked : GpuState → List Worker → List Done → Type 0

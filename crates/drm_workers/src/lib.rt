@@ -1,13 +1,15 @@
 //! The workers that drive a shared device in threads of their own: submitters arm jobs, for each ring one worker picks and
 //! one runs packets and finishes, and a watchdog looks for hangs.
 //!
-//! `hire_all` makes the workers of a run, each with a pass of its own. `run_workers` starts each `Worker` in a thread, and gives back what each has done. It promises (`specs/Works`) that a
-//! submitter tells the numbers that its calls have armed, and that these are the numbers of its jobs, in their order, where
-//! it is done; that no other worker arms anything; and that all passes come back, to be joined. A worker that tries in vain
-//! costs a turn, and one that has none left gives back all that it holds, runs the packet that it has out, and stops. That
-//! workers get on is not promised: they wait for one another.
+//! `run_all` runs a list of jobs on a new device and gives a report (`drm_report`): each job was armed once, has its outcome,
+//! and the buffers are those of the machine that runs the jobs one after another. Below it `hire_all` makes the workers, each
+//! with a pass of its own, `run_workers` runs each `Worker` in a thread (`specs/Works`), and `gather` joins their passes
+//! (`specs/Gathers`). A worker that tries in vain costs a turn, and one that has none left gives back all that it holds, runs
+//! the packet that it has out, and stops. That workers get on is not promised: they wait for one another.
 #![tactic(auto)]
 
+mod drive;
+mod gather;
 mod hire;
 mod rings;
 mod run;
@@ -15,9 +17,10 @@ mod submit;
 mod turns;
 mod work;
 
-use drm_types::Moment;
+pub use drive::run_all;
+use drm_types::{BadSpec, Moment};
 pub use hire::hire_all;
-pub use run::run_workers;
+pub use run::{ThreadError, run_workers};
 use thiserror::Error;
 pub use work::{Done, Duty, Limits, Worker};
 
@@ -46,13 +49,22 @@ pub trait Gate {
     fn open(&self, worker: u32, point: Point) -> bool;
 }
 
-/// Why workers did not run to their ends.
+/// Why a run is not reported, by the first of these that is met.
 #[derive(Clone, Copy, Debug, PartialEq, Eq, Error)]
 pub enum RunFault {
+    /// The description is out of its limits.
+    #[error("the description of the device is out of its limits")]
+    Spec(BadSpec),
     /// Memory was refused.
     #[error("memory was refused")]
     Memory,
     /// A thread could not be started.
     #[error("a thread could not be started")]
     NoThread,
+    /// A worker had no turn left before it was done.
+    #[error("worker {worker} gave up")]
+    GaveUp {
+        /// The least number of such a worker.
+        worker: u32,
+    },
 }

@@ -1,11 +1,12 @@
 //! The workers of the rings, and the watchdog.
 ghost use Rattle.std.specs.Prelude.{◌≡◌, ◌<◌, length};
-ghost use Rattle.drm_workers.specs.Armings.{ArmsNothing};
+ghost use Rattle.drm_workers.specs.Armings.{ArmsNoMore};
 
 use crate::turns::{Turns, passes};
 use crate::{Clock, Gate, Point};
 use crossbeam_utils::Backoff;
 use drm_gpu::{Gpu, Pass, StartError};
+use drm_report::only_armings_arm;
 use drm_sched::Expired;
 use drm_types::RingId;
 use std::sync::Wait;
@@ -36,8 +37,9 @@ fn rest<R: Wait>(
     rt: &R,
 ) -> Next
     requires { pass.old.gpu ≡ gpu.now }
-    ensures { ArmsNothing pass.old pass.new }
+    ensures { ArmsNoMore pass.old pass.new }
 {
+    only_armings_arm();
     let (_, ended) = gpu.counts(pass, rt);
     if ended >= jobs {
         return Next::Done;
@@ -61,8 +63,9 @@ pub(crate) fn schedule<R: Wait, C: Clock>(
 ) -> Tally
     requires pass { pass.old.gpu ≡ gpu.now }
     requires ring { ring < length gpu.now.spec.rings }
-    ensures { ArmsNothing pass.old pass.new }
+    ensures { ArmsNoMore pass.old pass.new }
 {
+    only_armings_arm();
     let backoff = Backoff::new();
     let mut count = 0u32;
     for _ in rt.forever() {
@@ -99,8 +102,9 @@ fn run_packet<R: Wait, G: Gate>(
 ) -> (Pass, bool)
     requires pass { pass.gpu ≡ gpu.now }
     requires ring { ring < length gpu.now.spec.rings }
-    ensures { ArmsNothing pass result.0 }
+    ensures { ArmsNoMore pass result.0 }
 {
+    only_armings_arm();
     match gpu.start(pass, ring, rt) {
         Ok(running) => {
             let _is_open = passes(gate, worker, Point::Packet, turns, rt);
@@ -126,8 +130,9 @@ pub(crate) fn run_ring<R: Wait, C: Clock, G: Gate>(
 ) -> (Pass, Tally)
     requires pass { pass.gpu ≡ gpu.now }
     requires ring { ring < length gpu.now.spec.rings }
-    ensures { ArmsNothing pass result.0 }
+    ensures { ArmsNoMore pass result.0 }
 {
+    only_armings_arm();
     let backoff = Backoff::new();
     let mut pass = pass;
     let mut count = 0u32;
@@ -168,8 +173,9 @@ pub(crate) fn run_ring<R: Wait, C: Clock, G: Gate>(
 fn look<R: Wait, C: Clock>(gpu: &Gpu, pass: &mut Pass, rings: u32, clock: &C, rt: &R) -> u32
     requires pass { pass.old.gpu ≡ gpu.now }
     requires rings { rings ≡ length gpu.now.spec.rings }
-    ensures { ArmsNothing pass.old pass.new }
+    ensures { ArmsNoMore pass.old pass.new }
 {
+    only_armings_arm();
     let mut count = 0u32;
     for ring in 0..rings {
         match gpu.timeout(pass, ring, clock.now(), rt) {
@@ -193,7 +199,7 @@ pub(crate) fn watch<R: Wait, C: Clock>(
 ) -> Tally
     requires pass { pass.old.gpu ≡ gpu.now }
     requires rings { rings ≡ length gpu.now.spec.rings }
-    ensures { ArmsNothing pass.old pass.new }
+    ensures { ArmsNoMore pass.old pass.new }
 {
     let backoff = Backoff::new();
     let mut count = 0u32;

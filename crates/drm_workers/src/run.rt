@@ -5,7 +5,7 @@ ghost use Rattle.drm_workers.specs.Works.{AllWorked, MayWork, Worked, jobs_of};
 ghost use Rattle.drm_workers.specs.Charges.{AreKept};
 
 use crate::work::{Charge, Done, Limits, Worker, work};
-use crate::{Clock, Gate, RunFault};
+use crate::{Clock, Gate};
 use drm_gpu::Gpu;
 use std::alloc::Global;
 use std::snapshot::Snapshot;
@@ -13,6 +13,18 @@ use std::sync::Wait;
 use std::sync::atomic::{AtomicBool, Ordering};
 use std::thread;
 use std::thread::{PromisedHandle, Threads};
+use thiserror::Error;
+
+/// Why workers were not run.
+#[derive(Clone, Copy, Debug, PartialEq, Eq, Error)]
+pub enum ThreadError {
+    /// Memory for the lists was refused.
+    #[error("memory was refused")]
+    Memory,
+    /// A thread could not be started.
+    #[error("a thread could not be started")]
+    NoThread,
+}
 
 type Handle = PromisedHandle<Done, Charge>;
 
@@ -40,7 +52,7 @@ pub fn run_workers<R: Threads + Wait + Sync, C: Clock + Sync, G: Gate + Sync>(
     clock: &C,
     gate: &G,
     rt: &R,
-) -> Result<Vec<Done>, RunFault>
+) -> Result<Vec<Done>, ThreadError>
     requires workers { All (MayWork gpu.now) workers.items }
     requires rings { limits.rings ≡ length gpu.now.spec.rings }
     ensures worked { IfOk result (λ dones. AllWorked gpu.now workers.items dones.items) }
@@ -50,7 +62,7 @@ pub fn run_workers<R: Threads + Wait + Sync, C: Clock + Sync, G: Gate + Sync>(
     thread::scope(
         thread::scope_env(),
         rt,
-        |scope| -> Result<Vec<Done>, RunFault>
+        |scope| -> Result<Vec<Done>, ThreadError>
             requires workers { All (MayWork gpu.now) workers.items }
             requires rings { limits.rings ≡ length gpu.now.spec.rings }
             requires shared { IsSync R.row × IsSync C.row × IsSync G.row }
@@ -58,9 +70,11 @@ pub fn run_workers<R: Threads + Wait + Sync, C: Clock + Sync, G: Gate + Sync>(
         {
             gpu.crosses_threads();
             let mut handles: Vec<Handle> = Vec::with_capacity(alloc, workers.len()).map_err(
-                |_| RunFault::Memory,
+                |_| ThreadError::Memory,
             )?;
-            let mut dones = Vec::with_capacity(alloc, workers.len()).map_err(|_| RunFault::Memory)?;
+            let mut dones = Vec::with_capacity(alloc, workers.len()).map_err(
+                |_| ThreadError::Memory,
+            )?;
             let mut is_short = false;
             for worker in workers {
                 let promise = Charge {
@@ -87,7 +101,7 @@ pub fn run_workers<R: Threads + Wait + Sync, C: Clock + Sync, G: Gate + Sync>(
             }
             join_all(handles, &mut dones, rt);
             if is_short {
-                return Err(RunFault::NoThread);
+                return Err(ThreadError::NoThread);
             }
             Ok(dones)
         },

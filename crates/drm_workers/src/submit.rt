@@ -1,12 +1,15 @@
 //! A submitter: it arms its jobs one after another.
 ghost use Rattle.std.specs.Prelude.{◌≡◌, ◌≤◌, ◌∷◌, [], All, IfOk, IfErr, true, vec_len, vec_capacity};
 ghost use Rattle.drm_job.specs.Fault.{IsJob};
-ghost use Rattle.drm_workers.specs.Armings.{AreJobsOf, HasArmed, JobAt, Submits, armings};
+ghost use Rattle.drm_report.specs.Armings.{armings};
+ghost use Rattle.drm_report.specs.Jobs.{AreJobsOf, JobAt};
+ghost use Rattle.drm_workers.specs.Armings.{HasArmed, Submits};
 
 use crate::turns::{Turns, passes};
 use crate::{Gate, Point};
 use drm_gpu::{Armed, BeginError, Gpu, Locked, Locking, Pass, Planned};
 use drm_job::Job;
+use drm_report::{armed_jobs_stay, only_armings_arm};
 use drm_types::FenceId;
 use std::alloc::Global;
 use std::sync::Wait;
@@ -71,6 +74,7 @@ fn arm<'g, R: Wait>(planned: Planned<'g>, turns: &mut Turns, rt: &R) -> Result<A
     ensures job { IfOk result (λ a. JobAt a.pass.last.state.journal a.fence planned.entry.submission.job) }
     ensures back { IfErr result (λ p. HasArmed [] planned.entry.submission.pass p) }
 {
+    only_armings_arm();
     let mut planned = planned;
     for _ in rt.forever() {
         match planned.arm(rt) {
@@ -137,6 +141,7 @@ pub(crate) fn submit_all<R: Wait, G: Gate>(
     ensures armings { armings result.0.calls ≡ armed.new.items }
     ensures jobs { result.1 ≡ true → AreJobsOf result.0.last.state.journal armed.new.items jobs.items }
 {
+    armed_jobs_stay();
     let mut pass = pass;
     for job in jobs {
         match submit(gpu, alloc, pass, job, worker, gate, turns, rt) {

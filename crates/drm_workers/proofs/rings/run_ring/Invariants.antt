@@ -1,5 +1,5 @@
-use Rattle.drm_workers.specs.Armings.{ArmsNothing}
+use Rattle.drm_workers.specs.Armings.{ArmsNoMore}
 use Rattle.drm_workers.proofs.rings.run_ring.Given as goal
 
 abbrev pub invariant-loop : goal.invariant-loop
-invariant-loop g l = ArmsNothing l.fn.pass l.pass
+invariant-loop g l = ArmsNoMore l.fn.pass l.pass

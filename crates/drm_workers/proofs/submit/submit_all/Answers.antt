@@ -3,7 +3,7 @@ use Rattle.std.proofs.lemmas.List.Elements.{All-rest}
 use Rattle.std.specs.Vec.Iter.{into_iter_items}
 use Rattle.drm_job.specs.Fault.{IsJob}
 use Rattle.drm_gpu.specs.Laws.{reflexive, transitive}
-use Rattle.drm_workers.specs.Armings.{AreJobsOf}
+use Rattle.drm_report.specs.Jobs.{AreJobsOf}
 use Rattle.drm_workers.proofs.Arming.{job_stays}
 use Rattle.drm_workers.proofs.Lists.{none_left, one_more, unit}
 use Rattle.drm_workers.proofs.submit.submit_all.Goals as goal
@@ -18,7 +18,7 @@ loop-job-preserved g c =
       (λ d ns g k. subst (λ xs. AreJobsOf d.state.journal (xs ++ ns) all) (sym c.push_reserved.ensures.items)
           (subst (λ xs. AreJobsOf d.state.journal xs all) (sym (one_more c.loop-job.armed.items fence ns))
           (was.3 d (fence ∷ ns) (transitive c.loop-job.pass.last new.last d h.later g)
-          (subst (λ js. AreJobsOf d.state.journal (fence ∷ ns) js) (sym step.0) (job_stays new.last d fence c.in-Some.job g c.in-Ok.ensures.1, k))))),
+          (subst (λ js. AreJobsOf d.state.journal (fence ∷ ns) js) (sym step.0) (job_stays c.armed_jobs_stay.ensures new.last d fence c.in-Some.job g c.in-Ok.ensures.1, k))))),
       search rules,
     )
 

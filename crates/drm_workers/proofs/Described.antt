@@ -1,0 +1,31 @@
+-- Numbers of a description that is in its limits.
+use Rattle.std.proofs.Common.{◌≡◌, ◌≤◌, ℕ, List, [], ◌∷◌, length, refl, Some, None, Option, slice_get}
+use Rattle.std.specs.Prelude.{nat_le}
+use Rattle.std.proofs.lemmas.Bool.{and_parts, leb-true}
+use Rattle.drm_types.specs.declared.spec.BadSpec.{BadSpec}
+use Rattle.drm_types.specs.declared.spec.DeviceSpec.{DeviceSpec}
+use Rattle.drm_types.specs.Limits.{are_rings, each, is_between, spec_fault, whole}
+use Rattle.drm_types.proofs.Firsts.{none_at, none_when}
+
+abbrev tests_of : DeviceSpec → List (Option BadSpec)
+tests_of spec =
+    whole 0 (is_between 1 64 (length spec.buffers))
+    ∷ each 1 (λ bytes. is_between 1 4096 (length bytes)) spec.buffers
+    ∷ whole 2 (is_between 1 8 (length spec.rings))
+    ∷ each 3 (λ ring. is_between 1 65535 ring.credit_limit) spec.rings
+    ∷ each 4 (λ ring. is_between 1 4294967295 ring.timeout) spec.rings
+    ∷ each 5 (λ ring. is_between 0 1000 ring.hang_limit) spec.rings
+    ∷ whole 6 (is_between 1 64 (length spec.entities))
+    ∷ each 7 (λ entity. are_rings (length spec.rings) entity.rings) spec.entities
+    ∷ whole 8 (is_between 1 65535 spec.max_jobs)
+    ∷ []
+
+few : (spec : DeviceSpec) (part most n : ℕ) → spec_fault spec ≡ None → slice_get (tests_of spec) part ≡ Some (whole part (is_between 1 most n)) → n ≤ most
+few spec part most n none at =
+    leb-true n most (and_parts (nat_le 1 n) (nat_le n most) (none_when (is_between 1 most n) (record { part = part; index = 0 }) (none_at (tests_of spec) part (whole part (is_between 1 most n)) none at))).1
+
+pub few_rings : (spec : DeviceSpec) → spec_fault spec ≡ None → length spec.rings ≤ 8
+few_rings spec none = few spec 2 8 (length spec.rings) none refl
+
+pub few_jobs : (spec : DeviceSpec) → spec_fault spec ≡ None → spec.max_jobs ≤ 65535
+few_jobs spec none = few spec 8 65535 spec.max_jobs none refl

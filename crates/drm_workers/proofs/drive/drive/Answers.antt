@@ -1,0 +1,44 @@
+use Rattle.std.proofs.Common.{rules, ◌≡◌, ◌≤◌, All, true, arith, length, refl, take, ap, ◌∙◌, subst, vec_len}
+use Rattle.drm_job.specs.Fault.{IsJob}
+use Rattle.drm_types.specs.Limits.{spec_fault}
+use Rattle.drm_gpu.specs.Passes.{GpuState}
+use Rattle.drm_workers.specs.declared.work.Done.{Done}
+use Rattle.drm_workers.proofs.Described.{few_rings}
+use Rattle.drm_workers.proofs.Running.{all_tell, as_many, few_workers, has_run}
+use Rattle.drm_workers.proofs.Sharing.{of_shares}
+use Rattle.drm_workers.proofs.drive.drive.Goals as goal
+
+pub hire_all-requires-clause-jobs : goal.hire_all-requires-clause-jobs
+hire_all-requires-clause-jobs g c = of_shares (IsJob c.args.gpu.spec) (λ share. share.items) c.args.submitters c.args.jobs.items c.in-Ok.shares.items c.requires.jobs.0 c.in-Ok.ensures.shares
+
+pub overflow_cast-result : goal.overflow_cast-result
+overflow_cast-result g c =
+    let rings : c.args.limits.rings ≤ 8 = let few = few_rings c.args.gpu.spec c.requires.described in omega (arith, few, c.requires.rings) in
+    let few = few_workers c.args.submitters c.args.limits.rings c.args.gpu c.in-Ok.shares.items c.in-Ok-hire_all.workers.items c.in-Ok-run_workers.dones.items c.in-Ok.ensures.shares.0 c.requires.submitters.1 rings
+    c.in-Ok-hire_all.ensures.jobs c.in-Ok-run_workers.ensures.worked in
+    let seen = ap (λ (ds : _). length {A = Done} ds) c.deref.ensures.value in
+    omega (arith, few, seen, c.in-Some.ensures.within)
+
+pub gather-pass-requires-clause-dones : goal.gather-pass-requires-clause-dones
+gather-pass-requires-clause-dones g c = all_tell c.args.gpu c.in-Ok-hire_all.workers.items c.in-Ok-run_workers.dones.items c.in-Ok-run_workers.ensures.worked
+
+pub gather-pass-requires-clause-room : goal.gather-pass-requires-clause-room
+gather-pass-requires-clause-room g c =
+    let many = as_many c.args.gpu c.in-Ok-hire_all.workers.items c.in-Ok-run_workers.dones.items c.in-Ok-run_workers.ensures.worked in
+    let workers : length c.in-Ok-hire_all.workers.items ≡ vec_len c.in-Ok-hire_all.workers = search rules in
+    let dones : length c.in-Ok-run_workers.dones.items ≡ vec_len c.in-Ok-run_workers.dones = search rules in
+    (c.in-Ok-with_capacity.ensures.items, omega (arith, many, workers, dones, c.len.ensures, c.in-Ok-with_capacity.ensures.exact))
+
+pub tell-requires : goal.tell-requires
+tell-requires g c = record {
+  limits = ap spec_fault (c.in-Ok-close.ensures.closed.spec.1 ∙ ap (λ (it : GpuState). it.spec) c.gather-pass.ensures.gathered.device) ∙ c.requires.described;
+}
+
+pub returns-in-Ok-tell-clause-report : goal.returns-in-Ok-tell-clause-report
+returns-in-Ok-tell-clause-report g c =
+    let jobs : length c.args.jobs.items ≡ vec_len c.args.jobs = search rules in
+    let all = subst (λ ds. All (λ (d : Done). d.is_done ≡ true) ds) c.deref.ensures.value (c.first_that_gave_up.ensures.none c.in_default-first_that_gave_up.is) in
+    c.in-Ok-tell.ensures.report c.args.gpu.spec c.args.jobs.items c.args.submitters (jobs ∙ c.requires.jobs.1)
+    (has_run c.armed_jobs_stay.ensures c.args.gpu.spec c.args.jobs.items c.args.submitters c.args.limits.rings c.args.gpu c.in-Ok.shares.items c.in-Ok-hire_all.workers.items c.in-Ok-run_workers.dones.items
+    c.gather-pass.result c.in-Ok-close.closed _ c.requires.submitters.0 refl c.in-Ok.ensures.shares c.in-Ok-hire_all.ensures.jobs c.in-Ok-run_workers.ensures.worked all c.gather-pass.ensures.gathered
+    (c.truncate.ensures.items ∙ ap (take _) c.gather-pass.ensures.lists) c.in-Ok-close.ensures.closed)
