@@ -1,0 +1,24 @@
+use Rattle.std.proofs.Common.{◌∙◌, subst}
+use Rattle.std.specs.Io.KnownBytes.{Appends}
+use Rattle.drm_report.specs.Reports.{IsReport}
+use Rattle.drm_script.specs.Transfer.{AppendsFront}
+use Rattle.drm_run.proofs.Placed.{told}
+use Rattle.drm_run.proofs.engine.run.Goals as goal
+
+pub journal_text-requires : goal.journal_text-requires
+journal_text-requires g c =
+    let script = c.in-Ok.script in
+    told c.jobs_run_in_their_device.ensures c.serial_keeps_sizes.ensures script.spec script.jobs c.args.submitters c.in-Ok-run_all.report c.in-Ok.ensures.fits c.in-Ok.ensures.runnable.0 c.in-Ok.ensures.runnable.1
+    (subst (λ jobs. IsReport script.spec jobs c.args.submitters c.in-Ok-run_all.report) c.into_vec-jobs.ensures c.in-Ok-run_all.ensures.report)
+
+pub returns-in-Ok-put_all : goal.returns-in-Ok-put_all
+returns-in-Ok-put_all g c =
+    let script = c.in-Ok.script in
+    let report = subst (λ jobs. IsReport script.spec jobs c.args.submitters c.in-Ok-run_all.report) c.into_vec-jobs.ensures c.in-Ok-run_all.ensures.report in
+    (script, c.in-Ok.ensures.value, (c.in-Ok-run_all.report, report, subst (λ bytes. Appends (g.W.Write.contents c.args.writer.now) (g.W.Write.contents c.put_all.new.writer) bytes) (c.deref.ensures.value ∙ c.in-Ok-journal_text.ensures) c.in-Ok-put_all.ensures.ok))
+
+pub returns : goal.returns
+returns g c =
+    let script = c.in-Ok.script in
+    let report = subst (λ jobs. IsReport script.spec jobs c.args.submitters c.in-Ok-run_all.report) c.into_vec-jobs.ensures c.in-Ok-run_all.ensures.report in
+    (script, c.in-Ok.ensures.value, (c.in-Ok-run_all.report, report, subst (λ bytes. AppendsFront (g.W.Write.contents c.args.writer.now) (g.W.Write.contents c.put_all.new.writer) bytes) (c.deref.ensures.value ∙ c.in-Ok-journal_text.ensures) c.in-Err-put_all.ensures.err))

@@ -1,0 +1,44 @@
+-- A run of a script by workers in threads: what is written is the journal of a report of its jobs.
+use Rattle.std.specs.Prelude.{◌≡◌, ℕ, List, None, Option, Ok, Err, IfSome, length, map}
+use Rattle.std.specs.Io.KnownBytes.{Appends, Keeps}
+use Rattle.drm_types.specs.Limits.{spec_fault}
+use Rattle.drm_buffer.specs.Stored.{AreIn}
+use Rattle.drm_gpu.specs.declared.gpu.Closed.{Closed}
+use Rattle.drm_report.specs.declared.report.Report.{Report}
+use Rattle.drm_report.specs.Reports.{IsReport}
+use Rattle.drm_script.specs.declared.run_script.RunScript.{RunScript}
+use Rattle.drm_script.specs.Journal.{JournalParts}
+use Rattle.drm_script.specs.JournalText.{text_of_journal}
+use Rattle.drm_script.specs.Leaving.{AreLeft, journal_told}
+use Rattle.drm_script.specs.Run.{judge_run}
+use Rattle.drm_script.specs.Transfer.{AppendsFront}
+use Rattle.drm_engine.specs.declared.ending.Ending.TheVariants as ending
+use Rattle.drm_run.specs.declared.ending.RunEnding.{RunEnding}
+use Rattle.drm_run.specs.declared.ending.RunEnding.TheVariants.{Ended, GaveUp, NoThread}
+
+-- the journal of what a device has left
+abbrev pub journal_of : Closed → JournalParts
+journal_of closed = journal_told closed.spec closed.records closed.buffers.bytes
+
+-- what a device has left can be told as a journal
+pub record IsTold (closed : Closed) : Type 0 where
+  pub limits : spec_fault closed.spec ≡ None
+  pub left : AreLeft closed.spec closed.records
+  pub sizes : map length closed.buffers.bytes ≡ map length closed.spec.buffers
+  pub inside : AreIn (length closed.spec.buffers) closed.buffers.out
+
+-- a script that the input spells where it is known, and a report of a run of its jobs by n submitters, of whose journal this holds
+abbrev pub Reports : ℕ → Option (List ℕ) → (JournalParts → Type 0) → Type 0
+Reports n input Hold =
+    (script : RunScript) × IfSome input (λ text. judge_run text ≡ Ok script) × ((r : Report) × IsReport script.spec script.jobs n r × Hold (journal_of r.closed))
+
+-- what each ending says of the input and of what the writer holds before and after
+abbrev pub Runs : ℕ → Option (List ℕ) → Option (List ℕ) → Option (List ℕ) → RunEnding → Type 0
+Runs n input old new (Ended ending.Done) = Reports n input (λ journal. Appends old new (text_of_journal journal))
+Runs n input old new (Ended ending.Differs) = ⊥
+Runs n input old new (Ended (ending.Fault fault)) = IfSome input (λ text. judge_run text ≡ Err fault) × Keeps old new
+Runs n input old new (Ended ending.NoInput) = Keeps old new
+Runs n input old new (Ended ending.NoMemory) = Keeps old new
+Runs n input old new (Ended ending.NoOutput) = Reports n input (λ journal. AppendsFront old new (text_of_journal journal))
+Runs n input old new (GaveUp worker) = Keeps old new
+Runs n input old new NoThread = Keeps old new

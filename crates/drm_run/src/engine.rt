@@ -1,0 +1,78 @@
+//! The engine.
+ghost use Rattle.std.specs.Prelude.{◌<◌, ◌≤◌};
+ghost use Rattle.drm_run.specs.Runs.{Runs};
+
+use crate::ending::RunEnding;
+use crate::telling::journal_text;
+use drm_engine::Ending;
+use drm_job::jobs_run_in_their_device;
+use drm_script::{Fault, RunScript, put_all, read_run_from};
+use drm_serial::serial_keeps_sizes;
+use drm_types::Moment;
+use drm_workers::{Clock, Gate, Point, RunFault, run_all};
+use std::alloc::Global;
+use std::io::{Read, Write};
+use std::sync::Wait;
+use std::sync::atomic::{AtomicU64, Ordering};
+use std::thread::Threads;
+
+// A clock that counts its readings, so that a head that goes on hanging comes to its timeout.
+#[derive(Drop)]
+struct Readings {
+    count: AtomicU64,
+}
+
+impl Clock for Readings {
+    fn now(&self) -> Moment {
+        self.count.fetch_add(1, Ordering::SeqCst)
+    }
+}
+
+// A gate that holds nobody up.
+#[derive(Drop)]
+struct Open;
+
+impl Gate for Open {
+    fn open(&self, _worker: u32, _point: Point) -> bool {
+        true
+    }
+}
+
+/// Reads a script to its end, runs its jobs by so many submitters and by the workers of its rings, each with so many turns
+/// to try in vain, and writes the journal of the run. Moments are the readings of a counter.
+pub fn run<H: Threads + Wait + Sync, R: Read, W: Write>(
+    alloc: Global,
+    reader: &mut R,
+    writer: &mut W,
+    submitters: u32,
+    turns: u32,
+    rt: &H,
+) -> RunEnding
+    requires { (0 < submitters) × (submitters ≤ 16) }
+    ensures { Runs submitters (R.remaining reader.old) (W.contents writer.old) (W.contents writer.new) result }
+{
+    jobs_run_in_their_device();
+    serial_keeps_sizes();
+    let RunScript { spec, jobs } = match read_run_from(alloc, reader) {
+        Ok(script) => script,
+        Err(error) => return RunEnding::Ended(Ending::of_input(error)),
+    };
+    let clock = Readings {
+        count: AtomicU64::new(0),
+    };
+    let jobs = jobs.into_vec();
+    let report = match run_all(alloc, spec, jobs, submitters, turns, &clock, &Open, rt) {
+        Ok(report) => report,
+        Err(RunFault::Spec(bad)) => return RunEnding::Ended(Ending::Fault(Fault::Device(bad))),
+        Err(RunFault::Memory) => return RunEnding::Ended(Ending::NoMemory),
+        Err(RunFault::NoThread) => return RunEnding::NoThread,
+        Err(RunFault::GaveUp { worker }) => return RunEnding::GaveUp { worker },
+    };
+    let Ok(text) = journal_text(alloc, report.closed) else {
+        return RunEnding::Ended(Ending::NoMemory);
+    };
+    match put_all(writer, &text) {
+        Ok(()) => RunEnding::Ended(Ending::Done),
+        Err(_) => RunEnding::Ended(Ending::NoOutput),
+    }
+}

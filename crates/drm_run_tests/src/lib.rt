@@ -1,0 +1,37 @@
+//! Tests of the engine `run`, with threads, by public items alone: scripts to journals between the reader and the writer of
+//! `drm_engine_tests`, which take their time and fail. Expected journals are written out, or are checked by the engine `check`.
+#![tactic(auto)]
+
+ghost use Rattle.std.specs.Prelude.{◌<◌, ◌≤◌, Some};
+ghost use Rattle.drm_run.specs.Runs.{Runs};
+
+#[cfg(test)]
+mod runs;
+
+use drm_engine_tests::{SlowReader, SlowWriter};
+use drm_run::{RunEnding, run};
+use std::alloc::Global;
+use std::sync::Wait;
+use std::thread::Threads;
+
+/// Runs the script by so many submitters, whose workers may try so often in vain.
+pub fn run_on<H: Threads + Wait + Sync>(
+    alloc: Global,
+    text: &[u8],
+    submitters: u32,
+    turns: u32,
+    writer: &mut SlowWriter,
+    rt: &H,
+) -> RunEnding
+    requires { (0 < submitters) × (submitters ≤ 16) }
+    ensures { Runs submitters (Some text.now) (Some writer.old.taken.items) (Some writer.new.taken.items) result }
+{
+    run(
+        alloc,
+        &mut SlowReader::new(text, None),
+        writer,
+        submitters,
+        turns,
+        rt,
+    )
+}
