@@ -272,6 +272,19 @@ def read_script(text):
     return count
 
 
+def read_run(text):
+    """Returns the device and the jobs of a script for threads; raises its first fault."""
+    rest = lines(text)
+    device = read_header(rest)
+    jobs = []
+    for line in rest_of(rest):
+        first_word(line, {b"submit"})
+        jobs.append(Job(line))
+        if len(jobs) > device.jobs or jobs[-1].after or not jobs[-1].is_sound(device):
+            raise line.fault(BAD_JOB, 1)
+    return device, jobs
+
+
 def read_journal_job(line, device, number):
     ran, status = line.value(line.word(), LONG), line.word()
     if status not in STATUSES:

@@ -3,6 +3,7 @@ ghost use Rattle.std.specs.Prelude.{◌<◌, ◌≤◌};
 ghost use Rattle.drm_run.specs.Runs.{Runs};
 
 use crate::ending::RunEnding;
+use crate::progress::Progress;
 use crate::telling::journal_text;
 use drm_engine::Ending;
 use drm_job::jobs_run_in_their_device;
@@ -28,24 +29,32 @@ impl Clock for Readings {
     }
 }
 
-// A gate that holds nobody up.
+// A gate that holds nobody up, and passes on how far they are.
 #[derive(Drop)]
-struct Open;
+struct Open<'a, P> {
+    progress: &'a P,
+    jobs: u32,
+}
 
-impl Gate for Open {
+impl<'a, P: Progress> Gate for Open<'a, P> {
     fn open(&self, _worker: u32, _point: Point) -> bool {
         true
+    }
+
+    fn ended(&self, jobs: u32) {
+        self.progress.tell(jobs, self.jobs)
     }
 }
 
 /// Reads a script to its end, runs its jobs by so many submitters and by the workers of its rings, each with so many turns
 /// to try in vain, and writes the journal of the run. Moments are the readings of a counter.
-pub fn run<H: Threads + Wait + Sync, R: Read, W: Write>(
+pub fn run<H: Threads + Wait + Sync, R: Read, W: Write, P: Progress + Sync>(
     alloc: Global,
     reader: &mut R,
     writer: &mut W,
     submitters: u32,
     turns: u32,
+    progress: &P,
     rt: &H,
 ) -> RunEnding
     requires { (0 < submitters) × (submitters ≤ 16) }
@@ -61,7 +70,11 @@ pub fn run<H: Threads + Wait + Sync, R: Read, W: Write>(
         count: AtomicU64::new(0),
     };
     let jobs = jobs.into_vec();
-    let report = match run_all(alloc, spec, jobs, submitters, turns, &clock, &Open, rt) {
+    let gate = Open {
+        progress,
+        jobs: jobs.len() as u32,
+    };
+    let report = match run_all(alloc, spec, jobs, submitters, turns, &clock, &gate, rt) {
         Ok(report) => report,
         Err(RunFault::Spec(bad)) => return RunEnding::Ended(Ending::Fault(Fault::Device(bad))),
         Err(RunFault::Memory) => return RunEnding::Ended(Ending::NoMemory),

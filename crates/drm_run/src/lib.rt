@@ -8,7 +8,9 @@
 
 mod ending;
 mod engine;
+mod progress;
 mod telling;
 
 pub use ending::RunEnding;
 pub use engine::run;
+pub use progress::{Progress, Silent};

@@ -9,7 +9,7 @@ ghost use Rattle.drm_run.specs.Runs.{Runs};
 mod runs;
 
 use drm_engine_tests::{SlowReader, SlowWriter};
-use drm_run::{RunEnding, run};
+use drm_run::{RunEnding, Silent, run};
 use std::alloc::Global;
 use std::sync::Wait;
 use std::thread::Threads;
@@ -32,6 +32,7 @@ pub fn run_on<H: Threads + Wait + Sync>(
         writer,
         submitters,
         turns,
+        &Silent,
         rt,
     )
 }

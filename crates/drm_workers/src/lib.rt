@@ -43,10 +43,13 @@ pub enum Point {
     Packet,
 }
 
-/// What holds workers up.
+/// What holds workers up, and is told how far they are.
 pub trait Gate {
     /// Whether the worker may go on from this point. It asks until this answers true.
     fn open(&self, worker: u32, point: Point) -> bool;
+
+    /// The watchdog tells between its looks how many jobs have ended.
+    fn ended(&self, _jobs: u32) {}
 }
 
 /// Why a run is not reported, by the first of these that is met.

@@ -26,7 +26,30 @@ enum Next {
     GiveUp,
 }
 
-// After so many calls that changed nothing: whether all jobs have ended, and else whether a turn is left.
+// How many jobs have ended.
+fn ended_jobs<R: Wait>(gpu: &Gpu, pass: &mut Pass, rt: &R) -> u32
+    requires { pass.old.gpu ≡ gpu.now }
+    ensures { ArmsNoMore pass.old pass.new }
+{
+    only_armings_arm();
+    let (_, ended) = gpu.counts(pass, rt);
+    ended
+}
+
+// Where so many jobs of all have ended, after so many calls that changed nothing: whether that is all, and else whether a
+// turn is left.
+fn follow(ended: u32, jobs: u32, turns: &mut Turns, vain: u32, backoff: &Backoff) -> Next {
+    if ended >= jobs {
+        return Next::Done;
+    }
+    if !turns.make(vain) {
+        return Next::GiveUp;
+    }
+    backoff.snooze();
+    Next::Again
+}
+
+// What follows so many calls that changed nothing.
 fn rest<R: Wait>(
     gpu: &Gpu,
     pass: &mut Pass,
@@ -39,16 +62,8 @@ fn rest<R: Wait>(
     requires { pass.old.gpu ≡ gpu.now }
     ensures { ArmsNoMore pass.old pass.new }
 {
-    only_armings_arm();
-    let (_, ended) = gpu.counts(pass, rt);
-    if ended >= jobs {
-        return Next::Done;
-    }
-    if !turns.make(vain) {
-        return Next::GiveUp;
-    }
-    backoff.snooze();
-    Next::Again
+    let ended = ended_jobs(gpu, pass, rt);
+    follow(ended, jobs, turns, vain, backoff)
 }
 
 /// Gives the ring its jobs, until all jobs have ended. It counts the picks.
@@ -187,14 +202,15 @@ fn look<R: Wait, C: Clock>(gpu: &Gpu, pass: &mut Pass, rings: u32, clock: &C, rt
     count
 }
 
-/// Looks for hangs, until all jobs have ended. It counts them.
-pub(crate) fn watch<R: Wait, C: Clock>(
+/// Looks for hangs, until all jobs have ended. It counts them, and tells the gate how many jobs have ended.
+pub(crate) fn watch<R: Wait, C: Clock, G: Gate>(
     gpu: &Gpu,
     pass: &mut Pass,
     rings: u32,
     jobs: u32,
     turns: &mut Turns,
     clock: &C,
+    gate: &G,
     rt: &R,
 ) -> Tally
     requires pass { pass.old.gpu ≡ gpu.now }
@@ -210,7 +226,9 @@ pub(crate) fn watch<R: Wait, C: Clock>(
             backoff.reset();
             continue;
         }
-        match rest(gpu, pass, jobs, turns, rings, &backoff, rt) {
+        let ended = ended_jobs(gpu, pass, rt);
+        gate.ended(ended);
+        match follow(ended, jobs, turns, rings, &backoff) {
             Next::Again => {}
             Next::Done => return Tally {
                 count,

@@ -131,7 +131,7 @@ pub(crate) fn work<R: Wait, C: Clock, G: Gate>(
             pass = same;
             tally
         }
-        Duty::Watch => watch(gpu, &mut pass, rings, jobs, &mut turns, clock, rt),
+        Duty::Watch => watch(gpu, &mut pass, rings, jobs, &mut turns, clock, gate, rt),
     };
     Done {
         pass,

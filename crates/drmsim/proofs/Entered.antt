@@ -21,10 +21,10 @@ use Rattle.drm_engine.specs.Engines.{word_of}
 use Rattle.drm_engine.specs.declared.engine.Engine.{Engine}
 use Rattle.drm_engine.specs.declared.engine.Engine.TheVariants as engine
 use Rattle.std.proofs.lemmas.Option.{same_Some}
-use Rattle.clap.specs.Walk.{first_of, rows_of}
-use Rattle.clap.specs.Matches.{first_value, found_of}
-use Rattle.clap.proofs.WalkLemmas.{first_value-rows}
-use Rattle.drmsim.specs.CommandLine.{number_entered, program_app, word_entered}
+use Rattle.clap.specs.Walk.{first_of, one_of, rows_of}
+use Rattle.clap.specs.Matches.{first_value, found_of, one_text}
+use Rattle.clap.proofs.WalkLemmas.{first_value-rows, one_text-rows}
+use Rattle.drmsim.specs.CommandLine.{number_entered, option_entered, program_app, word_entered}
 
 -- where the walk over the words has not stopped at `help`
 abbrev StopsElsewhere : Option (Text × List Text) → Type 0
@@ -34,11 +34,12 @@ abbrev EntersElsewhere : Step → Type 0
 EntersElsewhere (subcommand name) = name ≢ codes "help"
 EntersElsewhere _ = ⊤
 
-first_is_none : (a b : Kinds) → or_else a b ≡ [] → a ≡ []
+-- the first of two steps that do not fail does not fail, nor does the second
+pub first_is_none : (a b : Kinds) → or_else a b ≡ [] → a ≡ []
 first_is_none [] b is = refl
 first_is_none (k ∷ ks) b is = absurd (cc)
 
-second_is_none : (a b : Kinds) → or_else a b ≡ [] → b ≡ []
+pub second_is_none : (a b : Kinds) → or_else a b ≡ [] → b ≡ []
 second_is_none [] b is = is
 second_is_none (k ∷ ks) b is = absurd (cc)
 
@@ -118,21 +119,23 @@ wants_command true wants_help wants_argument passed = refl
 wants_command false true wants_argument passed = absurd (cc)
 wants_command false false wants_argument passed = absurd (cc)
 
--- what was entered is the command of an engine, or that which explains
+-- what was entered is the command of an engine, or that which runs a script in threads, or that which explains
 abbrev Named : {X : Type 0} → (X → Text) → Option X → Type 0
-Named name entered = ((engine : Engine) × (option_map name entered ≡ Some (word_of engine))) ⊎ (option_map name entered ≡ Some (codes "explain"))
+Named name entered =
+    ((engine : Engine) × (option_map name entered ≡ Some (word_of engine))) ⊎ ((option_map name entered ≡ Some (codes "run")) ⊎ (option_map name entered ≡ Some (codes "explain")))
 
--- what was entered is one of the first four of five
-first_four : {X Y : Type 0} (enter : X → Y) (name : Y → Text) (a b c e d : X) (is_a is_b is_c is_e is_d : Bool)
-    → name (enter a) ≡ word_of engine.Replay → name (enter b) ≡ word_of engine.Serial → name (enter c) ≡ word_of engine.Check → name (enter e) ≡ codes "explain" → is_d ≡ false
-    → is_some (option_map enter (cond (is_a || false) (Some a) (cond (is_b || false) (Some b) (cond (is_c || false) (Some c) (cond (is_e || false) (Some e) (cond (is_d || false) (Some d) None)))))) ≡ true
-    → Named name (option_map enter (cond (is_a || false) (Some a) (cond (is_b || false) (Some b) (cond (is_c || false) (Some c) (cond (is_e || false) (Some e) (cond (is_d || false) (Some d) None))))))
-first_four enter name a b c e d true is_b is_c is_e is_d x y z v other some = inl (engine.Replay, ap Some x)
-first_four enter name a b c e d false true is_c is_e is_d x y z v other some = inl (engine.Serial, ap Some y)
-first_four enter name a b c e d false false true is_e is_d x y z v other some = inl (engine.Check, ap Some z)
-first_four enter name a b c e d false false false true is_d x y z v other some = inr (ap Some v)
-first_four enter name a b c e d false false false false true x y z v other some = absurd (cc)
-first_four enter name a b c e d false false false false false x y z v other some = absurd (cc)
+-- what was entered is one of the first five of six
+first_five : {X Y : Type 0} (enter : X → Y) (name : Y → Text) (a b c r e d : X) (is_a is_b is_c is_r is_e is_d : Bool)
+    → name (enter a) ≡ word_of engine.Replay → name (enter b) ≡ word_of engine.Serial → name (enter c) ≡ word_of engine.Check → name (enter r) ≡ codes "run" → name (enter e) ≡ codes "explain" → is_d ≡ false
+    → is_some (option_map enter (cond (is_a || false) (Some a) (cond (is_b || false) (Some b) (cond (is_c || false) (Some c) (cond (is_r || false) (Some r) (cond (is_e || false) (Some e) (cond (is_d || false) (Some d) None))))))) ≡ true
+    → Named name (option_map enter (cond (is_a || false) (Some a) (cond (is_b || false) (Some b) (cond (is_c || false) (Some c) (cond (is_r || false) (Some r) (cond (is_e || false) (Some e) (cond (is_d || false) (Some d) None)))))))
+first_five enter name a b c r e d true is_b is_c is_r is_e is_d x y z u v other some = inl (engine.Replay, ap Some x)
+first_five enter name a b c r e d false true is_c is_r is_e is_d x y z u v other some = inl (engine.Serial, ap Some y)
+first_five enter name a b c r e d false false true is_r is_e is_d x y z u v other some = inl (engine.Check, ap Some z)
+first_five enter name a b c r e d false false false true is_e is_d x y z u v other some = inr (inl (ap Some u))
+first_five enter name a b c r e d false false false false true is_d x y z u v other some = inr (inr (ap Some v))
+first_five enter name a b c r e d false false false false false true x y z u v other some = absurd (cc)
+first_five enter name a b c r e d false false false false false false x y z u v other some = absurd (cc)
 
 is_false : (b : Bool) → (b ≡ true → ⊥) → b ≡ false
 is_false true never = absurd (never refl)
@@ -146,8 +149,8 @@ entered_named : (stop : Option (Text × List Text)) → StopsElsewhere stop → 
 entered_named None elsewhere some = absurd (cc)
 entered_named (Some stop) elsewhere some =
     let other : bytes_eq (codes "help") stop.0 ≡ false = not_equal _ _ (λ same. elsewhere (sym same)) in
-    first_four (λ s. rows_at s stop.1) (λ p. p.0) _ _ _ _ _ (bytes_eq (codes "replay") stop.0) (bytes_eq (codes "serial") stop.0) (bytes_eq (codes "check") stop.0) (bytes_eq (codes "explain") stop.0)
-    (bytes_eq (codes "help") stop.0) refl refl refl refl other some
+    first_five (λ s. rows_at s stop.1) (λ p. p.0) _ _ _ _ _ _ (bytes_eq (codes "replay") stop.0) (bytes_eq (codes "serial") stop.0) (bytes_eq (codes "check") stop.0) (bytes_eq (codes "run") stop.0)
+    (bytes_eq (codes "explain") stop.0) (bytes_eq (codes "help") stop.0) refl refl refl refl refl other some
 
 -- one level that clap refuses nowhere was walked to its end and has met the command that it wants
 level_passed : (s : Shape) (names : Names) (h : Held) (words : List Text) (has : Bool) (below : Kinds) → s.subcommand_required ≡ true
@@ -181,10 +184,10 @@ module _ {Z : Type 0} where
   same_name None rows name is found = absurd (cc)
   same_name (Some b) rows name is found = ap (option_map (λ p. p.0)) (sym is) ∙ sym found
 
-number_at : (entered : Option (Text × List Row)) (rows : List Row) → option_map (λ p. p.1) entered ≡ Some rows
-    → option_and_then (λ p. first_of (codes "number") p.1) entered ≡ first_of (codes "number") rows
-number_at None rows is = absurd (cc)
-number_at (Some p) rows is = ap (first_of (codes "number")) (same_Some _ _ is)
+read_at : (read : List Row → Option Text) (entered : Option (Text × List Row)) (rows : List Row) → option_map (λ p. p.1) entered ≡ Some rows
+    → option_and_then (λ p. read p.1) entered ≡ read rows
+read_at read None rows is = absurd (cc)
+read_at read (Some p) rows is = ap read (same_Some _ _ is)
 
 -- the command that a parse found is the one that the words name
 pub word_found : (a : App) (words : List Text) (m : ArgMatches) (name : Text) → a ≡ program_app → HasMatchesOf a words m
@@ -193,12 +196,22 @@ word_found a words m name is matches found =
     let rows = (matches (ap is_simple is ∙ refl)).1 in
     same_name (out-ArgMatches m).subcommand (subcommand_of program_app words) name (rows ∙ ap (λ (b : App). subcommand_of b words) is) found
 
--- the rows of a command that was entered are those that clap finds, and so is the first value of its argument
+-- the rows of a command that was entered are those that clap finds
+rows_found : (read : List Row → Option Text) (a : App) (words : List Text) (m own : ArgMatches) → a ≡ program_app → HasMatchesOf a words m
+    → option_map (λ p. p.1) (subcommand_rows (out-ArgMatches m).subcommand) ≡ Some (rows_of (found_of own)) → option_and_then (λ p. read p.1) (subcommand_of program_app words) ≡ read (rows_of (found_of own))
+rows_found read a words m own is matches rows =
+    let found = (matches (ap is_simple is ∙ refl)).1 ∙ ap (λ (b : App). subcommand_of b words) is in
+    read_at read (subcommand_of program_app words) (rows_of (found_of own)) (sym (ap (option_map (λ p. p.1)) found) ∙ rows)
+
+-- so is the first value of its argument
 pub number_found : (a : App) (words : List Text) (m own : ArgMatches) → a ≡ program_app → HasMatchesOf a words m
     → option_map (λ p. p.1) (subcommand_rows (out-ArgMatches m).subcommand) ≡ Some (rows_of (found_of own)) → number_entered words ≡ first_value (found_of own) (codes "number")
-number_found a words m own is matches rows =
-    let found = (matches (ap is_simple is ∙ refl)).1 ∙ ap (λ (b : App). subcommand_of b words) is in
-    number_at (subcommand_of program_app words) (rows_of (found_of own)) (sym (ap (option_map (λ p. p.1)) found) ∙ rows) ∙ sym (first_value-rows (found_of own) (codes "number"))
+number_found a words m own is matches rows = rows_found (first_of (codes "number")) a words m own is matches rows ∙ sym (first_value-rows (found_of own) (codes "number"))
+
+-- and the text of an option
+pub option_found : (name : Text) (a : App) (words : List Text) (m own : ArgMatches) → a ≡ program_app → HasMatchesOf a words m
+    → option_map (λ p. p.1) (subcommand_rows (out-ArgMatches m).subcommand) ≡ Some (rows_of (found_of own)) → option_entered name words ≡ one_text (found_of own) name
+option_found name a words m own is matches rows = rows_found (one_of name) a words m own is matches rows ∙ sym (one_text-rows (found_of own) name)
 
 -- a parse that succeeds has no fault
 pub none_refused : (a : App) (words : List Text) → a ≡ program_app → (is_simple_and_free a ≡ true → fault_of a words ≡ []) → fault_of program_app words ≡ []

@@ -1,3 +1,6 @@
+pub mod Commands
 pub mod Entered
-pub mod Taken
+pub mod Numbers
+pub mod Options
 pub mod Statuses
+pub mod Taken

@@ -50,6 +50,12 @@ not_explain engine.Replay same = absurd (true≢false (ap (λ (t : Text). slice_
 not_explain engine.Serial same = absurd (true≢false (ap (λ (t : Text). slice_index t 0 == 115) same))
 not_explain engine.Check same = absurd (true≢false (ap (λ (t : Text). slice_index t 0 == 99) same))
 
+-- nor that of the command that runs a script in threads
+pub not_run : (engine : Engine) → word_of engine ≡ codes "run" → ⊥
+not_run engine.Replay same = absurd (true≢false (ap (λ (t : Text). slice_index t 2 == 112) same))
+not_run engine.Serial same = absurd (true≢false (ap (λ (t : Text). slice_index t 0 == 115) same))
+not_run engine.Check same = absurd (true≢false (ap (λ (t : Text). slice_index t 0 == 99) same))
+
 -- what is none is not there
 pub none_is_not : {X : Type 0} (o : Option X) → o ≡ None → is_some o ≡ true → ⊥
 none_is_not None is some = absurd (true≢false (sym some))

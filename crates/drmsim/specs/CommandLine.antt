@@ -1,12 +1,14 @@
 -- The words of the command line.
-use Rattle.std.specs.Prelude.{◌≡◌, List, [], ◌∷◌, Option, Some, Result, MatchResult, codes, option_and_then, option_map, true}
-use Rattle.clap.specs.Words.{App, Text, first_of, new_app, new_rule, subcommand_of, with_rule, with_subcommand, kind_of}
+use Rattle.std.specs.Prelude.{◌≡◌, ◌<◌, ◌≤◌, ℕ, List, [], ◌∷◌, Option, Some, Result, MatchResult, codes, option_and_then, option_map, true}
+use Rattle.std.specs.Str.Parse.{digits_value, without_leading_plus}
+use Rattle.clap.specs.Words.{App, Rule, Text, first_of, new_app, new_rule, one_of, subcommand_of, with_rule, with_subcommand, kind_of}
+use Rattle.clap.specs.declared.builder.value_parser.ValueParser.TheVariants as vp
 use Rattle.clap.specs.declared.error.Error.{Error}
 use Rattle.clap.specs.declared.error.kind.ErrorKind.TheVariants.{OutOfMemory}
 use Rattle.drm_engine.specs.Engines.{word_of}
 use Rattle.drm_engine.specs.declared.engine.Engine.{Engine}
 use Rattle.drmsim.specs.declared.command_line.Request.{Request}
-use Rattle.drmsim.specs.declared.command_line.Request.TheVariants.{Run, Explain}
+use Rattle.drmsim.specs.declared.command_line.Request.TheVariants.{Run, Work, Explain}
 
 -- the program without its commands, as clap reads it
 abbrev pub top_app : App
@@ -19,9 +21,29 @@ top_app = record {
 abbrev pub explain_app : App
 explain_app = with_rule (new_app (codes "explain")) (record (new_rule (codes "number")) { value_names = 1 })
 
+-- an option that has to be there, a whole number from 1 to the most
+abbrev pub number_rule : Text → ℕ → Rule
+number_rule name most = record (new_rule name) {
+  long = Some name;
+  value_names = 1;
+  parser = Some (vp.Unsigned 1 most);
+  required = true;
+}
+
+-- the most submitters, and the most turns of a worker
+abbrev pub most_submitters : ℕ
+most_submitters = 16
+
+abbrev pub most_turns : ℕ
+most_turns = 1000000000
+
+-- the command that runs a script by workers in threads
+abbrev pub run_app : App
+run_app = with_rule (with_rule (new_app (codes "run")) (number_rule (codes "threads") most_submitters)) (number_rule (codes "turns") most_turns)
+
 -- the program with its commands
 abbrev pub program_app : App
-program_app = with_subcommand (with_subcommand (with_subcommand (with_subcommand top_app (new_app (codes "replay")).top) (new_app (codes "serial")).top) (new_app (codes "check")).top) explain_app.top
+program_app = with_subcommand (with_subcommand (with_subcommand (with_subcommand (with_subcommand top_app (new_app (codes "replay")).top) (new_app (codes "serial")).top) (new_app (codes "check")).top) run_app.top) explain_app.top
 
 -- the name of the command that clap finds in the words
 abbrev pub word_entered : List Text → Option Text
@@ -31,9 +53,21 @@ word_entered words = option_map (λ p. p.0) (subcommand_of program_app words)
 abbrev pub number_entered : List Text → Option Text
 number_entered words = option_and_then (λ p. first_of (codes "number") p.1) (subcommand_of program_app words)
 
--- clap finds in the words what is asked for: the command of the engine, or that which explains, and the word behind it
+-- the text of an option of the command that clap finds
+abbrev pub option_entered : Text → List Text → Option Text
+option_entered name words = option_and_then (λ p. one_of name p.1) (subcommand_of program_app words)
+
+-- the option of this name is the number n, which is from 1 to the most
+abbrev pub IsNumber : Text → ℕ → List Text → ℕ → Type 0
+IsNumber name most words n =
+    ((text : Text) × (option_entered name words ≡ Some text) × (digits_value 10 (without_leading_plus text) ≡ n)) × ((0 < n) × (n ≤ most))
+
+-- clap finds in the words what is asked for: the command of the engine, that which runs a script by workers, with both its
+-- numbers, or that which explains, and the word behind it
 abbrev pub IsAsked : List Text → Request → Type 0
 IsAsked words (Run engine) = word_entered words ≡ Some (word_of engine)
+IsAsked words (Work submitters turns) =
+    (word_entered words ≡ Some (codes "run")) × (IsNumber (codes "threads") most_submitters words submitters × IsNumber (codes "turns") most_turns words turns)
 IsAsked words (Explain word) = (word_entered words ≡ Some (codes "explain")) × (number_entered words ≡ option_map (λ w. w.now) word)
 
 -- the words are the program's name and the word of the engine

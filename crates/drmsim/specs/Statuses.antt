@@ -10,11 +10,19 @@ use Rattle.drm_engine.specs.Engines.{Runs, word_of}
 use Rattle.drm_explain.specs.Telling.{Tells}
 use Rattle.drm_explain.specs.declared.telling.Telling.{Telling}
 use Rattle.drm_explain.specs.declared.telling.Telling.TheVariants as telling
-use Rattle.drmsim.specs.CommandLine.{number_entered, word_entered}
+use Rattle.drm_run.specs.Endings as run_ending
+use Rattle.drm_run.specs.Runs as run
+use Rattle.drm_run.specs.declared.ending.RunEnding.{RunEnding}
+use Rattle.drmsim.specs.CommandLine.{IsAsked, number_entered, word_entered}
+use Rattle.drmsim.specs.declared.command_line.Request.TheVariants.{Work}
 
 -- the engine ran to an ending, of which this is the exit status
 abbrev pub EndsAs : Engine → Option (List ℕ) → Option (List ℕ) → Option (List ℕ) → ℕ → Type 0
 EndsAs engine input old new status = (ending : Ending) × Runs engine input old new ending × (status ≡ status_of ending)
+
+-- a script was run by so many submitters and by the workers of its rings, which ended as this exit status tells
+abbrev pub WorksAs : ℕ → Option (List ℕ) → Option (List ℕ) → Option (List ℕ) → ℕ → Type 0
+WorksAs submitters input old new status = (ending : RunEnding) × run.Runs submitters input old new ending × (status ≡ run_ending.status_of ending)
 
 -- the exit status after an explanation: a number that is none is a fault of the command line
 abbrev pub status_of_telling : Telling → ℕ
@@ -31,13 +39,18 @@ ToldAs word old new status = (how : Telling) × Tells word old new how × (statu
 abbrev pub IsRun : List Text → Option (List ℕ) → Option (List ℕ) → Option (List ℕ) → ℕ → Type 0
 IsRun words input old new status = (engine : Engine) × (word_entered words ≡ Some (word_of engine)) × EndsAs engine input old new status
 
+-- the words ask for a run by so many submitters, each worker of which may try so often in vain, and it ended so
+abbrev pub IsWorked : List Text → Option (List ℕ) → Option (List ℕ) → Option (List ℕ) → ℕ → Type 0
+IsWorked words input old new status = (submitters turns : ℕ) × IsAsked words (Work submitters turns) × WorksAs submitters input old new status
+
 -- the words name the command that explains, which ended so
 abbrev pub IsExplained : List Text → Option (List ℕ) → Option (List ℕ) → ℕ → Type 0
 IsExplained words old new status = (word_entered words ≡ Some (codes "explain")) × ToldAs (number_entered words) old new status
 
 -- the words name a command, which ended as this exit status tells
 abbrev pub IsObeyed : List Text → Option (List ℕ) → Option (List ℕ) → Option (List ℕ) → ℕ → Type 0
-IsObeyed words input old new status = IsRun words input old new status ⊎ IsExplained words old new status
+IsObeyed words input old new status =
+    IsRun words input old new status ⊎ (IsWorked words input old new status ⊎ IsExplained words old new status)
 
 -- the exit status after an error of the words, which was printed or could not be: help and the version are asked for
 abbrev pub status_of_error : ErrorKind → Bool → ℕ

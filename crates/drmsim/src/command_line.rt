@@ -2,17 +2,24 @@
 
 ghost use Rattle.std.specs.Prelude.{◌≡◌, IfOk, false, map};
 ghost use Rattle.std.specs.String.{string_bytes};
-ghost use Rattle.clap.specs.Words.{FailsBy, app_of, fault_of, new_app};
+ghost use Rattle.clap.specs.Words.{FailsBy, app_of, fault_of, new_app, rule_of};
 ghost use Rattle.clap.specs.declared.builder.command.Command.TheViews.{out-Command};
 ghost use Rattle.drm_engine.specs.declared.engine.Engine.{Engine as EngineOf};
-ghost use Rattle.drmsim.specs.CommandLine.{GivesAlone, IsAsked, IsCommandLineOf, explain_app, program_app, top_app};
+ghost use Rattle.drmsim.specs.CommandLine.{GivesAlone, IsAsked, IsCommandLineOf, explain_app, number_rule, program_app, run_app, top_app};
 
+use clap::builder::ValueParser;
 use clap::{Arg, Command, Error};
 use drm_engine::Engine;
 use std::alloc::{AllocError, Global};
 
 /// The version of the program, and the toolchain that it is proved with, as `rt version` tells it.
 const VERSION: &str = "0.1.0 (rattle-kit-13b logic dac8208d650f15bf)";
+
+/// The most submitters.
+const MOST_SUBMITTERS: u64 = 16;
+
+/// The most turns of a worker.
+const MOST_TURNS: u64 = 1_000_000_000;
 
 const REPLAY_HELP: &str = "\
 Reads a script from standard input: a header that describes the device, and one command on each further line. \
@@ -42,6 +49,18 @@ Example:
 | drmsim check
 writes 'differs at buffer 0 byte 1'.";
 
+const RUN_HELP: &str = "\
+Reads a script from standard input whose commands are all 'submit', and runs its jobs on a device that threads share: as \
+many submitters as '--threads' says arm them in turn, two workers for each ring pick, run and finish them, and a watchdog \
+looks for hangs. Writes the journal of the run, which 'check' compares with the jobs run one after another. Which order \
+the jobs get differs from run to run. A worker that tries in vain as often as '--turns' says gives up, and then nothing is \
+written.
+
+Example:
+  printf 'buffer 0000\\nring 4 10 0\\nentity 0 normal\\njobs 8\\ngo\\nsubmit 0 1 w0 fill:0:0:2:09\\n' \
+| drmsim run --threads 2 --turns 1000000 | drmsim check
+writes 'same'.";
+
 const EXPLAIN_HELP: &str = "\
 Writes what the number of a refusal or of a fault means: how one gets there, what to do, and the kernel's error or call \
 that it stands for. Without a number it writes one line for each. It reads nothing.
@@ -54,15 +73,16 @@ const STATUS_HELP: &str = "\
 Examples:
   drmsim replay < examples/first_fill.script
   drmsim check < examples/journals/pipeline_same.journal
+  drmsim run --threads 4 --turns 1000000 < examples/threads/two_rings.script
 
 Exit status:
   0  all was done; of 'check', all bytes are the same
-  1  of 'check', a byte differs
+  1  of 'check', a byte differs; of 'run', a worker gave up or a thread could not be started
   2  the command line, the text or its device is refused, and standard error says where
   3  memory was refused
   4  a read or a write failed
 
-With status 2 or 3 nothing was written. docs/FORMATS.md is the manual of scripts, answers and journals.";
+With status 2 or 3, and of 'run' with status 1, nothing was written. docs/FORMATS.md is the manual of scripts, answers and journals.";
 
 /// A command that runs an engine.
 fn command<'a>(alloc: Global, name: &'a str, about: &'a str, help: &'a str) -> Command<'a>
@@ -87,6 +107,48 @@ fn explain_command<'a>(alloc: Global) -> Result<Command<'a>, AllocError>
         EXPLAIN_HELP,
     )
     .arg(number)
+}
+
+/// An option that has to be there: a whole number from 1 to the most.
+fn number<'a>(alloc: Global, name: &'a str, value: &'a str, most: u64, help: &'a str) -> Arg<'a>
+    ensures rule { rule_of result ≡ number_rule name.entry.now most }
+    ensures local { result.global ≡ false }
+{
+    Arg::new(alloc, name)
+        .long(name)
+        .value_name(value)
+        .required(true)
+        .value_parser(ValueParser::unsigned(1, most))
+        .help(help)
+}
+
+/// The command that runs a script by workers in threads.
+fn run_command<'a>(alloc: Global) -> Result<Command<'a>, AllocError>
+    ensures app { IfOk result (λ command. app_of command ≡ run_app) }
+    ensures local { IfOk result (λ command. (out-Command command).has_globals ≡ false) }
+{
+    let threads = number(
+        alloc,
+        "threads",
+        "N",
+        MOST_SUBMITTERS,
+        "How many submitters arm the jobs, 1 to 16",
+    );
+    let turns = number(
+        alloc,
+        "turns",
+        "M",
+        MOST_TURNS,
+        "How often a worker may try in vain, 1 to 1000000000",
+    );
+    command(
+        alloc,
+        "run",
+        "Runs the jobs of a script by workers in threads and writes the journal",
+        RUN_HELP,
+    )
+    .arg(threads)?
+    .arg(turns)
 }
 
 /// The program without its commands.
@@ -125,11 +187,13 @@ fn program<'a>(alloc: Global) -> Result<Command<'a>, AllocError>
         "Compares these buffers with the last bytes that the journal tells",
         CHECK_HELP,
     );
+    let run = run_command(alloc)?;
     let explain = explain_command(alloc)?;
     bare_program(alloc)
         .subcommand(replay)?
         .subcommand(serial)?
         .subcommand(check)?
+        .subcommand(run)?
         .subcommand(explain)
 }
 
@@ -138,6 +202,13 @@ fn program<'a>(alloc: Global) -> Result<Command<'a>, AllocError>
 pub enum Request<'a> {
     /// To run an engine.
     Run(Engine),
+    /// To run a script by workers in threads.
+    Work {
+        /// How many submitters arm its jobs.
+        submitters: u32,
+        /// How often a worker may try in vain.
+        turns: u32,
+    },
     /// To explain the number that a word spells, or to list all numbers where there is no word.
     Explain(Option<&'a str>),
 }
@@ -152,6 +223,12 @@ pub fn read_words<'a>(alloc: Global, words: &'a [String]) -> Result<Request<'a>,
     let matches = program(alloc)?.try_get_matches_from(words)?;
     if let Some(explain) = matches.subcommand_matches("explain") {
         return Ok(Request::Explain(explain.get_str("number")));
+    }
+    if let Some(run) = matches.subcommand_matches("run") {
+        return match (run.get_one("threads"), run.get_one("turns")) {
+            (Some(submitters), Some(turns)) => Ok(Request::Work { submitters, turns }),
+            _ => unreachable!(),
+        };
     }
     match matches.subcommand_name() {
         Some(name) => match Engine::of_word(name) {

@@ -1,23 +1,25 @@
 //! drmsim: the scheduler of a simulated GPU, driven by texts.
 //!
-//! Each command runs an engine of `drm_engine` from standard input to standard output. This program only reads the
-//! command line (`command_line`), runs the engine that it names, and tells how the engine ended: by the exit status,
+//! Each command runs an engine of `drm_engine` from standard input to standard output, or that of `drm_run`, whose workers run
+//! in threads. This program only reads the command line (`command_line`), runs the engine that it names, and tells how the engine ended: by the exit status,
 //! and by a line on standard error unless standard output has told it. `obey` does all that between any reader and any
 //! writer, and its clauses are what the program promises.
 #![tactic(auto)]
 
-ghost use Rattle.std.specs.Prelude.{◌≡◌, ◌≢◌, [], Bool, map, option_map};
+ghost use Rattle.std.specs.Prelude.{◌<◌, ◌≡◌, ◌≢◌, ◌≤◌, [], Bool, map, option_map};
 ghost use Rattle.std.specs.Io.KnownBytes.{Keeps};
 ghost use Rattle.std.specs.IoError.{error_kind};
 ghost use Rattle.std.specs.Process.{exit_status};
 ghost use Rattle.std.specs.String.{string_bytes};
 ghost use Rattle.clap.specs.Words.{fault_of, kind_of};
 ghost use Rattle.drm_engine.specs.Endings.{status_of};
+ghost use Rattle.drm_run.specs.Endings.{status_of as status_of_run};
 ghost use Rattle.drm_engine.specs.declared.engine.Engine.{Engine as EngineOf};
 ghost use Rattle.drmsim.specs.CommandLine.{IsCommandLineOf, program_app};
-ghost use Rattle.drmsim.specs.Statuses.{EndsAs, IsObeyed, IsRefusal, ToldAs, status_of_error, status_of_telling};
+ghost use Rattle.drmsim.specs.Statuses.{EndsAs, IsObeyed, IsRefusal, ToldAs, WorksAs, status_of_error, status_of_telling};
 
 mod command_line;
+mod progress;
 #[cfg(test)]
 mod tests;
 
@@ -25,9 +27,13 @@ use clap::error::ErrorKind as WordsError;
 use command_line::{Request, read_words};
 use drm_engine::Ending;
 use drm_explain::{Telling, tell_word};
+use drm_run::{RunEnding, run};
+use progress::ProgressLine;
 use std::env;
 use std::io::{self, ErrorKind, Read, Write};
 use std::process::ExitCode;
+use std::sync::Wait;
+use std::thread::Threads;
 
 /// The exit status where a number is asked for that is none: the command line is refused.
 const UNKNOWN_NUMBER: u8 = 2;
@@ -38,13 +44,20 @@ fn words(rt: &HostRuntime) -> io::Result<Vec<String>> {
 }
 
 /// Tells the ending on standard error, unless standard output has; nothing is left to do where that can't be written.
-fn tell(rt: &HostRuntime, ending: &Ending) -> ExitCode
-    ensures { exit_status result ≡ status_of ending.now }
+fn tell(rt: &HostRuntime, ending: &RunEnding) -> ExitCode
+    ensures { exit_status result ≡ status_of_run ending.now }
 {
     if !ending.is_told() {
         eprintln!(rt; "{ending}").ok();
     }
     ExitCode::from(ending.status())
+}
+
+/// Tells the ending of what needs no threads.
+fn tell_ended(rt: &HostRuntime, ending: Ending) -> ExitCode
+    ensures { exit_status result ≡ status_of ending }
+{
+    tell(rt, &RunEnding::Ended(ending))
 }
 
 /// Tells that the words of the command line could not be had.
@@ -53,7 +66,7 @@ fn tell_unread(rt: &HostRuntime, error: &io::Error) -> ExitCode
     ensures other { error_kind error.now ≢ ErrorKind.OutOfMemory → exit_status result ≡ 2 }
 {
     if error.kind() == ErrorKind::OutOfMemory {
-        return tell(rt, &Ending::NoMemory);
+        return tell_ended(rt, Ending::NoMemory);
     }
     eprintln!(rt; "the command line: {error}").ok();
     ExitCode::from(2)
@@ -64,11 +77,11 @@ fn explain(rt: &HostRuntime, error: &clap::Error) -> ExitCode
     ensures { (is_printed : Bool) × (exit_status result ≡ status_of_error (kind_of error.now) is_printed) }
 {
     if error.kind() == WordsError::OutOfMemory {
-        return tell(rt, &Ending::NoMemory);
+        return tell_ended(rt, Ending::NoMemory);
     }
     let printed = error.print(rt);
     if printed.is_err() && !error.use_stderr() {
-        return tell(rt, &Ending::NoOutput);
+        return tell_ended(rt, Ending::NoOutput);
     }
     ExitCode::from(error.exit_code() as u8)
 }
@@ -78,9 +91,9 @@ fn tell_telling(rt: &HostRuntime, how: Telling, word: &str) -> ExitCode
     ensures { exit_status result ≡ status_of_telling how }
 {
     match how {
-        Telling::Told => tell(rt, &Ending::Done),
-        Telling::NoMemory => tell(rt, &Ending::NoMemory),
-        Telling::NoOutput => tell(rt, &Ending::NoOutput),
+        Telling::Told => tell_ended(rt, Ending::Done),
+        Telling::NoMemory => tell_ended(rt, Ending::NoMemory),
+        Telling::NoOutput => tell_ended(rt, Ending::NoOutput),
         Telling::Unknown => {
             eprintln!(rt;
                 "error: invalid value '{word}' for '[NUMBER]': no refusal and no fault has this number\n\nFor more information, try '--help'."
@@ -98,9 +111,36 @@ fn explain_number<W: Write>(rt: &HostRuntime, word: Option<&str>, writer: &mut W
     tell_telling(rt, how, word.unwrap_or(""))
 }
 
-/// Does what the words ask for, between the reader and the writer.
-fn obey<R: Read, W: Write>(
+/// Runs a script by workers in threads. Where standard error is a terminal, a line there tells how far they are.
+fn work<H: Threads + Wait + Sync, R: Read, W: Write>(
     rt: &HostRuntime,
+    threads: &H,
+    submitters: u32,
+    turns: u32,
+    reader: &mut R,
+    writer: &mut W,
+) -> ExitCode
+    requires { (0 < submitters) × (submitters ≤ 16) }
+    ensures { WorksAs submitters (R.remaining reader.old) (W.contents writer.old) (W.contents writer.new) (exit_status result) }
+{
+    let line = ProgressLine::new(rt);
+    let ending = run(
+        rt.alloc(),
+        reader,
+        writer,
+        submitters,
+        turns,
+        &line,
+        threads,
+    );
+    line.clear();
+    tell(rt, &ending)
+}
+
+/// Does what the words ask for, between the reader and the writer; `threads` is what may start them.
+fn obey<H: Threads + Wait + Sync, R: Read, W: Write>(
+    rt: &HostRuntime,
+    threads: &H,
     words: &[String],
     reader: &mut R,
     writer: &mut W,
@@ -115,7 +155,10 @@ fn obey<R: Read, W: Write>(
         → IsRefusal (fault_of program_app (map string_bytes words.now)) (exit_status result) }
 {
     match read_words(rt.alloc(), words) {
-        Ok(Request::Run(engine)) => tell(rt, &engine.run(rt.alloc(), reader, writer)),
+        Ok(Request::Run(engine)) => tell_ended(rt, engine.run(rt.alloc(), reader, writer)),
+        Ok(Request::Work { submitters, turns }) => {
+            work(rt, threads, submitters, turns, reader, writer)
+        }
         Ok(Request::Explain(word)) => explain_number(rt, word, writer),
         Err(error) => explain(rt, &error),
     }
@@ -123,7 +166,7 @@ fn obey<R: Read, W: Write>(
 
 fn main(rt: HostRuntime) -> ExitCode {
     match words(&rt) {
-        Ok(words) => obey(&rt, &words, &mut rt.stdin(), &mut rt.stdout()),
+        Ok(words) => obey(&rt, &rt, &words, &mut rt.stdin(), &mut rt.stdout()),
         Err(error) => tell_unread(&rt, &error),
     }
 }

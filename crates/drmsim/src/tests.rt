@@ -24,6 +24,15 @@ fn command_lines(rt: HostRuntime) -> Result<(), Fail> {
         let given = words(&rt, &["drmsim", name])?;
         assert_eq!(rt; read_words(rt.alloc(), &given)?, Request::Run(engine));
     }
+    let runs = words(
+        &rt,
+        &["drmsim", "run", "--turns=1000000000", "--threads", "16"],
+    )?;
+    let work = Request::Work {
+        submitters: 16,
+        turns: 1_000_000_000,
+    };
+    assert_eq!(rt; read_words(rt.alloc(), &runs)?, work);
     let one = words(&rt, &["drmsim", "explain", "46"])?;
     assert_eq!(rt; read_words(rt.alloc(), &one)?, Request::Explain(Some("46")));
     let all = words(&rt, &["drmsim", "explain"])?;
@@ -35,7 +44,7 @@ fn command_lines(rt: HostRuntime) -> Result<(), Fail> {
 fn refused_command_lines(rt: HostRuntime) -> Result<(), Fail> {
     let refused: [(&[&str], WordsError, i32); 15] = [
         (&["drmsim"], WordsError::MissingSubcommand, 2),
-        (&["drmsim", "run"], WordsError::InvalidSubcommand, 2),
+        (&["drmsim", "runs"], WordsError::InvalidSubcommand, 2),
         (&["drmsim", "Check"], WordsError::InvalidSubcommand, 2),
         (&["drmsim", "replay", "now"], WordsError::UnknownArgument, 2),
         (&["drmsim", "check", "-v"], WordsError::UnknownArgument, 2),
@@ -73,6 +82,62 @@ fn refused_command_lines(rt: HostRuntime) -> Result<(), Fail> {
             Err(error) => {
                 assert_eq!(rt; error.kind(), kind);
                 assert_eq!(rt; error.exit_code(), status);
+            }
+        }
+    }
+    Ok(())
+}
+
+#[test]
+fn refused_numbers(rt: HostRuntime) -> Result<(), Fail> {
+    let refused: [(&[&str], WordsError); 12] = [
+        (&[], WordsError::MissingRequiredArgument),
+        (&["--threads", "1"], WordsError::MissingRequiredArgument),
+        (&["--turns", "1"], WordsError::MissingRequiredArgument),
+        (&["--threads"], WordsError::InvalidValue),
+        (
+            &["--threads", "0", "--turns", "1"],
+            WordsError::ValueValidation,
+        ),
+        (
+            &["--threads", "17", "--turns", "1"],
+            WordsError::ValueValidation,
+        ),
+        (
+            &["--threads", "x", "--turns", "1"],
+            WordsError::ValueValidation,
+        ),
+        (
+            &["--threads", "", "--turns", "1"],
+            WordsError::ValueValidation,
+        ),
+        (
+            &["--threads", "1", "--turns", "0"],
+            WordsError::ValueValidation,
+        ),
+        (
+            &["--threads", "1", "--turns", "1000000001"],
+            WordsError::ValueValidation,
+        ),
+        (
+            &["--threads", "1", "--threads", "1", "--turns", "1"],
+            WordsError::ArgumentConflict,
+        ),
+        (
+            &["--threads", "1", "--turns", "1", "now"],
+            WordsError::UnknownArgument,
+        ),
+    ];
+    for (numbers, kind) in refused {
+        let mut given = words(&rt, &["drmsim", "run"])?;
+        for word in numbers {
+            given.push(String::from_str(rt.alloc(), word)?)?;
+        }
+        match read_words(rt.alloc(), &given) {
+            Ok(request) => panic!(rt; "{request:?}"),
+            Err(error) => {
+                assert_eq!(rt; error.kind(), kind);
+                assert_eq!(rt; error.exit_code(), 2);
             }
         }
     }

@@ -3,16 +3,26 @@ use Rattle.std.specs.String.{string_bytes}
 use Rattle.drm_engine.specs.declared.engine.Engine.{Engine}
 use Rattle.drm_engine.specs.declared.ending.Ending.TheVariants.{NoMemory}
 use Rattle.drm_explain.specs.declared.telling.Telling.TheVariants as telling
+use Rattle.drmsim.specs.CommandLine.{IsAsked}
 use Rattle.drmsim.specs.Statuses.{EndsAs, status_of_error}
 use Rattle.drmsim.proofs.Entered.{command_entered}
+use Rattle.drm_run.specs.declared.ending.RunEnding.TheVariants.{Ended}
+use Rattle.drmsim.proofs.Numbers.{run_is_asked}
 use Rattle.drmsim.proofs.Statuses.{memory_alone, runs_without_memory, untouched}
 use Rattle.drmsim.proofs.obey.Goals as goal
 
 pub returns-in-Ok-Run-clause-commands : goal.returns-in-Ok-Run-clause-commands
 returns-in-Ok-Run-clause-commands g c = λ engine line.
     let found : c.in-Ok-Run.engine ≡ engine = cc (c.in-Ok-Run.ensures.command engine line) in
-    subst (λ (e : Engine). EndsAs e (g.R.Read.remaining c.args.reader.now) (g.W.Write.contents c.args.writer.now) (g.W.Write.contents c.run.new.writer) c.tell.result.status)
-    found (c.run.result, c.run.ensures, c.tell.ensures)
+    subst (λ (e : Engine). EndsAs e (g.R.Read.remaining c.args.reader.now) (g.W.Write.contents c.args.writer.now) (g.W.Write.contents c.run.new.writer) c.tell_ended.result.status)
+    found (c.run.result, c.run.ensures, c.tell_ended.ensures)
+
+pub returns-in-Ok-Work-clause-commands : goal.returns-in-Ok-Work-clause-commands
+returns-in-Ok-Work-clause-commands g c = λ engine line. absurd (cc (c.in-Ok-Work.ensures.command engine line))
+
+pub returns-in-Ok-Work-clause-accepted : goal.returns-in-Ok-Work-clause-accepted
+returns-in-Ok-Work-clause-accepted g c = λ passed.
+    inr (inl (c.in-Ok-Work.submitters, c.in-Ok-Work.turns, subst (IsAsked (map string_bytes c.args.words.now)) c.in-Ok-Work.field-0-is c.in-Ok-Work.ensures.named, c.work.ensures))
 
 pub returns-in-Ok-Explain-clause-commands : goal.returns-in-Ok-Explain-clause-commands
 returns-in-Ok-Explain-clause-commands g c = λ engine line. absurd (cc (c.in-Ok-Explain.ensures.command engine line))
@@ -26,5 +36,6 @@ returns-in-Err-clause-accepted g c = λ passed.
     let ended = c.explain.ensures.1 ∙ ap (λ kind. status_of_error kind c.explain.ensures.0) (memory_alone _ _ passed c.in-Err.ensures.kinds) in
     elim (command_entered (map string_bytes c.args.words.now) passed) [
       | inl named ↦ inl (named.0, named.1, (NoMemory, runs_without_memory named.0 _ _, ended))
-      | inr named ↦ inr (named, (telling.NoMemory, untouched _, ended))
+      | inr (inl named) ↦ let asked = run_is_asked (map string_bytes c.args.words.now) passed named in inr (inl (asked.0, asked.1, asked.2, (Ended NoMemory, untouched _, ended)))
+      | inr (inr named) ↦ inr (inr (named, (telling.NoMemory, untouched _, ended)))
     ]

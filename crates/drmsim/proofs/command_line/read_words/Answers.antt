@@ -1,11 +1,15 @@
 use Rattle.std.specs.String.{string_bytes}
-use Rattle.std.proofs.Common.{rules, map, ◌∙◌, ap, ap₂, sym, refl, inl, inr}
+use Rattle.std.proofs.Common.{rules, map, ◌∙◌, ap, ap₂, sym, refl, inl, inr, codes, subst, arith, is_some}
 use Rattle.std.proofs.lemmas.Option.{same_Some}
 use Rattle.clap.specs.Words.{takes}
+use Rattle.std.specs.Str.Parse.{ExplainsUnsignedError, HasUnsignedDigitsIfOk, ParsesUnsigned}
 use Rattle.drmsim.specs.declared.command_line.Request.TheVariants.{Run}
-use Rattle.drmsim.specs.CommandLine.{word_entered}
-use Rattle.drmsim.proofs.Taken.{is_taken, is_entered, names_one, names_some, none_is_not, not_explain}
+use Rattle.drmsim.specs.CommandLine.{IsNumber, most_submitters, most_turns, word_entered}
+use Rattle.drmsim.proofs.Numbers.{number_read}
+use Rattle.drmsim.proofs.Options.{options_are_read}
+use Rattle.drmsim.proofs.Taken.{is_taken, is_entered, names_one, names_some, none_is_not, not_explain, not_run}
 use Rattle.drmsim.proofs.Entered.{command_entered, none_refused, number_found, word_found}
+use Rattle.drmsim.proofs.command_line.read_words.Goals.{in_default-2-via-in-Some+in_default, in_default-2-via-in_default}
 use Rattle.drmsim.proofs.command_line.read_words.Goals as goal
 
 pub returns-in_err-matches-clause-command : goal.returns-in_err-matches-clause-command
@@ -44,8 +48,52 @@ returns-clause-command c = λ engine line.
 pub unreachable-requires : goal.unreachable-requires
 unreachable-requires c =
     let app = c.in_ok-program.ensures in
+    let words = map string_bytes c.args.words.now in
+    let found = word_found _ words _ _ app c.in_ok-matches.ensures.matches (sym (c.in-Some-subcommand_matches.ensures.found.0 refl)) in
+    let options = options_are_read words (none_refused _ _ app c.in_ok-matches.ensures.kinds) found in
+    let threads = number_read _ (λ bs r. ParsesUnsigned 32 10 bs r × ExplainsUnsignedError 10 bs r × HasUnsignedDigitsIfOk bs r) (codes "threads") most_submitters _ words _ _ c.get_one.result app
+    c.in_ok-matches.ensures.matches c.in-Some-subcommand_matches.ensures.rows c.get_one.ensures.value (λ u x g. g.0) (omega arith) options.0 in
+    let turns = number_read _ (λ bs r. ParsesUnsigned 32 10 bs r × ExplainsUnsignedError 10 bs r × HasUnsignedDigitsIfOk bs r) (codes "turns") most_turns _ words _ _ c.get_one-in-Some-subcommand_matches.result app
+    c.in_ok-matches.ensures.matches c.in-Some-subcommand_matches.ensures.rows c.get_one-in-Some-subcommand_matches.ensures.value (λ u x g. g.0) (omega arith) options.1 in
+    elim c.in_default-2.branch [
+      | in_default-2-via-in-Some+in_default w ↦ none_is_not _ w.in_default-2.is-1 (ap is_some turns.1)
+      | in_default-2-via-in_default w ↦ none_is_not _ w.in_default-2.is-0 (ap is_some threads.1)
+    ]
+
+pub returns-in-Some-subcommand_matches-clause-named : goal.returns-in-Some-subcommand_matches-clause-named
+returns-in-Some-subcommand_matches-clause-named c =
+    let app = c.in_ok-program.ensures in
+    let words = map string_bytes c.args.words.now in
+    let found = word_found _ words _ _ app c.in_ok-matches.ensures.matches (sym (c.in-Some-subcommand_matches.ensures.found.0 refl)) in
+    let options = options_are_read words (none_refused _ _ app c.in_ok-matches.ensures.kinds) found in
+    let threads = number_read _ (λ bs r. ParsesUnsigned 32 10 bs r × ExplainsUnsignedError 10 bs r × HasUnsignedDigitsIfOk bs r) (codes "threads") most_submitters _ words _ _ c.get_one.result app
+    c.in_ok-matches.ensures.matches c.in-Some-subcommand_matches.ensures.rows c.get_one.ensures.value (λ u x g. g.0) (omega arith) options.0 in
+    let turns = number_read _ (λ bs r. ParsesUnsigned 32 10 bs r × ExplainsUnsignedError 10 bs r × HasUnsignedDigitsIfOk bs r) (codes "turns") most_turns _ words _ _ c.get_one-in-Some-subcommand_matches.result app
+    c.in_ok-matches.ensures.matches c.in-Some-subcommand_matches.ensures.rows c.get_one-in-Some-subcommand_matches.ensures.value (λ u x g. g.0) (omega arith) options.1 in (
+      found,
+      (
+        subst (IsNumber (codes "threads") most_submitters words) (same_Some _ _ (sym threads.1 ∙ c.in-Some-Some.is-0)) threads.2,
+        subst (IsNumber (codes "turns") most_turns words) (same_Some _ _ (sym turns.1 ∙ c.in-Some-Some.is-1)) turns.2,
+      ),
+    )
+
+pub returns-in-Some-subcommand_matches-clause-command : goal.returns-in-Some-subcommand_matches-clause-command
+returns-in-Some-subcommand_matches-clause-command c = λ engine line.
+    let app = c.in_ok-program.ensures in
+    let found = word_found _ _ _ _ app c.in_ok-matches.ensures.matches (sym (c.in-Some-subcommand_matches.ensures.found.0 refl)) in
+    let entered = ap word_entered line.1 ∙ is_entered line.0 engine in
+    absurd (not_run engine (same_Some _ _ (sym entered ∙ found)))
+
+pub returns-in-Some-subcommand_matches-clause-kinds : goal.returns-in-Some-subcommand_matches-clause-kinds
+returns-in-Some-subcommand_matches-clause-kinds c =
+    none_refused _ _ c.in_ok-program.ensures c.in_ok-matches.ensures.kinds
+
+pub unreachable-requires-in-None-of_word : goal.unreachable-requires-in-None-of_word
+unreachable-requires-in-None-of_word c =
+    let app = c.in_ok-program.ensures in
     let found = word_found _ _ _ _ app c.in_ok-matches.ensures.matches c.in-Some-subcommand_name.ensures in
     elim (command_entered (map string_bytes c.args.words.now) (none_refused _ _ app c.in_ok-matches.ensures.kinds)) [
       | inl named ↦ names_some named.0 _ (same_Some _ _ (sym found ∙ named.1)) c.in-None-of_word.ensures.none
-      | inr named ↦ none_is_not c.subcommand_matches.result c.in_default.is (c.subcommand_matches.ensures.found.1 (sym c.in-Some-subcommand_name.ensures ∙ sym found ∙ named))
+      | inr (inl named) ↦ none_is_not c.subcommand_matches-2.result c.in_default-subcommand_matches.is (c.subcommand_matches-2.ensures.found.1 (sym c.in-Some-subcommand_name.ensures ∙ sym found ∙ named))
+      | inr (inr named) ↦ none_is_not c.subcommand_matches.result c.in_default.is (c.subcommand_matches.ensures.found.1 (sym c.in-Some-subcommand_name.ensures ∙ sym found ∙ named))
     ]
