@@ -14,6 +14,9 @@ use std::thread::Threads;
 // As many turns as a worker may have.
 const TURNS: u32 = 1_000_000_000;
 
+// How often threads get a chance to go another way.
+const ROUNDS: u32 = 30;
+
 // One job.
 const ONE: &[u8] =
     b"buffer 0000\nring 4 4294967295 0\nentity 0 normal\njobs 4\ngo\nsubmit 0 1 w0 fill:0:0:2:09\n";
@@ -65,7 +68,9 @@ fn ends<R: Threads + Wait + Abort + Sync>(
 
 #[test]
 fn one_job_is_journaled(rt: HostRuntime) -> Result<(), Fail> {
-    tells(ONE, ONE_TOLD, &rt, rt.alloc());
+    for _ in 0..ROUNDS {
+        tells(ONE, ONE_TOLD, &rt, rt.alloc());
+    }
     Ok(())
 }
 
@@ -111,7 +116,7 @@ fn is_same<R: Threads + Wait + Abort + Sync>(submitters: u32, rt: &R, alloc: Glo
 
 #[test]
 fn journals_are_the_same_as_one_job_after_another(rt: HostRuntime) -> Result<(), Fail> {
-    for _ in 0..30 {
+    for _ in 0..ROUNDS {
         is_same(1, &rt, rt.alloc());
         is_same(2, &rt, rt.alloc());
         is_same(16, &rt, rt.alloc());

@@ -21,7 +21,7 @@ use std::thread::Threads;
 const TURNS: u32 = 50_000_000;
 
 // How often each run is made.
-const ROUNDS: u32 = 30;
+pub(crate) const ROUNDS: u32 = 30;
 
 /// Runs so many jobs on a pair, which fill so many of its buffers.
 pub(crate) fn run<R: Threads + Wait + Abort + Sync, C: Clock + Sync, G: Gate + Sync>(

@@ -1,6 +1,6 @@
 //! Runs in which a worker is held up until it gives up.
 use crate::gates::{Never, Shut, Still};
-use crate::runs::run;
+use crate::runs::{ROUNDS, run};
 use drm_workers::{Point, RunFault};
 use std::alloc::Global;
 use std::process::Abort;
@@ -10,8 +10,10 @@ use std::thread::Threads;
 
 #[test]
 fn a_gate_that_never_opens_is_given_up(rt: HostRuntime) -> Result<(), Fail> {
-    let fault = run(2, 2, 1, 100, &Still, &Never, &rt, rt.alloc()).err();
-    assert!(rt; fault == Some(RunFault::GaveUp { worker: 0 }));
+    for _ in 0..ROUNDS {
+        let fault = run(2, 2, 1, 100, &Still, &Never, &rt, rt.alloc()).err();
+        assert!(rt; fault == Some(RunFault::GaveUp { worker: 0 }));
+    }
     Ok(())
 }
 
