@@ -53,11 +53,11 @@ const RUN_HELP: &str = "\
 Reads a script from standard input whose commands are all 'submit', and runs its jobs on a device that threads share: as \
 many submitters as '--threads' says arm them in turn, two workers for each ring pick, run and finish them, and a watchdog \
 looks for hangs. Writes the journal of the run, which 'check' compares with the jobs run one after another. Which order \
-the jobs get differs from run to run. A worker that tries in vain as often as '--turns' says gives up, and then nothing is \
-written.
+the jobs get differs from run to run. A moment is how often the workers have read the clock: a ring with a timeout of \
+4294967295 never hangs. A worker that tries in vain as often as '--turns' says gives up, and then nothing is written.
 
 Example:
-  printf 'buffer 0000\\nring 4 10 0\\nentity 0 normal\\njobs 8\\ngo\\nsubmit 0 1 w0 fill:0:0:2:09\\n' \
+  printf 'buffer 0000\\nring 4 4294967295 0\\nentity 0 normal\\njobs 8\\ngo\\nsubmit 0 1 w0 fill:0:0:2:09\\n' \
 | drmsim run --threads 2 --turns 1000000 | drmsim check
 writes 'same'.";
 
