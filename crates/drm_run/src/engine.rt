@@ -47,7 +47,7 @@ impl<'a, P: Progress> Gate for Open<'a, P> {
 }
 
 /// Reads a script to its end, runs its jobs by so many submitters and by the workers of its rings, each with so many turns
-/// to try in vain, and writes the journal of the run. Moments are the readings of a counter.
+/// to try in vain, and writes the journal of the run. Moments are the readings of a counter. `progress` is told how far it is.
 pub fn run<H: Threads + Wait + Sync, R: Read, W: Write, P: Progress + Sync>(
     alloc: Global,
     reader: &mut R,

@@ -1,9 +1,9 @@
 //! drmsim: the scheduler of a simulated GPU, driven by texts.
 //!
-//! Each command runs an engine of `drm_engine` from standard input to standard output, or that of `drm_run`, whose workers run
-//! in threads. This program only reads the command line (`command_line`), runs the engine that it names, and tells how the engine ended: by the exit status,
-//! and by a line on standard error unless standard output has told it. `obey` does all that between any reader and any
-//! writer, and its clauses are what the program promises.
+//! Each command runs an engine of `drm_engine` from standard input to standard output, or that of `drm_run`, whose workers
+//! run in threads. This program only reads the command line (`command_line`), runs the engine that it names, and tells how
+//! the engine ended: by the exit status, and by a line on standard error unless standard output has told it. `obey` does
+//! all that between any reader and any writer, and its clauses are what the program promises.
 #![tactic(auto)]
 
 ghost use Rattle.std.specs.Prelude.{◌<◌, ◌≡◌, ◌≢◌, ◌≤◌, [], Bool, map, option_map};

@@ -1,4 +1,4 @@
-use Rattle.std.proofs.Common.{◌∙◌, subst}
+use Rattle.std.proofs.Common.{◌∙◌, rules, subst}
 use Rattle.std.specs.Io.KnownBytes.{Appends}
 use Rattle.drm_report.specs.Reports.{IsReport}
 use Rattle.drm_script.specs.Transfer.{AppendsFront}
@@ -22,3 +22,6 @@ returns g c =
     let script = c.in-Ok.script in
     let report = subst (λ jobs. IsReport script.spec jobs c.args.submitters c.in-Ok-run_all.report) c.into_vec-jobs.ensures c.in-Ok-run_all.ensures.report in
     (script, c.in-Ok.ensures.value, (c.in-Ok-run_all.report, report, subst (λ bytes. AppendsFront (g.W.Write.contents c.args.writer.now) (g.W.Write.contents c.put_all.new.writer) bytes) (c.deref.ensures.value ∙ c.in-Ok-journal_text.ensures) c.in-Err-put_all.ensures.err))
+
+pub returns-in-Err-NoThread : goal.returns-in-Err-NoThread
+returns-in-Err-NoThread g c = search rules
