@@ -55,8 +55,8 @@ impl Deps {
         self.list.as_slice()
     }
 
-    // The same, with what the type keeps of it.
-    pub(crate) fn entries(&self) -> &[(EntityId, FenceId)]
+    /// The same, with what the type keeps of it.
+    pub fn entries(&self) -> &[(EntityId, FenceId)]
         ensures list { result.now ≡ self.now }
         ensures once { IsPerEntity self.now }
         ensures within { length self.now ≤ 64 }

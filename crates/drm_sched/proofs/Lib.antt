@@ -20,7 +20,6 @@ pub mod ChoiceByKeys
 pub mod Least
 pub mod Queues
 pub mod Candidates
-pub mod Best
 pub mod TableFacts
 pub mod CallsAre
 pub mod StepDone
@@ -58,6 +57,13 @@ pub mod MarkedGrows
 pub mod MarkedTasks
 pub mod Words
 pub mod MarkedKeeps
+pub mod HeadChoice
+pub mod HeadsKept
+pub mod HeadsLeft
+pub mod HeadEvents
+pub mod HeadsArmed
+pub mod SchedulerKept
+pub mod SchedulerSame
 pub mod Alike
 pub mod EventsKept
 pub mod TurnsAlike

@@ -31,6 +31,8 @@ pub mod Uses
 pub mod Held
 pub mod Marks
 pub mod Watching
+pub mod Heads
 pub mod MarkedTables
+pub mod Schedulers
 pub mod Begun
 pub mod Keeps

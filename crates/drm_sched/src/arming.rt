@@ -1,4 +1,4 @@
-ghost use Rattle.std.specs.Prelude.{◌≡◌, ℕ, ◌<◌, length, Some, None, Option, find, nat_le, slice_get};
+ghost use Rattle.std.specs.Prelude.{◌≡◌, ℕ, ◌<◌, [], ◌∷◌, ◌++◌, length, Some, None, Option, find, nat_le, slice_get};
 ghost use Rattle.drm_job.specs.Fault.{IsJob};
 ghost use Rattle.drm_sched.specs.Arming.{armed_device, arming_ring, first_ring, least_loaded, less_loaded, load as load_of, live_ring as live_ring_of, rings_of};
 ghost use Rattle.drm_sched.specs.Refusals.{arm_refusal as arm_refusal_of};
@@ -156,6 +156,7 @@ impl Table {
         ensures armed { state_of self.new ≡ armed_device (state_of self.old) plan.job }
         ensures whole { IsWhole self.new }
         ensures out { self.new.memory.out ≡ self.old.memory.out }
+        ensures waits { (deps : _) × (self.new.waits.items ≡ self.old.waits.items ++ deps ∷ []) }
     {
         let Plan { job, mut deps } = plan;
         note_named(&self.journal, job.after(), &mut deps);

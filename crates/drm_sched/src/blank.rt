@@ -40,6 +40,7 @@ impl Table {
         ensures opened { IfOk result (λ t. state_of t ≡ opened_device spec) }
         ensures whole { IfOk result (λ t. IsWhole t) }
         ensures inside { IfOk result (λ t. AllIn t) }
+        ensures waits { IfOk result (λ t. t.waits.items ≡ []) }
     {
         let memory = Store::copy_of(alloc, &spec.buffers)?;
         let max_jobs = spec.max_jobs as usize;

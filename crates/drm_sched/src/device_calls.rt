@@ -30,6 +30,7 @@ use crate::answer::{Expired, Finished, Picked, Refusal, Stepped};
 use crate::journal::JobRecord;
 use crate::life::{BuildError, Closed};
 use crate::marked::{Begun, MarkedTable};
+use crate::scheduler::Scheduler;
 use crate::plans::{Held, Plan};
 use crate::table::Table;
 use crate::uses;
@@ -50,18 +51,19 @@ use std::marker::Model;
 /// `build` takes memory.
 #[derive(Drop)]
 pub struct Device {
-    parts: MarkedTable,
+    parts: Scheduler,
 }
 
 impl Model for Device {
     ghost use Rattle.drm_sched.specs.Marks.{MarkedDevice};
     ghost use Rattle.drm_sched.specs.MarkedTables.{marked_of, IsWholeMarked};
+    ghost use Rattle.drm_sched.specs.Schedulers.{HasHeads};
 
     ghost Value = { MarkedDevice };
 
-    ghost view = { λ d. marked_of d.parts };
+    ghost view = { λ d. marked_of d.parts.marked };
 
-    ghost invariant = { λ d. IsWholeMarked d.parts };
+    ghost invariant = { λ d. IsWholeMarked d.parts.marked × HasHeads d.parts };
 }
 
 impl Device {
@@ -78,7 +80,7 @@ impl Device {
         if let Err(bad) = spec.check() {
             return Err(BuildError::Spec(bad));
         }
-        match MarkedTable::open(alloc, spec) {
+        match Scheduler::open(alloc, spec) {
             Ok(parts) => Ok(Device { parts }),
             Err(AllocError) => Err(BuildError::Memory),
         }
@@ -138,7 +140,7 @@ impl Device {
         requires there { ring < length self.now.state.spec.rings }
         ensures { result ≡ ring_out self.now ring }
     {
-        self.parts.has_out(ring)
+        self.parts.marked.has_out(ring)
     }
 
     /// Whether a packet that is out keeps the ring from a step: its own, or one that has a buffer of its next packet.
@@ -146,7 +148,7 @@ impl Device {
         requires there { ring < length self.now.state.spec.rings }
         ensures { result ≡ is_in_way self.now ring }
     {
-        self.parts.is_in_way(ring)
+        self.parts.marked.is_in_way(ring)
     }
 
     /// Whether the buffer is out with a packet.
@@ -154,7 +156,7 @@ impl Device {
         requires there { buffer < length self.now.state.memory }
         ensures { result ≡ is_out self.now buffer }
     {
-        self.parts.table.memory.is_out(buffer)
+        self.parts.marked.table.memory.is_out(buffer)
     }
 
     /// Takes back the packet that the ring has out, once it ran on its buffers (`drm_sched_job_done_cb`, by which the
@@ -260,11 +262,11 @@ impl Device {
         ensures grows { Grows self.old.state self.new.state }
         ensures keeps { IfOk result (λ fence. KeepsArmed plan.job fence self.old.state self.new.state) }
     {
-        if let Some(refusal) = self.parts.table.arm_refusal(&plan.job) {
+        if let Some(refusal) = self.parts.marked.table.arm_refusal(&plan.job) {
             return Err((plan, refusal));
         }
         let fence = self.armed();
-        uses::add_held_uses(held, &plan.job, fence, &self.parts.table.fences);
+        uses::add_held_uses(held, &plan.job, fence, &self.parts.marked.table.fences);
         Ok(self.parts.arm(plan))
     }
 
@@ -273,7 +275,7 @@ impl Device {
     pub fn arm_refusal(&self, job: &Job) -> Option<Refusal>
         ensures { result ≡ arm_refusal self.now.state job.now }
     {
-        self.parts.table.arm_refusal(job)
+        self.parts.marked.table.arm_refusal(job)
     }
 
     /// Arms the job of a plan that nothing refuses, for an owner of reservations that adds its uses to them itself
@@ -308,10 +310,10 @@ impl Device {
         ensures busy { IfErr result (λ r. (out_or (is_out self.now buffer) (option_map refusal.Busy (busy_fence self.now.state.journal resv.now.kept)) ≡ Some r) × (out.new ≡ out.old)) }
         ensures writing { IfErr result (λ r. is_out self.now buffer ≡ false → HaveEnded buffer self.now.state.journal → ⊥) }
     {
-        if self.parts.table.memory.is_out(buffer) {
+        if self.parts.marked.table.memory.is_out(buffer) {
             return Err(Refusal::PacketOut);
         }
-        match self.parts.table.busy_fence(resv) {
+        match self.parts.marked.table.busy_fence(resv) {
             Some(fence) => Err(Refusal::Busy { fence }),
             None => {
                 out.copy_from_slice(self.bytes(buffer));
@@ -325,7 +327,7 @@ impl Device {
         ensures value { result.now ≡ self.now.state.spec }
         ensures buffers { length self.now.state.memory ≡ length self.now.state.spec.buffers }
     {
-        &self.parts.table.spec
+        &self.parts.marked.table.spec
     }
 
     /// The bytes of the buffer, at this moment.
@@ -334,7 +336,7 @@ impl Device {
         requires inside { is_out self.now buffer ≡ false }
         ensures { result.now ≡ bytes_of self.now.state.memory buffer }
     {
-        self.parts.table.memory.bytes(buffer)
+        self.parts.marked.table.memory.bytes(buffer)
     }
 
     /// The status of the job's finished fence (`dma_fence_get_status`), as `Phase::status` tells it. `None` where no
@@ -342,7 +344,7 @@ impl Device {
     pub fn status(&self, fence: FenceId) -> Option<i32>
         ensures { MatchOption result (slice_get self.now.state.journal fence ≡ None) (λ s. option_map (λ r. status_of r.phase) (slice_get self.now.state.journal fence) ≡ Some s) }
     {
-        match self.parts.table.journal.get(fence as usize) {
+        match self.parts.marked.table.journal.get(fence as usize) {
             Some(record) => Some(record.phase.status()),
             None => None,
         }
@@ -352,21 +354,21 @@ impl Device {
     pub fn fences(&self) -> &Timeline
         ensures { result.now.list ≡ map fence_state_of self.now.state.journal }
     {
-        &self.parts.table.fences
+        &self.parts.marked.table.fences
     }
 
     /// How many jobs were armed: the number that the next one gets.
     pub fn armed(&self) -> u32
         ensures { result ≡ length self.now.state.journal }
     {
-        self.parts.table.journal.len() as u32
+        self.parts.marked.table.journal.len() as u32
     }
 
     /// How many jobs have an outcome: their finished fences are signaled (`dma_fence_is_signaled`).
     pub fn ended(&self) -> u32
         ensures { result ≡ length (filter (λ r. has_ended r.phase) self.now.state.journal) }
     {
-        self.parts.table.loads.ended
+        self.parts.marked.table.loads.ended
     }
 
     /// What holds of every device at every moment, for a caller that keeps more over it and has changed it. The call does
@@ -377,7 +379,7 @@ impl Device {
         ensures sizes { sizes_of self.now.state.memory ≡ sizes_of self.now.state.spec.buffers }
         ensures marked { IsSteadyMarked self.now }
     {
-        let _spec = &self.parts.table.spec;
+        let _spec = &self.parts.marked.table.spec;
     }
 
     /// How many jobs are queued for the ring or pending on it: those of its records that have no outcome (the `score`
@@ -386,14 +388,14 @@ impl Device {
         requires there { ring < length self.now.state.spec.rings }
         ensures { result ≡ load_of self.now.state.journal ring }
     {
-        self.parts.table.load(ring)
+        self.parts.marked.table.load(ring)
     }
 
     /// What is known of the job of this number, where it is armed.
     pub fn record(&self, fence: FenceId) -> Option<&JobRecord>
         ensures { MatchOption result (slice_get self.now.state.journal fence ≡ None) (λ r. slice_get self.now.state.journal fence ≡ Some r.now) }
     {
-        self.parts.table.journal.as_slice().get(fence as usize)
+        self.parts.marked.table.journal.as_slice().get(fence as usize)
     }
 
     /// Takes the device apart (`drm_sched_fini`), and takes no memory. A buffer that is out is still with who runs its
@@ -407,7 +409,8 @@ impl Device {
         ensures sizes { sizes_of self.state.memory ≡ sizes_of self.state.spec.buffers }
     {
         let Device { parts } = self;
-        let MarkedTable { table, .. } = parts;
+        let Scheduler { marked, .. } = parts;
+        let MarkedTable { table, .. } = marked;
         let Table {
             spec,
             memory,

@@ -78,6 +78,7 @@ impl Table {
         ensures expired { timeout_outcome (state_of self.old) ring now ≡ (timed_out result, state_of self.new) }
         ensures whole { IsWhole self.new }
         ensures out { self.new.memory.out ≡ self.old.memory.out }
+        ensures waits { self.new.waits.items ≡ self.old.waits.items }
     {
         let entity = self.journal[number as usize].job.entity();
         let priority = self.priority_of(entity);
@@ -102,6 +103,7 @@ impl Table {
         ensures expired { timeout_outcome (state_of self.old) ring now ≡ (timed_out result, state_of self.new) }
         ensures whole { IsWhole self.new }
         ensures out { self.new.memory.out ≡ self.old.memory.out }
+        ensures waits { self.new.waits.items ≡ self.old.waits.items }
     {
         let Some(number) = self.head(ring) else {
             return Expired::Empty;

@@ -9,7 +9,6 @@ ghost use Rattle.drm_sched.specs.Answers.{picked, stepped, finished};
 ghost use Rattle.drm_sched.specs.Tables.{state_of, fence_state_of, ending, IsWhole, NextIsIn};
 
 use crate::answer::{Finished, Picked, Refusal, Stepped};
-use crate::choice;
 use crate::journal::JobRecord;
 use crate::table::{self, Table};
 use drm_fence::{Phase, Timeline};
@@ -77,25 +76,23 @@ pub(crate) fn end_job(
 }
 
 impl Table {
-    // The job that the ring takes next.
-    fn choice(&self, ring: RingId) -> Option<FenceId>
-        requires there { ring < length self.now.spec.rings }
-        requires whole { IsWhole self.now }
-        ensures { result ≡ choice (state_of self.now) ring }
-    {
-        choice::choose(&self.spec, &self.journal, &self.waits, &self.entities, ring)
-    }
-
-    /// Gives the ring the job that it takes next, if it fits.
-    pub(crate) fn pick(&mut self, ring: RingId, now: Moment) -> Result<Picked, Refusal>
+    /// Gives the ring this job, which it takes next, if it fits.
+    pub(crate) fn pick(
+        &mut self,
+        ring: RingId,
+        chosen: Option<FenceId>,
+        now: Moment,
+    ) -> Result<Picked, Refusal>
         requires there { ring < length self.old.spec.rings }
+        requires chosen { chosen ≡ choice (state_of self.old) ring }
         requires whole { IsWhole self.old }
         ensures picked { IfOk result (λ p. (pick_refusal (state_of self.old) ring ≡ None) × (pick_outcome (state_of self.old) ring now ≡ (picked p, state_of self.new))) }
         ensures refused { IfErr result (λ r. (pick_refusal (state_of self.old) ring ≡ Some r) × (self.new ≡ self.old)) }
         ensures whole { IsWhole self.new }
         ensures out { self.new.memory.out ≡ self.old.memory.out }
+        ensures waits { self.new.waits.items ≡ self.old.waits.items }
     {
-        let Some(number) = self.choice(ring) else {
+        let Some(number) = chosen else {
             return Err(Refusal::Idle);
         };
         let need = self.credits(ring, number) as u32;
@@ -127,6 +124,7 @@ impl Table {
         ensures refused { IfErr result (λ r. (step_refusal (state_of self.old) ring ≡ Some r) × (self.new ≡ self.old)) }
         ensures whole { IsWhole self.new }
         ensures out { self.new.memory.out ≡ self.old.memory.out }
+        ensures waits { self.new.waits.items ≡ self.old.waits.items }
     {
         let Some(number) = self.current(ring) else {
             return Err(Refusal::Idle);
@@ -155,6 +153,7 @@ impl Table {
         ensures refused { IfErr result (λ r. (finish_refusal (state_of self.old) ring ≡ Some r) × (self.new ≡ self.old)) }
         ensures whole { IsWhole self.new }
         ensures out { self.new.memory.out ≡ self.old.memory.out }
+        ensures waits { self.new.waits.items ≡ self.old.waits.items }
     {
         let Some(number) = self.head(ring) else {
             return Err(Refusal::Idle);

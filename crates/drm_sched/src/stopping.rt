@@ -81,6 +81,7 @@ impl Table {
         ensures refused { IfErr result (λ r. (cancel_refusal (state_of self.old) entity ≡ Some r) × (self.new ≡ self.old)) }
         ensures whole { IsWhole self.new }
         ensures out { self.new.memory.out ≡ self.old.memory.out }
+        ensures waits { self.new.waits.items ≡ self.old.waits.items }
     {
         if self.is_stopped(entity) {
             return Err(Refusal::AlreadyStopped);
@@ -98,6 +99,7 @@ impl Table {
         ensures refused { IfErr result (λ r. (reap_refusal (state_of self.old) entity ≡ Some r) × (self.new ≡ self.old)) }
         ensures whole { IsWhole self.new }
         ensures out { self.new.memory.out ≡ self.old.memory.out }
+        ensures waits { self.new.waits.items ≡ self.old.waits.items }
     {
         if !self.is_stopped(entity) {
             return Err(Refusal::Nothing);

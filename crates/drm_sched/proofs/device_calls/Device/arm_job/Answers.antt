@@ -18,8 +18,8 @@ returns-clause-keeps c =
     let job = c.args.plan.job in
     let d : DeviceState = c.args.self.now.state in
     let fence : c.arm.result ≡ length d.journal = c.arm.ensures.number ∙ ap (λ (d : MarkedDevice). length d.state.journal) c.self.view_is in
-    let new : state_of c.arm.new.self.table ≡ armed_device d job = c.arm.ensures.armed ∙ ap (λ (d : MarkedDevice). armed_device d.state job) c.self.view_is in
-    subst (λ n. KeepsArmed job n d (state_of c.arm.new.self.table)) (sym fence) (subst (λ e. KeepsArmed job (length d.journal) d e) (sym new) (arm_keeps d job c.requires.may))
+    let new : state_of c.arm.new.self.marked.table ≡ armed_device d job = c.arm.ensures.armed ∙ ap (λ (d : MarkedDevice). armed_device d.state job) c.self.view_is in
+    subst (λ n. KeepsArmed job n d (state_of c.arm.new.self.marked.table)) (sym fence) (subst (λ e. KeepsArmed job (length d.journal) d e) (sym new) (arm_keeps d job c.requires.may))
 
 pub returns-clause-number : goal.returns-clause-number
 returns-clause-number c = c.arm.ensures.number ∙ ap (λ (d : MarkedDevice). length d.state.journal) c.self.view_is

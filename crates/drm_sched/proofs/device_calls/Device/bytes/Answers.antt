@@ -5,7 +5,7 @@ use Rattle.drm_sched.proofs.device_calls.Device.bytes.Goals as goal
 
 pub bytes-requires : goal.bytes-requires
 bytes-requires c =
-    is_inside c.self.inside.parts c.args.buffer c.self.invariant
+    is_inside c.self.inside.parts.marked c.args.buffer c.self.invariant.0
     (subst (λ (d : MarkedDevice). c.args.buffer < length d.state.memory) (sym c.self.view_is) c.requires.there)
     (subst (λ (d : MarkedDevice). is_out d c.args.buffer ≡ false) (sym c.self.view_is) c.requires.inside)
 

@@ -6,15 +6,15 @@ use Rattle.drm_sched.proofs.device_calls.Device.close.Goals as goal
 
 pub returns-clause-out : goal.returns-clause-out
 returns-clause-out c b there =
-    says_out c.self.inside.parts b c.self.invariant (subst (λ (d : MarkedDevice). b < length d.state.memory) (sym c.self.view_is) there)
+    says_out c.self.inside.parts.marked b c.self.invariant.0 (subst (λ (d : MarkedDevice). b < length d.state.memory) (sym c.self.view_is) there)
     ∙ ap (λ (d : MarkedDevice). is_out d b) c.self.view_is
 
 pub returns-clause-limits : goal.returns-clause-limits
-returns-clause-limits c = subst (λ (d : MarkedDevice). spec_fault d.state.spec ≡ None) c.self.view_is c.self.invariant.table.limits
+returns-clause-limits c = subst (λ (d : MarkedDevice). spec_fault d.state.spec ≡ None) c.self.view_is c.self.invariant.0.table.limits
 
 pub returns-clause-inside : goal.returns-clause-inside
 returns-clause-inside c b there inside =
-    is_inside c.self.inside.parts b c.self.invariant
+    is_inside c.self.inside.parts.marked b c.self.invariant.0
     (subst (λ (d : MarkedDevice). b < length d.state.memory) (sym c.self.view_is) there)
     (subst (λ (d : MarkedDevice). is_out d b ≡ false) (sym c.self.view_is) inside)
 

@@ -8,6 +8,6 @@ use Rattle.drm_sched.proofs.device_calls.Device.ended.Goals as goal
 
 pub returns : goal.returns
 returns c =
-    let t = c.self.inside.parts.table in
+    let t = c.self.inside.parts.marked.table in
     subst (λ (d : MarkedDevice). t.loads.ended ≡ length (filter (λ (r : JobRecord). has_ended r.phase) d.state.journal)) c.self.view_is
-    (c.self.invariant.table.loads.ended ∙ sym (ended_is t.journal.items))
+    (c.self.invariant.0.table.loads.ended ∙ sym (ended_is t.journal.items))

@@ -4,4 +4,4 @@ use Rattle.drm_sched.specs.Marks.{MarkedDevice}
 use Rattle.drm_sched.proofs.device_calls.Device.facts.Goals as goal
 
 pub returns-clause-limits : goal.returns-clause-limits
-returns-clause-limits c = subst (λ (d : MarkedDevice). spec_fault d.state.spec ≡ None) c.self.view_is c.self.invariant.table.limits
+returns-clause-limits c = subst (λ (d : MarkedDevice). spec_fault d.state.spec ≡ None) c.self.view_is c.self.invariant.0.table.limits

@@ -5,4 +5,4 @@ use Rattle.drm_sched.proofs.device_calls.Device.fences.Goals as goal
 
 pub returns : goal.returns
 returns c =
-    subst (λ (d : MarkedDevice). c.self.inside.parts.table.fences.list ≡ map fence_state_of d.state.journal) c.self.view_is c.self.invariant.table.fences
+    subst (λ (d : MarkedDevice). c.self.inside.parts.marked.table.fences.list ≡ map fence_state_of d.state.journal) c.self.view_is c.self.invariant.0.table.fences

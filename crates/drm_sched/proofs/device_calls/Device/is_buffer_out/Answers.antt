@@ -6,4 +6,4 @@ use Rattle.drm_sched.proofs.device_calls.Device.is_buffer_out.Goals as goal
 pub returns : goal.returns
 returns c =
     let there = subst (λ (d : MarkedDevice). c.args.buffer < length d.state.memory) (sym c.self.view_is) c.requires.there in
-    c.is_out.ensures ∙ (says_out c.self.inside.parts c.args.buffer c.self.invariant there ∙ ap (λ (d : MarkedDevice). is_out d c.args.buffer) c.self.view_is)
+    c.is_out.ensures ∙ (says_out c.self.inside.parts.marked c.args.buffer c.self.invariant.0 there ∙ ap (λ (d : MarkedDevice). is_out d c.args.buffer) c.self.view_is)

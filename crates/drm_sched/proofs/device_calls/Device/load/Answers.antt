@@ -6,7 +6,7 @@ use Rattle.drm_sched.proofs.device_calls.Device.load.Goals as goal
 pub load-requires : goal.load-requires
 load-requires c = record {
   there = subst (λ (d : MarkedDevice). c.args.ring < length d.state.spec.rings) (sym c.self.view_is) c.requires.there;
-  whole = c.self.invariant.table;
+  whole = c.self.invariant.0.table;
 }
 
 pub returns : goal.returns

@@ -13,14 +13,14 @@ pub bytes-requires-clause-inside : goal.bytes-requires-clause-inside
 bytes-requires-clause-inside c =
     let there = subst (λ (d : MarkedDevice). c.args.buffer < length d.state.memory) (sym c.self.view_is) c.requires.buffer in
     ap (λ (d : MarkedDevice). is_out d c.args.buffer) (sym c.self.view_is)
-    ∙ (sym (says_out c.self.inside.parts c.args.buffer c.self.invariant there) ∙ (sym c.is_out.ensures ∙ c.if-is_out.false))
+    ∙ (sym (says_out c.self.inside.parts.marked c.args.buffer c.self.invariant.0 there) ∙ (sym c.is_out.ensures ∙ c.if-is_out.false))
 
 pub returns-then-is_out-clause-busy : goal.returns-then-is_out-clause-busy
 returns-then-is_out-clause-busy c =
     let there = subst (λ (d : MarkedDevice). c.args.buffer < length d.state.memory) (sym c.self.view_is) c.requires.buffer in
     let out : is_out c.args.self.now c.args.buffer ≡ true =
     ap (λ (d : MarkedDevice). is_out d c.args.buffer) (sym c.self.view_is)
-    ∙ (sym (says_out c.self.inside.parts c.args.buffer c.self.invariant there) ∙ (sym c.is_out.ensures ∙ c.if-is_out.true)) in
+    ∙ (sym (says_out c.self.inside.parts.marked c.args.buffer c.self.invariant.0 there) ∙ (sym c.is_out.ensures ∙ c.if-is_out.true)) in
     (ap (λ b. out_or b (option_map refusal.Busy (busy_fence c.args.self.now.state.journal c.args.resv.now.kept))) out, refl)
 
 pub returns-then-is_out-clause-writing : goal.returns-then-is_out-clause-writing
@@ -28,7 +28,7 @@ returns-then-is_out-clause-writing c free ended =
     let there = subst (λ (d : MarkedDevice). c.args.buffer < length d.state.memory) (sym c.self.view_is) c.requires.buffer in
     let out : is_out c.args.self.now c.args.buffer ≡ true =
     ap (λ (d : MarkedDevice). is_out d c.args.buffer) (sym c.self.view_is)
-    ∙ (sym (says_out c.self.inside.parts c.args.buffer c.self.invariant there) ∙ (sym c.is_out.ensures ∙ c.if-is_out.true)) in
+    ∙ (sym (says_out c.self.inside.parts.marked c.args.buffer c.self.invariant.0 there) ∙ (sym c.is_out.ensures ∙ c.if-is_out.true)) in
     cc (free, out)
 
 pub returns-in-Some-clause-busy : goal.returns-in-Some-clause-busy
@@ -36,7 +36,7 @@ returns-in-Some-clause-busy c =
     let there = subst (λ (d : MarkedDevice). c.args.buffer < length d.state.memory) (sym c.self.view_is) c.requires.buffer in
     let inside : is_out c.args.self.now c.args.buffer ≡ false =
     ap (λ (d : MarkedDevice). is_out d c.args.buffer) (sym c.self.view_is)
-    ∙ (sym (says_out c.self.inside.parts c.args.buffer c.self.invariant there) ∙ (sym c.is_out.ensures ∙ c.if-is_out.false)) in
+    ∙ (sym (says_out c.self.inside.parts.marked c.args.buffer c.self.invariant.0 there) ∙ (sym c.is_out.ensures ∙ c.if-is_out.false)) in
     let busy : busy_fence c.args.self.now.state.journal c.args.resv.now.kept ≡ Some c.in-Some.fence =
     ap (λ (d : MarkedDevice). busy_fence d.state.journal c.args.resv.now.kept) (sym c.self.view_is) ∙ (sym c.busy_fence.ensures ∙ c.in-Some.is) in (
       ap (λ b. out_or b (option_map refusal.Busy (busy_fence c.args.self.now.state.journal c.args.resv.now.kept))) inside ∙ ap (option_map refusal.Busy) busy,
@@ -54,7 +54,7 @@ returns-in-Some-clause-writing c inside ended =
 pub returns-in-None-clause-writers : goal.returns-in-None-clause-writers
 returns-in-None-clause-writers c =
     let order : EachTwo c.args.self.now.state.journal KeepsEntityOrder =
-    subst (λ (d : MarkedDevice). EachTwo d.state.journal KeepsEntityOrder) c.self.view_is c.self.invariant.table.steady.lawful.entities in
+    subst (λ (d : MarkedDevice). EachTwo d.state.journal KeepsEntityOrder) c.self.view_is c.self.invariant.0.table.steady.lawful.entities in
     let free : busy_fence c.args.self.now.state.journal c.args.resv.now.kept ≡ None =
     ap (λ (d : MarkedDevice). busy_fence d.state.journal c.args.resv.now.kept) (sym c.self.view_is) ∙ (sym c.busy_fence.ensures ∙ c.in-None.is) in
     writers_ended c.args.buffer c.args.self.now.state.journal c.args.resv.now.kept order c.requires.fits free
@@ -64,7 +64,7 @@ returns-in-None-clause-read c =
     let there = subst (λ (d : MarkedDevice). c.args.buffer < length d.state.memory) (sym c.self.view_is) c.requires.buffer in
     let inside : is_out c.args.self.now c.args.buffer ≡ false =
     ap (λ (d : MarkedDevice). is_out d c.args.buffer) (sym c.self.view_is)
-    ∙ (sym (says_out c.self.inside.parts c.args.buffer c.self.invariant there) ∙ (sym c.is_out.ensures ∙ c.if-is_out.false)) in
+    ∙ (sym (says_out c.self.inside.parts.marked c.args.buffer c.self.invariant.0 there) ∙ (sym c.is_out.ensures ∙ c.if-is_out.false)) in
     let free : busy_fence c.args.self.now.state.journal c.args.resv.now.kept ≡ None =
     ap (λ (d : MarkedDevice). busy_fence d.state.journal c.args.resv.now.kept) (sym c.self.view_is) ∙ (sym c.busy_fence.ensures ∙ c.in-None.is) in
     (inside, free, search rules)

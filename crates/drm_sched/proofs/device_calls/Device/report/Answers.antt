@@ -12,18 +12,18 @@ use Rattle.drm_sched.proofs.device_calls.Device.report.Goals as goal
 
 pub returns-clause-grows : goal.returns-clause-grows
 returns-clause-grows c =
-    subst (λ (d : MarkedDevice). Grows d.state (state_of c.report.new.self.table)) c.self.view_is
-    (report_grows c.self.inside.parts c.report.new.self c.args.ring c.report.result c.self.invariant c.report.ensures.reported)
+    subst (λ (d : MarkedDevice). Grows d.state (state_of c.report.new.self.marked.table)) c.self.view_is
+    (report_grows c.self.inside.parts.marked c.report.new.self.marked c.args.ring c.report.result c.self.invariant.0 c.report.ensures.reported)
 
 pub returns-clause-keeps : goal.returns-clause-keeps
 returns-clause-keeps c =
-    subst (λ (d : MarkedDevice). Keeps d.state (state_of c.report.new.self.table)) c.self.view_is
-    (report_keeps_marked c.self.inside.parts c.report.new.self c.args.ring c.report.result c.self.invariant c.report.ensures.reported)
+    subst (λ (d : MarkedDevice). Keeps d.state (state_of c.report.new.self.marked.table)) c.self.view_is
+    (report_keeps_marked c.self.inside.parts.marked c.report.new.self.marked c.args.ring c.report.result c.self.invariant.0 c.report.ensures.reported)
 
 pub returns-clause-tasks : goal.returns-clause-tasks
 returns-clause-tasks c =
-    subst (λ (d : MarkedDevice). KeepsTasks d c.args.ring (marked_of c.report.new.self)) c.self.view_is
-    (report_keeps (marked_of c.self.inside.parts) (marked_of c.report.new.self) c.args.ring c.report.result c.report.ensures.reported)
+    subst (λ (d : MarkedDevice). KeepsTasks d c.args.ring (marked_of c.report.new.self.marked)) c.self.view_is
+    (report_keeps (marked_of c.self.inside.parts.marked) (marked_of c.report.new.self.marked) c.args.ring c.report.result c.report.ensures.reported)
 
 pub returns-clause-reported : goal.returns-clause-reported
 returns-clause-reported c = search rules

@@ -17,30 +17,30 @@ use Rattle.drm_sched.proofs.RowsKept.{credits_told, need_fits}
 pub index-requires : goal.index-requires
 index-requires c =
     let t = c.args.self.now in
-    let chosen = choice_is (state_of t) c.args.ring c.in-Some.number (sym c.choice.ensures ∙ c.in-Some.is) in vec_holds t.journal c.in-Some.number chosen.0 chosen.1.at
+    let chosen = choice_is (state_of t) c.args.ring c.in-Some.number (sym c.requires.chosen ∙ c.in-Some.is) in vec_holds t.journal c.in-Some.number chosen.0 chosen.1.at
 
 pub is_guilty-skipped-requires : goal.is_guilty-skipped-requires
 is_guilty-skipped-requires c =
     let t = c.args.self.now in
-    let chosen = choice_is (state_of t) c.args.ring c.in-Some.number (sym c.choice.ensures ∙ c.in-Some.is) in
+    let chosen = choice_is (state_of t) c.args.ring c.in-Some.number (sym c.requires.chosen ∙ c.in-Some.is) in
     (is_taken t c.args.ring c.in-Some.number chosen.0 c.index.result.now c.entity-entity.result c.requires.whole chosen.1 c.index.ensures c.entity-entity.ensures).there
 
 pub schedule_job-requires-clause-queued : goal.schedule_job-requires-clause-queued
 schedule_job-requires-clause-queued c =
     let t = c.args.self.now in
-    let chosen = choice_is (state_of t) c.args.ring c.in-Some.number (sym c.choice.ensures ∙ c.in-Some.is) in
+    let chosen = choice_is (state_of t) c.args.ring c.in-Some.number (sym c.requires.chosen ∙ c.in-Some.is) in
     at_test t.journal.items c.in-Some.number chosen.0 (λ r. is_queued r.phase) chosen.1.at ∙ chosen.1.queued
 
 pub pop-requires : goal.pop-requires
 pop-requires c =
     let t = c.args.self.now in
-    let chosen = choice_is (state_of t) c.args.ring c.in-Some.number (sym c.choice.ensures ∙ c.in-Some.is) in
+    let chosen = choice_is (state_of t) c.args.ring c.in-Some.number (sym c.requires.chosen ∙ c.in-Some.is) in
     (is_taken t c.args.ring c.in-Some.number chosen.0 c.index.result.now c.entity-entity.result c.requires.whole chosen.1 c.index.ensures c.entity-entity.ensures).there
 
 pub put-requires : goal.put-requires
 put-requires c =
     let t = c.args.self.now in
-    let chosen = choice_is (state_of t) c.args.ring c.in-Some.number (sym c.choice.ensures ∙ c.in-Some.is) in
+    let chosen = choice_is (state_of t) c.args.ring c.in-Some.number (sym c.requires.chosen ∙ c.in-Some.is) in
     let fits = not_less c.free_credits-free.result c.credits-need.result (free_credits (state_of t) c.args.ring) (credits_of (state_of t) c.args.ring c.in-Some.number)
     c.if-need-free.false (sym c.free_credits-free.ensures) (sym c.credits-need.ensures) in
     let row_at = row_found t c.args.ring c.index_mut-row.result.now c.requires.whole c.requires.there c.index_mut-row.ensures.value in
@@ -54,7 +54,7 @@ put-requires c =
 pub pass_over-requires : goal.pass_over-requires
 pass_over-requires c =
     let t = c.args.self.now in
-    let chosen = choice_is (state_of t) c.args.ring c.in-Some.number (sym c.choice.ensures ∙ c.in-Some.is) in
+    let chosen = choice_is (state_of t) c.args.ring c.in-Some.number (sym c.requires.chosen ∙ c.in-Some.is) in
     let row_at = row_found t c.args.ring c.index_mut-row.result.now c.requires.whole c.requires.there c.index_mut-row.ensures.value in
     subst (λ js. c.put.new.self.passed ≤ passed_of (is_open js) c.put.new.self.pending.items) (sym c.deref.ensures.value)
     (put_passes t c.args.ring c.in-Some.number c.args.now chosen.0 c.is_guilty-skipped.result c.schedule_job.new.journal.items c.index_mut-row.result.now c.put.new.self c.requires.whole
@@ -63,7 +63,7 @@ pass_over-requires c =
 pub returns-clause-picked : goal.returns-clause-picked
 returns-clause-picked c =
     let t = c.args.self.now in
-    let is = sym c.choice.ensures ∙ c.in-Some.is in
+    let is = sym c.requires.chosen ∙ c.in-Some.is in
     let chosen = choice_is (state_of t) c.args.ring c.in-Some.number is in
     let fits = not_less c.free_credits-free.result c.credits-need.result (free_credits (state_of t) c.args.ring) (credits_of (state_of t) c.args.ring c.in-Some.number)
     c.if-need-free.false (sym c.free_credits-free.ensures) (sym c.credits-need.ensures) in
@@ -89,7 +89,7 @@ returns-clause-picked c =
 pub returns-clause-whole : goal.returns-clause-whole
 returns-clause-whole c =
     let t = c.args.self.now in
-    let is = sym c.choice.ensures ∙ c.in-Some.is in
+    let is = sym c.requires.chosen ∙ c.in-Some.is in
     let chosen = choice_is (state_of t) c.args.ring c.in-Some.number is in
     let fits = not_less c.free_credits-free.result c.credits-need.result (free_credits (state_of t) c.args.ring) (credits_of (state_of t) c.args.ring c.in-Some.number)
     c.if-need-free.false (sym c.free_credits-free.ensures) (sym c.credits-need.ensures) in

@@ -1,0 +1,210 @@
+ghost use Rattle.std.specs.Prelude.{◌≡◌, ◌<◌, length, Some, None, IfOk, IfErr, OnOk};
+ghost use Rattle.drm_types.specs.Limits.{spec_fault};
+ghost use Rattle.drm_job.specs.Fault.{IsJob};
+ghost use Rattle.drm_sched.specs.declared.answer.Answer.TheVariants as answer;
+ghost use Rattle.drm_sched.specs.Answers.{picked, stepped, finished, timed_out};
+ghost use Rattle.drm_sched.specs.Arming.{armed_device};
+ghost use Rattle.drm_sched.specs.Begun.{HasBegun, IsReport, HasReported, MayRun, out_or};
+ghost use Rattle.drm_sched.specs.Marks.{ring_out, is_in_way, unmarked};
+ghost use Rattle.drm_sched.specs.MarkedTables.{marked_of, IsWholeMarked};
+ghost use Rattle.drm_sched.specs.Outcomes.{step_outcome, finish_outcome, timeout_outcome, pick_outcome, cancelled_device, reap_outcome};
+ghost use Rattle.drm_sched.specs.Plans.{DepsCover};
+ghost use Rattle.drm_sched.specs.Refusals.{step_refusal, finish_refusal, pick_refusal, cancel_refusal, reap_refusal, arm_refusal};
+ghost use Rattle.drm_sched.specs.Schedulers.{HasHeads};
+ghost use Rattle.drm_sched.specs.State.{opened_device};
+ghost use Rattle.drm_sched.specs.Tables.{state_of};
+
+use crate::answer::{Expired, Finished, Picked, Refusal, Stepped};
+use crate::heads::Heads;
+use crate::marked::{Begun, MarkedTable};
+use crate::plans::Plan;
+use drm_buffer::Buffer;
+use drm_types::{DeviceSpec, EntityId, FenceId, Moment, RingId};
+use std::alloc::{AllocError, Global};
+
+/// The tables of a device with what its rings have out, and the heads of its queues beside them, by which a pick finds
+/// its job.
+#[derive(Drop)]
+pub struct Scheduler {
+    pub marked: MarkedTable,
+    pub heads: Heads,
+}
+
+impl Scheduler {
+    /// Gives the ring the job that it takes next, if it fits.
+    pub(crate) fn pick(&mut self, ring: RingId, now: Moment) -> Result<Picked, Refusal>
+        requires there { ring < length self.old.marked.table.spec.rings }
+        requires whole { IsWholeMarked self.old.marked }
+        requires heads { HasHeads self.old }
+        ensures picked { IfOk result (λ p. (pick_refusal (state_of self.old.marked.table) ring ≡ None) × (pick_outcome (state_of self.old.marked.table) ring now ≡ (picked p, state_of self.new.marked.table))) }
+        ensures refused { IfErr result (λ r. (pick_refusal (state_of self.old.marked.table) ring ≡ Some r) × (self.new ≡ self.old)) }
+        ensures marks { self.new.marked.marks ≡ self.old.marked.marks }
+        ensures whole { IsWholeMarked self.new.marked }
+        ensures heads { HasHeads self.new }
+    {
+        let chosen = self.heads.choice(&self.marked.table, ring);
+        match self.marked.pick(ring, chosen, now) {
+            Ok(picked) => {
+                let entity = self.marked.table.journal[picked.fence as usize]
+                    .job
+                    .entity();
+                self.heads.scheduled(picked.fence);
+                self.heads.remove(entity, ring);
+                self.heads.place(&self.marked.table, entity);
+                Ok(picked)
+            }
+            Err(refusal) => Err(refusal),
+        }
+    }
+
+    /// Runs one packet on the ring.
+    pub(crate) fn step(&mut self, ring: RingId) -> Result<Stepped, Refusal>
+        requires there { ring < length self.old.marked.table.spec.rings }
+        requires whole { IsWholeMarked self.old.marked }
+        requires heads { HasHeads self.old }
+        ensures ran { IfOk result (λ s. (out_or (is_in_way (marked_of self.old.marked) ring) (step_refusal (state_of self.old.marked.table) ring) ≡ None) × (step_outcome (state_of self.old.marked.table) ring ≡ (stepped s, state_of self.new.marked.table))) }
+        ensures refused { IfErr result (λ r. (out_or (is_in_way (marked_of self.old.marked) ring) (step_refusal (state_of self.old.marked.table) ring) ≡ Some r) × (self.new ≡ self.old)) }
+        ensures marks { self.new.marked.marks ≡ self.old.marked.marks }
+        ensures whole { IsWholeMarked self.new.marked }
+        ensures heads { HasHeads self.new }
+    {
+        self.marked.step(ring)
+    }
+
+    /// Sends the ring's next packet out with its buffers.
+    pub(crate) fn begin_step(&mut self, ring: RingId) -> Result<Begun, Refusal>
+        requires there { ring < length self.old.marked.table.spec.rings }
+        requires whole { IsWholeMarked self.old.marked }
+        requires heads { HasHeads self.old }
+        ensures begun { IfOk result (λ b. (out_or (is_in_way (marked_of self.old.marked) ring) (step_refusal (state_of self.old.marked.table) ring) ≡ None) × HasBegun (marked_of self.old.marked) ring b (marked_of self.new.marked)) }
+        ensures runs { IfOk result MayRun }
+        ensures refused { IfErr result (λ r. (out_or (is_in_way (marked_of self.old.marked) ring) (step_refusal (state_of self.old.marked.table) ring) ≡ Some r) × (self.new ≡ self.old)) }
+        ensures whole { IsWholeMarked self.new.marked }
+        ensures heads { HasHeads self.new }
+    {
+        self.marked.begin_step(ring)
+    }
+
+    /// Takes the ring's packet back, which ran on its buffers.
+    pub(crate) fn report(
+        &mut self,
+        ring: RingId,
+        write: Option<Buffer>,
+        read: Option<Buffer>,
+    ) -> (FenceId, u32)
+        requires busy { IsReport (marked_of self.old.marked) ring write read }
+        requires whole { IsWholeMarked self.old.marked }
+        requires heads { HasHeads self.old }
+        ensures reported { HasReported (marked_of self.old.marked) ring result (marked_of self.new.marked) }
+        ensures whole { IsWholeMarked self.new.marked }
+        ensures heads { HasHeads self.new }
+    {
+        self.marked.report(ring, write, read)
+    }
+
+    /// Ends the head of the ring, which is complete.
+    pub(crate) fn finish(&mut self, ring: RingId, now: Moment) -> Result<Finished, Refusal>
+        requires there { ring < length self.old.marked.table.spec.rings }
+        requires whole { IsWholeMarked self.old.marked }
+        requires heads { HasHeads self.old }
+        ensures finished { IfOk result (λ f. (out_or (ring_out (marked_of self.old.marked) ring) (finish_refusal (state_of self.old.marked.table) ring) ≡ None) × (finish_outcome (state_of self.old.marked.table) ring now ≡ (finished f, state_of self.new.marked.table))) }
+        ensures refused { IfErr result (λ r. (out_or (ring_out (marked_of self.old.marked) ring) (finish_refusal (state_of self.old.marked.table) ring) ≡ Some r) × (self.new ≡ self.old)) }
+        ensures marks { self.new.marked.marks ≡ self.old.marked.marks }
+        ensures whole { IsWholeMarked self.new.marked }
+        ensures heads { HasHeads self.new }
+    {
+        match self.marked.finish(ring, now) {
+            Ok(finished) => {
+                self.heads.ended(finished.fence);
+                Ok(finished)
+            }
+            Err(refusal) => Err(refusal),
+        }
+    }
+
+    /// Looks at the head of the ring after a time.
+    pub(crate) fn timeout(&mut self, ring: RingId, now: Moment) -> Result<Expired, Refusal>
+        requires there { ring < length self.old.marked.table.spec.rings }
+        requires whole { IsWholeMarked self.old.marked }
+        requires heads { HasHeads self.old }
+        ensures expired { IfOk result (λ e. (out_or (ring_out (marked_of self.old.marked) ring) None ≡ None) × (timeout_outcome (state_of self.old.marked.table) ring now ≡ (timed_out e, state_of self.new.marked.table))) }
+        ensures refused { IfErr result (λ r. (out_or (ring_out (marked_of self.old.marked) ring) None ≡ Some r) × (self.new ≡ self.old)) }
+        ensures marks { self.new.marked.marks ≡ self.old.marked.marks }
+        ensures whole { IsWholeMarked self.new.marked }
+        ensures heads { HasHeads self.new }
+    {
+        self.marked.timeout(ring, now)
+    }
+
+    /// Stops the entity.
+    pub(crate) fn cancel(&mut self, entity: EntityId) -> Result<(), Refusal>
+        requires there { entity < length self.old.marked.table.spec.entities }
+        requires whole { IsWholeMarked self.old.marked }
+        requires heads { HasHeads self.old }
+        ensures stopped { OnOk result ((cancel_refusal (state_of self.old.marked.table) entity ≡ None) × (state_of self.new.marked.table ≡ cancelled_device (state_of self.old.marked.table) entity)) }
+        ensures refused { IfErr result (λ r. (cancel_refusal (state_of self.old.marked.table) entity ≡ Some r) × (self.new ≡ self.old)) }
+        ensures marks { self.new.marked.marks ≡ self.old.marked.marks }
+        ensures whole { IsWholeMarked self.new.marked }
+        ensures heads { HasHeads self.new }
+    {
+        if self.marked.table.is_stopped(entity) {
+            return Err(Refusal::AlreadyStopped);
+        }
+        self.heads.withdraw(&self.marked.table, entity);
+        self.marked.cancel(entity)
+    }
+
+    /// Ends the first queued job of a stopped entity.
+    pub(crate) fn reap(&mut self, entity: EntityId) -> Result<FenceId, Refusal>
+        requires there { entity < length self.old.marked.table.spec.entities }
+        requires whole { IsWholeMarked self.old.marked }
+        requires heads { HasHeads self.old }
+        ensures reaped { IfOk result (λ f. (reap_refusal (state_of self.old.marked.table) entity ≡ None) × (reap_outcome (state_of self.old.marked.table) entity ≡ (answer.Reaped f, state_of self.new.marked.table))) }
+        ensures refused { IfErr result (λ r. (reap_refusal (state_of self.old.marked.table) entity ≡ Some r) × (self.new ≡ self.old)) }
+        ensures marks { self.new.marked.marks ≡ self.old.marked.marks }
+        ensures whole { IsWholeMarked self.new.marked }
+        ensures heads { HasHeads self.new }
+    {
+        match self.marked.reap(entity) {
+            Ok(fence) => {
+                self.heads.ended(fence);
+                Ok(fence)
+            }
+            Err(refusal) => Err(refusal),
+        }
+    }
+
+    /// Arms the job of the plan.
+    pub(crate) fn arm(&mut self, plan: Plan) -> FenceId
+        requires job { IsJob self.old.marked.table.spec plan.job }
+        requires covers { DepsCover (state_of self.old.marked.table) plan.job plan.deps }
+        requires may { arm_refusal (state_of self.old.marked.table) plan.job ≡ None }
+        requires whole { IsWholeMarked self.old.marked }
+        requires heads { HasHeads self.old }
+        ensures number { result ≡ length self.old.marked.table.journal.items }
+        ensures armed { state_of self.new.marked.table ≡ armed_device (state_of self.old.marked.table) plan.job }
+        ensures marks { self.new.marked.marks ≡ self.old.marked.marks }
+        ensures whole { IsWholeMarked self.new.marked }
+        ensures heads { HasHeads self.new }
+    {
+        let entity = plan.job.entity();
+        if self.marked.table.entities.is_empty(entity) {
+            let fence = self.marked.arm(plan);
+            self.heads.place(&self.marked.table, entity);
+            return fence;
+        }
+        self.marked.arm(plan)
+    }
+
+    /// The tables and the heads of a device on which no job was armed, and of which nothing is out.
+    pub(crate) fn open(alloc: Global, spec: DeviceSpec) -> Result<Scheduler, AllocError>
+        requires limits { spec_fault spec ≡ None }
+        ensures opened { IfOk result (λ d. marked_of d.marked ≡ unmarked (opened_device spec)) }
+        ensures whole { IfOk result (λ d. IsWholeMarked d.marked) }
+        ensures heads { IfOk result (λ d. HasHeads d) }
+    {
+        let heads = Heads::new(alloc, &spec)?;
+        let marked = MarkedTable::open(alloc, spec)?;
+        Ok(Scheduler { marked, heads })
+    }
+}
