@@ -12,14 +12,12 @@ use Rattle.drm_fence.specs.declared.phase.Phase.{Phase}
 use Rattle.drm_fence.specs.declared.phase.Phase.TheVariants.{Queued, Scheduled, Ended}
 use Rattle.drm_fence.specs.Phases.{is_queued, has_ended}
 use Rattle.drm_sched.specs.declared.journal.JobRecord.{JobRecord}
-use Rattle.drm_sched.specs.declared.choice.Candidate.{Candidate}
 use Rattle.drm_sched.specs.State.{EntityState, DeviceState}
 use Rattle.drm_sched.specs.Journal.{numbered, is_at}
 use Rattle.drm_sched.specs.Order.{is_met, is_ready}
 use Rattle.drm_sched.specs.Choice.{queue_of, is_head_of}
 use Rattle.drm_sched.specs.Steady.{IsSteady}
-use Rattle.drm_sched.specs.Candidates.{IsHeadCandidate}
-use Rattle.drm_sched.specs.Plain.{tables, WaitsStand, IsCandidate}
+use Rattle.drm_sched.specs.Plain.{WaitsStand}
 use Rattle.drm_sched.proofs.ChoiceIs.{first-filter, numbered_get, is_queued_of}
 use Rattle.drm_sched.proofs.Pairs.{find_first}
 use Rattle.drm_sched.proofs.LatestStands.{latest_stand, met_goes_down, GoesDown}
@@ -79,20 +77,6 @@ pub record IsLook (journal : List JobRecord) (entity age : ℕ) (head : JobRecor
   pub found : head_number journal entity ≡ Some age
   pub at : slice_get journal age ≡ Some head
 
--- the only key that a head of the entity may have is the one that was looked at
-same_head : (spec : DeviceSpec) (journal : List JobRecord) (entities : List EntityState) (ring entity age : ℕ) (head : JobRecord) (key : Candidate) → IsLook journal entity age head
-    → (h : IsHeadCandidate (tables spec journal entities) ring entity key) → (key.number ≡ age) × (h.head ≡ head)
-same_head spec journal entities ring entity age head key look h =
-    let number = head_only journal entity age key.number look.found h.is_head in
-    let at : slice_get journal age ≡ Some h.head = subst (λ n. slice_get journal n ≡ Some h.head) number h.at in
-    (number, cc (at, look.at))
-
-pub other_ring : (spec : DeviceSpec) (journal : List JobRecord) (entities : List EntityState) (ring entity age : ℕ) (head : JobRecord) → IsLook journal entity age head
-    → head.ring ≢ ring → IsCandidate (tables spec journal entities) ring entity None
-other_ring spec journal entities ring entity age head look ne key h r at =
-    let same = same_head spec journal entities ring entity age head key look h in
-    absurd (ne (ap (λ (z : JobRecord). z.ring) (sym same.1) ∙ eqb-true h.head.ring ring h.on_ring))
-
 -- whether the head is ready, by the dependencies that are kept for it
 pub ready_by_waits : (d : DeviceState) (journal : List JobRecord) (waits : List (List (ℕ × ℕ))) (ring entity age : ℕ) (head : JobRecord) (deps : List (ℕ × ℕ)) → IsSteady d
     → d.journal ≡ journal → WaitsStand journal waits → IsLook journal entity age head → slice_get waits age ≡ Some deps → head.ring ≡ ring
@@ -103,49 +87,3 @@ ready_by_waits d journal waits ring entity age head deps steady same stand look 
     (latest_stand journal age head deps (is_met head.ring)
     (subst (λ j. GoesDown j (is_met head.ring)) same (met_goes_down d head.ring steady))
     (stand.stand age head deps look.at (queued_goes_on head.phase queued.1) at))
-
-pub not_ready : (spec : DeviceSpec) (journal : List JobRecord) (entities : List EntityState) (ring entity age : ℕ) (head : JobRecord) → IsLook journal entity age head
-    → is_ready journal age head ≡ false → IsCandidate (tables spec journal entities) ring entity None
-not_ready spec journal entities ring entity age head look no_more key h r at =
-    let same = same_head spec journal entities ring entity age head key look h in
-    let at_age : slice_get journal age ≡ Some r = subst (λ n. slice_get journal n ≡ Some r) same.0 at in
-    let here : r ≡ head = cc (at_age, look.at) in
-    ap (λ n. is_ready journal n r) same.0 ∙ (ap (is_ready journal age) here ∙ no_more)
-
-pub is_candidate : (spec : DeviceSpec) (journal : List JobRecord) (entities : List EntityState) (ring entity age : ℕ) (head : JobRecord) (e : EntitySpec) (s : EntityState)
-    → IsLook journal entity age head → head.ring ≡ ring → slice_get spec.entities entity ≡ Some e → slice_get entities entity ≡ Some s → s.is_stopped ≡ false
-    → is_ready journal age head ≡ true
-    → IsCandidate (tables spec journal entities) ring entity (Some (record { priority = e.priority; number = age }))
-is_candidate spec journal entities ring entity age head e s look home at_e at_s going is = (
-  record {
-    head = head;
-    at = look.at;
-    of_entity = (head_queued journal entity age head look.found look.at).0;
-    on_ring = eq-eqb head.ring ring home;
-    may = and_from
-        (option_map_or (λ (x : EntitySpec). rank_of x.priority == rank_of e.priority) (slice_get spec.entities entity) false)
-        (option_map_or (λ (x : EntityState). not x.is_stopped) (slice_get entities entity) false)
-        (ap (λ o. option_map_or (λ (x : EntitySpec). rank_of x.priority == rank_of e.priority) o false) at_e ∙ eq-eqb (rank_of e.priority) (rank_of e.priority) refl)
-        (ap (λ o. option_map_or (λ (x : EntityState). not x.is_stopped) o false) at_s ∙ ap not going);
-    is_head = head_found journal entity age look.found;
-  },
-  λ r at. let here : r ≡ head = cc (at, look.at) in ap (is_ready journal age) here ∙ is,
-)
-
--- a head that is on another ring, or not ready, may not begin
-pub not_picked : (spec : DeviceSpec) (journal : List JobRecord) (entities : List EntityState) (ring entity age : ℕ) (head : JobRecord) (deps : List (ℕ × ℕ)) → IsLook journal entity age head
-    → (head.ring ≡ ring → is_ready journal age head ≡ list_all (λ e. is_at journal e.1 (is_met ring)) deps)
-    → ((head.ring == ring) && list_all (λ e. is_at journal e.1 (is_met ring)) deps) ≡ false → IsCandidate (tables spec journal entities) ring entity None
-not_picked spec journal entities ring entity age head deps look ready fails =
-    elim (cases_eq head.ring ring) [
-      | inr apart ↦ other_ring spec journal entities ring entity age head look apart
-      | inl home ↦
-          let no_more : list_all (λ e. is_at journal e.1 (is_met ring)) deps ≡ false =
-          sym (ap (λ t. t && list_all (λ e. is_at journal e.1 (is_met ring)) deps) (eq-eqb head.ring ring home)) ∙ fails in
-          not_ready spec journal entities ring entity age head look (ready home ∙ no_more)
-    ]
-
--- an active entity is not stopped
-pub active_is : (stopped b : Bool) → b ≡ not stopped → b ≡ true → stopped ≡ false
-active_is true b is passed = absurd (let never : false ≡ true = sym is ∙ passed in cc (never))
-active_is false b is passed = refl

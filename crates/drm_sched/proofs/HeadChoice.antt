@@ -15,7 +15,6 @@ use Rattle.drm_fence.specs.Waiting.{unmet_in}
 use Rattle.drm_runq.specs.declared.key.Key.{Key}
 use Rattle.drm_runq.specs.Keys.{HasKey, comes_before}
 use Rattle.drm_runq.specs.Keys as keys
-use Rattle.drm_sched.specs.declared.choice.Candidate.{Candidate}
 use Rattle.drm_sched.specs.declared.heads.Heads.{Heads}
 use Rattle.drm_sched.specs.declared.journal.JobRecord.{JobRecord}
 use Rattle.drm_sched.specs.Candidates.{IsHeadCandidate, goes_first}
@@ -61,7 +60,7 @@ may_go (Some e) s at is = ap not is
 
 -- a key is that of a head
 key_candidate : (d : DeviceState) (ring entity : ℕ) (key : Key) → length d.entities ≡ length d.spec.entities → Some key ≡ head_key d ring entity
-    → IsHeadCandidate d ring entity (record { priority = key.priority; number = key.age })
+    → IsHeadCandidate d ring entity (record { priority = key.priority; age = key.age })
 key_candidate d ring entity key count is = by_stopped (is_stopped d entity) refl (sym is)
   where
     of_ring : Bool → ℕ → Option Key
@@ -69,7 +68,7 @@ key_candidate d ring entity key count is = by_stopped (is_stopped d entity) refl
 
     by_entity : (n : ℕ × JobRecord) → first (queue_of entity d.journal) ≡ Some n → is_stopped d entity ≡ false → (n.1.ring == ring) ≡ true
         → (o : Option EntitySpec) → slice_get d.spec.entities entity ≡ o → option_map (λ (e : EntitySpec). let k : Key = record { priority = e.priority; age = n.0 } in k) o ≡ Some key
-        → IsHeadCandidate d ring entity (record { priority = key.priority; number = key.age })
+        → IsHeadCandidate d ring entity (record { priority = key.priority; age = key.age })
     by_entity n is_n going here None at some = absurd (cc (some))
     by_entity n is_n going here (Some e) at some =
         let same : Some (record { priority = e.priority; age = n.0 }) ≡ Some key = some in
@@ -77,7 +76,7 @@ key_candidate d ring entity key count is = by_stopped (is_stopped d entity) refl
         let front = first_is d.journal entity n is_n in
         let lt = slice_get_within d.spec.entities entity e at in
         let s = stands_within d.entities entity (omega (arith, lt, count)) in
-        let c : IsHeadCandidate d ring entity (record { priority = e.priority; number = n.0 }) = record {
+        let c : IsHeadCandidate d ring entity (record { priority = e.priority; age = n.0 }) = record {
           head = n.1;
           at = front.at;
           of_entity = front.of_entity;
@@ -89,40 +88,40 @@ key_candidate d ring entity key count is = by_stopped (is_stopped d entity) refl
               (may_go (slice_get d.entities entity) s.0 s.1 going);
           is_head = ap (λ o. option_map_or (λ (m : ℕ × JobRecord). m.0 == n.0) o false) is_n ∙ eq-eqb n.0 n.0 refl;
         } in
-        subst (λ (k : Key). IsHeadCandidate d ring entity (record { priority = k.priority; number = k.age })) key_is c
+        subst (λ (k : Key). IsHeadCandidate d ring entity (record { priority = k.priority; age = k.age })) key_is c
 
     by_ring : (n : ℕ × JobRecord) → first (queue_of entity d.journal) ≡ Some n → is_stopped d entity ≡ false → (b : Bool) → (n.1.ring == ring) ≡ b → of_ring b n.0 ≡ Some key
-        → IsHeadCandidate d ring entity (record { priority = key.priority; number = key.age })
+        → IsHeadCandidate d ring entity (record { priority = key.priority; age = key.age })
     by_ring n is_n going true here some = by_entity n is_n going here (slice_get d.spec.entities entity) refl some
     by_ring n is_n going false here some = absurd (let never : None ≡ Some key = some in cc (never))
 
     by_first : is_stopped d entity ≡ false → (o : Option (ℕ × JobRecord)) → first (queue_of entity d.journal) ≡ o
-        → option_map_or (λ (n : ℕ × JobRecord). of_ring (n.1.ring == ring) n.0) o None ≡ Some key → IsHeadCandidate d ring entity (record { priority = key.priority; number = key.age })
+        → option_map_or (λ (n : ℕ × JobRecord). of_ring (n.1.ring == ring) n.0) o None ≡ Some key → IsHeadCandidate d ring entity (record { priority = key.priority; age = key.age })
     by_first going None is_n some = absurd (cc (some))
     by_first going (Some n) is_n some = by_ring n is_n going (n.1.ring == ring) refl some
 
     by_stopped : (b : Bool) → is_stopped d entity ≡ b → cond b None (option_map_or (λ (n : ℕ × JobRecord). of_ring (n.1.ring == ring) n.0) (first (queue_of entity d.journal)) None) ≡ Some key
-        → IsHeadCandidate d ring entity (record { priority = key.priority; number = key.age })
+        → IsHeadCandidate d ring entity (record { priority = key.priority; age = key.age })
     by_stopped true stopped some = absurd (let never : None ≡ Some key = some in cc (never))
     by_stopped false going some = by_first going (first (queue_of entity d.journal)) refl some
 
 -- and the head of a candidate has a key
-pub record HasHeadKey (d : DeviceState) (ring entity : ℕ) (k : Candidate) : Type 0 where
+pub record HasHeadKey (d : DeviceState) (ring entity : ℕ) (k : Key) : Type 0 where
   pub spec : EntitySpec
   pub at : slice_get d.spec.entities entity ≡ Some spec
   pub rank : rank_of spec.priority ≡ rank_of k.priority
   pub going : is_stopped d entity ≡ false
   pub head : JobRecord
-  pub front : IsFront d.journal entity k.number head
+  pub front : IsFront d.journal entity k.age head
   pub on_ring : head.ring ≡ ring
-  pub key : head_key d ring entity ≡ Some (record { priority = spec.priority; age = k.number })
+  pub key : head_key d ring entity ≡ Some (record { priority = spec.priority; age = k.age })
 
-candidate_key : (d : DeviceState) (ring entity : ℕ) (k : Candidate) → IsHeadCandidate d ring entity k → HasHeadKey d ring entity k
+candidate_key : (d : DeviceState) (ring entity : ℕ) (k : Key) → IsHeadCandidate d ring entity k → HasHeadKey d ring entity k
 candidate_key d ring entity k c =
     let parts = and_parts (option_map_or (λ (x : EntitySpec). rank_of x.priority == rank_of k.priority) (slice_get d.spec.entities entity) false)
     (option_map_or (λ (x : EntityState). not x.is_stopped) (slice_get d.entities entity) false) c.may in
     let spec = its_spec (slice_get d.spec.entities entity) parts.0 in
-    let front = front_is d.journal entity k.number (head_numbered d.journal entity k.number c.is_head) in
+    let front = front_is d.journal entity k.age (head_numbered d.journal entity k.age c.is_head) in
     let at_head = front.1.at in
     let same : c.head ≡ front.0 = let at = c.at in cc (at, at_head) in
     let going = not_stopped (slice_get d.entities entity) parts.1 in
@@ -137,8 +136,8 @@ candidate_key d ring entity k c =
       on_ring = eqb-true front.0.ring ring on_ring;
       key = ap (λ b. cond b None (option_map_or (λ (n : ℕ × JobRecord). cond (n.1.ring == ring) (key_of d.spec entity n.0) None) (first (queue_of entity d.journal)) None)) going
           ∙ (ap (λ o. option_map_or (λ (n : ℕ × JobRecord). cond (n.1.ring == ring) (key_of d.spec entity n.0) None) o None) front.1.first
-          ∙ (ap (λ b. cond b (key_of d.spec entity k.number) None) on_ring
-          ∙ ap (option_map (λ (e : EntitySpec). let x : Key = record { priority = e.priority; age = k.number } in x)) spec.1));
+          ∙ (ap (λ b. cond b (key_of d.spec entity k.age) None) on_ring
+          ∙ ap (option_map (λ (e : EntitySpec). let x : Key = record { priority = e.priority; age = k.age } in x)) spec.1));
     }
   where
     its_spec : (o : Option EntitySpec) → option_map_or (λ (x : EntitySpec). rank_of x.priority == rank_of k.priority) o false ≡ true
@@ -174,13 +173,13 @@ answers d waits h ring steady stand heads entity key r b c at is =
     let k = candidate_key d ring entity key c in
     let at_head = k.front.at in
     let same : r ≡ k.head = cc (at, at_head) in
-    let deps = stands_within waits key.number (let lt = slice_get_within d.journal key.number r at in let count = stand.count in omega (arith, lt, count)) in
+    let deps = stands_within waits key.age (let lt = slice_get_within d.journal key.age r at in let count = stand.count in omega (arith, lt, count)) in
     let unmet : (unmet_in h.waiters.pairs entity == 0) ≡ list_all (λ e. is_at d.journal e.1 (is_met k.head.ring)) deps.0 =
     ap (λ n. n == 0) (unmet_is h.waiters.pairs (watched_of d waits entity) entity (heads.watches entity)
-    ∙ ap length (watched_is d waits entity key.number k.head deps.0 k.going k.front.first deps.1))
+    ∙ ap length (watched_is d waits entity key.age k.head deps.0 k.going k.front.first deps.1))
     ∙ none_unmet d.journal entity k.head.ring deps.0 in
-    ap (is_ready d.journal key.number) same
-    ∙ (ready_by_waits d d.journal waits k.head.ring entity key.number k.head deps.0 steady refl stand
+    ap (is_ready d.journal key.age) same
+    ∙ (ready_by_waits d d.journal waits k.head.ring entity key.age k.head deps.0 steady refl stand
     (record { found = ap (option_map (λ (n : ℕ × JobRecord). n.0)) k.front.first; at = k.front.at }) deps.1 refl
     ∙ sym (is ∙ unmet))
 
@@ -191,8 +190,8 @@ keys_there h ring lt =
     at.1 ∙ ap (λ o. Some (option_map_or (λ ks. ks) o [])) (sym at.1)
 
 -- a head that goes first has a key that comes before
-key_before : (d : DeviceState) (waits : List (List (ℕ × ℕ))) (h : Heads) (ring other : ℕ) (k : Candidate) → HeadsStand d waits h → ring < length d.spec.rings
-    → IsHeadCandidate d ring other k → (key : Key) × HasKey (keys_at h.queues.items ring) other key × (rank_of key.priority ≡ rank_of k.priority) × (key.age ≡ k.number)
+key_before : (d : DeviceState) (waits : List (List (ℕ × ℕ))) (h : Heads) (ring other : ℕ) (k : Key) → HeadsStand d waits h → ring < length d.spec.rings
+    → IsHeadCandidate d ring other k → (key : Key) × HasKey (keys_at h.queues.items ring) other key × (rank_of key.priority ≡ rank_of k.priority) × (key.age ≡ k.age)
 key_before d waits h ring other k heads there c =
     let has = candidate_key d ring other k c in
     let rings = heads.rings in
@@ -200,12 +199,12 @@ key_before d waits h ring other k heads there c =
     let lt = slice_get_within d.spec.entities other has.spec has.at in
     let count = heads.entities ring (keys_at h.queues.items ring) at_ring in
     let at = stands_within (keys_at h.queues.items ring) other (omega (arith, lt, count)) in
-    let key : Key = record { priority = has.spec.priority; age = k.number } in
+    let key : Key = record { priority = has.spec.priority; age = k.age } in
     (key, at.1 ∙ ap (λ o. Some o) (heads.keys ring other (keys_at h.queues.items ring) at.0 at_ring at.1 ∙ has.key), has.rank, refl)
 
 -- the candidate of a key
 candidate_of_key : (d : DeviceState) (waits : List (List (ℕ × ℕ))) (h : Heads) (ring entity : ℕ) (key : Key) → IsSteady d → HeadsStand d waits h → ring < length d.spec.rings
-    → HasKey (keys_at h.queues.items ring) entity key → IsHeadCandidate d ring entity (record { priority = key.priority; number = key.age })
+    → HasKey (keys_at h.queues.items ring) entity key → IsHeadCandidate d ring entity (record { priority = key.priority; age = key.age })
 candidate_of_key d waits h ring entity key steady heads there has =
     let rings = heads.rings in
     key_candidate d ring entity key steady.lawful.entity_count (heads.keys ring entity (keys_at h.queues.items ring) (Some key) (keys_there h ring (omega (arith, there, rings))) has)
@@ -215,7 +214,7 @@ pub choice_found : (d : DeviceState) (waits : List (List (ℕ × ℕ))) (h : Hea
     → (choice d ring ≡ head_number d.journal entity) × (entity < length d.spec.entities)
 choice_found d waits h ring entity steady stand heads there is =
     let c = candidate_of_key d waits h ring entity is.key steady heads there is.has_key in
-    let k : Candidate = record { priority = is.key.priority; number = is.key.age } in
+    let k : Key = record { priority = is.key.priority; age = is.key.age } in
     let found : IsFirstReady (Unmet h.waiters.pairs) d ring entity = record {
       key = k;
       has_key = c;

@@ -5,14 +5,7 @@ ghost use Rattle.drm_sched.specs.Order.{is_met as is_met_on};
 
 use crate::journal::JobRecord;
 use drm_fence::Phase;
-use drm_types::{FenceId, Priority, RingId};
-
-/// What decides between the heads of two entities: the higher priority, then the lower number.
-#[derive(Clone, Copy)]
-pub struct Candidate {
-    pub priority: Priority,
-    pub number: FenceId,
-}
+use drm_types::{FenceId, RingId};
 
 /// Whether the phase is that of a job that no ring was given yet.
 pub(crate) fn is_queued(phase: Phase) -> bool
