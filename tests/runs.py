@@ -43,3 +43,14 @@ def wrong_journal(script, journal, submitters):
         return f"check says {said}"
     left, final = second_reader.read_journal(journal)
     return "" if left == final else "the second reader finds other bytes"
+
+
+def journal_of(text):
+    """The journal of a run of a script by one submitter, each of whose jobs ends well."""
+    device, jobs = second_reader.read_run(text)
+    memory = [bytearray(it) for it in device.buffers]
+    told = text.split(b"submit ")
+    for place, job in enumerate(jobs, 1):
+        job.run(memory, len(job.packets))
+        told[place] = b"job %d 1 %s" % (len(job.packets), told[place])
+    return b"".join([*told, *(b"final %s\n" % it.hex().encode() for it in memory), b"end\n"])

@@ -1,0 +1,13 @@
+use Rattle.std.proofs.Common.{◌≡◌, List, All, refl, sym, subst, ◌∙◌}
+use Rattle.std.proofs.lemmas.List.Elements.{All-map, All-take, All-weaker}
+use Rattle.drm_types.specs.declared.spec.DeviceSpec.{DeviceSpec}
+use Rattle.drm_job.specs.Fault.{IsJob}
+use Rattle.drm_job.specs.Laws.{JobsRunInTheirDevice}
+use Rattle.drm_job.specs.Ranges.{RunsIn}
+use Rattle.drm_sched.specs.declared.journal.JobRecord.{JobRecord}
+use Rattle.drm_sched.specs.Journal.{turns}
+use Rattle.gpu_soak.proofs.judging.bytes_alone.Goals as goal
+
+turns_fit : (spec : DeviceSpec) (records : List JobRecord) → JobsRunInTheirDevice → All (λ r. IsJob spec r.job) records → All (λ t. RunsIn spec.buffers t.job) (turns records)
+turns_fit spec records law are = All-map (λ t. RunsIn spec.buffers t.job) (λ r. record { job = r.job; ran = r.ran }) records
+    (All-weaker (λ r. IsJob spec r.job) (λ r. RunsIn spec.buffers r.job) (λ r is. law spec r.job spec.buffers is refl) records are)
