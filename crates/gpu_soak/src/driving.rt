@@ -5,6 +5,7 @@ ghost use Rattle.gpu_soak.specs.Devices.{IsSmall};
 use crate::chance::Chance;
 use crate::tally::{Tally, count};
 use drm_gpu::{Gpu, Pass, StartError};
+use drm_sched::Stepped;
 use drm_types::{Moment, RingId};
 use std::sync::Wait;
 
@@ -30,6 +31,15 @@ fn look<R: Wait>(gpu: &Gpu, pass: &mut Pass, chance: &mut Chance, tally: &mut Ta
     count(&mut tally.wrong, armed < ended);
 }
 
+// Runs a packet, and counts it where it has run.
+fn step<R: Wait>(gpu: &Gpu, pass: &mut Pass, ring: RingId, tally: &mut Tally, rt: &R)
+    requires { IsSmall gpu.now.spec × (pass.old.gpu ≡ gpu.now) × (ring < 2) }
+    ensures { pass.new.gpu ≡ gpu.now }
+{
+    let has_run = matches!(gpu.step(pass, ring, rt), Ok(Stepped::Ran { .. }));
+    count(&mut tally.packets, has_run);
+}
+
 /// One call of the device.
 pub(crate) fn call<R: Wait>(
     gpu: &Gpu,
@@ -45,7 +55,7 @@ pub(crate) fn call<R: Wait>(
     let now = u64::from(chance.draw() % 16);
     match chance.draw() % 32 {
         0..=10 => count(&mut tally.picked, gpu.pick(pass, ring, now, rt).is_ok()),
-        11..=16 => count(&mut tally.packets, gpu.step(pass, ring, rt).is_ok()),
+        11..=16 => step(gpu, pass, ring, tally, rt),
         17..=25 => count(&mut tally.finished, gpu.finish(pass, ring, now, rt).is_ok()),
         26 => {
             gpu.timeout(pass, ring, now, rt);
@@ -102,7 +112,7 @@ fn drive<R: Wait>(gpu: &Gpu, pass: &mut Pass, ring: RingId, now: Moment, tally: 
 {
     count(&mut tally.picked, gpu.pick(pass, ring, now, rt).is_ok());
     for _ in 0..3 {
-        count(&mut tally.packets, gpu.step(pass, ring, rt).is_ok());
+        step(gpu, pass, ring, tally, rt);
     }
     gpu.timeout(pass, ring, now.wrapping_add(10), rt);
     count(&mut tally.finished, gpu.finish(pass, ring, now, rt).is_ok());

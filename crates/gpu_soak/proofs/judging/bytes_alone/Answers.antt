@@ -11,3 +11,9 @@ use Rattle.gpu_soak.proofs.judging.bytes_alone.Goals as goal
 turns_fit : (spec : DeviceSpec) (records : List JobRecord) → JobsRunInTheirDevice → All (λ r. IsJob spec r.job) records → All (λ t. RunsIn spec.buffers t.job) (turns records)
 turns_fit spec records law are = All-map (λ t. RunsIn spec.buffers t.job) (λ r. record { job = r.job; ran = r.ran }) records
     (All-weaker (λ r. IsJob spec r.job) (λ r. RunsIn spec.buffers r.job) (λ r is. law spec r.job spec.buffers is refl) records are)
+
+pub run-requires : goal.run-requires
+run-requires c =
+    let taken : c.deref.result.now ≡ turns c.args.records.now = c.deref.ensures.value ∙ c.in_ok-turns.ensures in
+    let fit = turns_fit c.args.spec.now c.args.records.now c.jobs_run_in_their_device.ensures c.requires in
+    All-take (λ t. RunsIn c.args.spec.now.buffers t.job) _ _ (subst (λ ts. All (λ t. RunsIn c.args.spec.now.buffers t.job) ts) (sym taken) fit)
