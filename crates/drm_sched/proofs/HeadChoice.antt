@@ -225,8 +225,7 @@ choice_found d waits h ring entity steady stand heads there is =
           (ap (λ n. nat_lt n (rank_of is.key.priority) || ((n == rank_of is.key.priority) && nat_lt y.0.age is.key.age)) y.2
           ∙ (ap (λ n. nat_lt (rank_of x.priority) (rank_of is.key.priority) || ((rank_of x.priority == rank_of is.key.priority) && nat_lt n is.key.age)) y.3 ∙ before));
     } in
-    let own = candidate_key d ring entity k c in
-    (
+    let own = candidate_key d ring entity k c in (
       choice_is_first d ring (Unmet h.waiters.pairs) entity (answers d waits h ring steady stand heads) found
           ∙ sym (ap (option_map (λ (n : ℕ × JobRecord). n.0)) own.front.first),
       slice_get_within d.spec.entities entity own.spec own.at,

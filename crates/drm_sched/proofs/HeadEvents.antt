@@ -211,16 +211,18 @@ finish_ends d n ring now f o steady here is = by_head (head_of d ring) refl is
         sym (ap (λ z. option_map_or {U = Answer × DeviceState} (λ r. (answer.Finished g (final_outcome r), finished_device d ring now g (final_outcome r))) z (answer.Ok, d)) h.1.at) ∙ is in
         let answered : answer.Finished g (final_outcome h.0) ≡ answer.Finished f o = ap (λ (z : Answer × DeviceState). z.0) told in
         let same : g ≡ f = cc (answered) in
-        let left : finished_device d ring now g (final_outcome h.0) ≡ n = ap (λ (z : Answer × DeviceState). z.1) told in
-        (record {
-          spec = sym (ap (λ (z : DeviceState). z.spec) left);
-          entities = sym (ap (λ (z : DeviceState). z.entities) left);
-          job = h.0;
-          at = subst (λ k. slice_get d.journal k ≡ Some h.0) same h.1.at;
-          how = final_outcome h.0;
-          journal = sym (ap (λ (z : DeviceState). z.journal) left)
-              ∙ (changed_is d.journal g h.0 (λ r. record r { phase = Ended (final_outcome h.0) }) h.1.at ∙ ap (λ k. set d.journal k (record h.0 { phase = Ended (final_outcome h.0) })) same);
-        }, h.1.phase)
+        let left : finished_device d ring now g (final_outcome h.0) ≡ n = ap (λ (z : Answer × DeviceState). z.1) told in (
+          record {
+            spec = sym (ap (λ (z : DeviceState). z.spec) left);
+            entities = sym (ap (λ (z : DeviceState). z.entities) left);
+            job = h.0;
+            at = subst (λ k. slice_get d.journal k ≡ Some h.0) same h.1.at;
+            how = final_outcome h.0;
+            journal = sym (ap (λ (z : DeviceState). z.journal) left)
+                ∙ (changed_is d.journal g h.0 (λ r. record r { phase = Ended (final_outcome h.0) }) h.1.at ∙ ap (λ k. set d.journal k (record h.0 { phase = Ended (final_outcome h.0) })) same);
+          },
+          h.1.phase,
+        )
 
 reap_ends : (d n : DeviceState) (entity f : ℕ) → reap_outcome d entity ≡ (answer.Reaped f, n) → (e : EndsJob d n f) × (e.job.job.entity ≡ entity)
 reap_ends d n entity f is = by_first (first (queue_of entity d.journal)) refl is
@@ -233,16 +235,18 @@ reap_ends d n entity f is = by_first (first (queue_of entity d.journal)) refl is
         let front = first_is d.journal entity m some in
         let answered : answer.Reaped m.0 ≡ answer.Reaped f = ap (λ (z : Answer × DeviceState). z.0) is in
         let same : m.0 ≡ f = cc (answered) in
-        let left : record d { journal = ended_at d.journal m.0 outcome.Stopped } ≡ n = ap (λ (z : Answer × DeviceState). z.1) is in
-        (record {
-          spec = sym (ap (λ (z : DeviceState). z.spec) left);
-          entities = sym (ap (λ (z : DeviceState). z.entities) left);
-          job = m.1;
-          at = subst (λ k. slice_get d.journal k ≡ Some m.1) same front.at;
-          how = outcome.Stopped;
-          journal = sym (ap (λ (z : DeviceState). z.journal) left)
-              ∙ (changed_is d.journal m.0 m.1 (λ r. record r { phase = Ended outcome.Stopped }) front.at ∙ ap (λ k. set d.journal k (record m.1 { phase = Ended outcome.Stopped })) same);
-        }, front.of_entity)
+        let left : record d { journal = ended_at d.journal m.0 outcome.Stopped } ≡ n = ap (λ (z : Answer × DeviceState). z.1) is in (
+          record {
+            spec = sym (ap (λ (z : DeviceState). z.spec) left);
+            entities = sym (ap (λ (z : DeviceState). z.entities) left);
+            job = m.1;
+            at = subst (λ k. slice_get d.journal k ≡ Some m.1) same front.at;
+            how = outcome.Stopped;
+            journal = sym (ap (λ (z : DeviceState). z.journal) left)
+                ∙ (changed_is d.journal m.0 m.1 (λ r. record r { phase = Ended outcome.Stopped }) front.at ∙ ap (λ k. set d.journal k (record m.1 { phase = Ended outcome.Stopped })) same);
+          },
+          front.of_entity,
+        )
 
 -- the heads after a job ended that was in no queue, or in that of a stopped entity
 pub finish_heads : (d n : DeviceState) (waits new_waits : List (List (ℕ × ℕ))) (h k : Heads) (ring now f : ℕ) (o : Outcome) → IsSteady d → ring < length d.spec.rings

@@ -30,8 +30,8 @@ use crate::answer::{Expired, Finished, Picked, Refusal, Stepped};
 use crate::journal::JobRecord;
 use crate::life::{BuildError, Closed};
 use crate::marked::{Begun, MarkedTable};
-use crate::scheduler::Scheduler;
 use crate::plans::{Held, Plan};
+use crate::scheduler::Scheduler;
 use crate::table::Table;
 use crate::uses;
 use drm_buffer::Buffer;
@@ -395,7 +395,12 @@ impl Device {
     pub fn record(&self, fence: FenceId) -> Option<&JobRecord>
         ensures { MatchOption result (slice_get self.now.state.journal fence ≡ None) (λ r. slice_get self.now.state.journal fence ≡ Some r.now) }
     {
-        self.parts.marked.table.journal.as_slice().get(fence as usize)
+        self.parts
+            .marked
+            .table
+            .journal
+            .as_slice()
+            .get(fence as usize)
     }
 
     /// Takes the device apart (`drm_sched_fini`), and takes no memory. A buffer that is out is still with who runs its
