@@ -1,18 +1,15 @@
 -- Which heads of queues a ring may take.
-use Rattle.std.proofs.Common.{◌≡◌, ◌≢◌, ℕ, Bool, true, false, not, ◌==◌, ◌&&◌, List, Some, None, Option, refl, sym, ap, subst, ◌∙◌, inl, inr, arith, slice_get}
+use Rattle.std.proofs.Common.{◌≡◌, ℕ, true, false, ◌==◌, List, Some, None, Option, refl, sym, ap, subst, ◌∙◌, arith, slice_get}
 use Rattle.std.specs.Prelude.{option_map}
 use Rattle.std.specs.Option.{option_map_or}
 use Rattle.std.specs.List.{list_all}
-use Rattle.std.proofs.lemmas.Bool.{and_parts, and_from, cases_eq, eqb-true, eq-eqb}
-use Rattle.drm_types.specs.declared.spec.DeviceSpec.{DeviceSpec}
-use Rattle.drm_types.specs.declared.spec.EntitySpec.{EntitySpec}
+use Rattle.std.proofs.lemmas.Bool.{and_parts, eqb-true, eq-eqb}
 use Rattle.drm_types.specs.Firsts.{first}
-use Rattle.drm_types.specs.Priorities.{rank_of}
 use Rattle.drm_fence.specs.declared.phase.Phase.{Phase}
 use Rattle.drm_fence.specs.declared.phase.Phase.TheVariants.{Queued, Scheduled, Ended}
 use Rattle.drm_fence.specs.Phases.{is_queued, has_ended}
 use Rattle.drm_sched.specs.declared.journal.JobRecord.{JobRecord}
-use Rattle.drm_sched.specs.State.{EntityState, DeviceState}
+use Rattle.drm_sched.specs.State.{DeviceState}
 use Rattle.drm_sched.specs.Journal.{numbered, is_at}
 use Rattle.drm_sched.specs.Order.{is_met, is_ready}
 use Rattle.drm_sched.specs.Choice.{queue_of, is_head_of}

@@ -1,12 +1,10 @@
 -- The first entity of a ring's run queue whose head waits for nothing has the job that the ring takes next.
 use Rattle.std.proofs.Common.{◌≡◌, ℕ, suc, ◌<◌, Bool, true, false, cond, not, ◌&&◌, ◌||◌, ◌==◌, List, [], ◌∷◌, length, map, Some, None, Option, refl, sym, ap, subst, ◌∙◌, arith, slice_get, nat_lt}
-use Rattle.std.specs.Prelude.{IsTrue, option_map, filter}
+use Rattle.std.specs.Prelude.{option_map, filter}
 use Rattle.std.specs.Option.{option_map_or}
 use Rattle.std.specs.List.{list_all}
 use Rattle.std.proofs.lemmas.Bool.{and_parts, and_from, eqb-true, eq-eqb, ne_eqb}
-use Rattle.std.proofs.lemmas.List.{length-map}
 use Rattle.std.proofs.lemmas.Option.{slice_get_within}
-use Rattle.drm_types.specs.declared.spec.DeviceSpec.{DeviceSpec}
 use Rattle.drm_types.specs.declared.spec.EntitySpec.{EntitySpec}
 use Rattle.drm_types.specs.Firsts.{first}
 use Rattle.drm_types.specs.Priorities.{rank_of}
@@ -17,7 +15,7 @@ use Rattle.drm_runq.specs.Keys.{HasKey, comes_before}
 use Rattle.drm_runq.specs.Keys as keys
 use Rattle.drm_sched.specs.declared.heads.Heads.{Heads}
 use Rattle.drm_sched.specs.declared.journal.JobRecord.{JobRecord}
-use Rattle.drm_sched.specs.Candidates.{IsHeadCandidate, goes_first}
+use Rattle.drm_sched.specs.Candidates.{IsHeadCandidate}
 use Rattle.drm_sched.specs.Choice.{queue_of, choice}
 use Rattle.drm_sched.specs.Heads.{keys_at, key_of, head_key, HeadsStand}
 use Rattle.drm_sched.specs.Journal.{is_at}
@@ -28,7 +26,7 @@ use Rattle.drm_sched.specs.State.{EntityState, DeviceState}
 use Rattle.drm_sched.specs.Steady.{IsSteady}
 use Rattle.drm_sched.specs.Watching.{pair_of, unmet_pairs, watched_of}
 use Rattle.drm_sched.proofs.Candidates.{head_number, ready_by_waits}
-use Rattle.drm_sched.proofs.ChoiceByKeys.{IsFirstReady, NoneReady, AnswersReady, choice_is_first, choice_is_none}
+use Rattle.drm_sched.proofs.ChoiceByKeys.{IsFirstReady, AnswersReady, choice_is_first, choice_is_none}
 use Rattle.drm_sched.proofs.Queues.{IsFront, front_is, head_numbered}
 use Rattle.drm_sched.proofs.Records.{stands_within}
 use Rattle.drm_sched.proofs.Watching.{unmet_is}

@@ -1,5 +1,5 @@
 -- The heads of the queues, as they stand after each event.
-use Rattle.std.proofs.Common.{◌≡◌, ◌≢◌, ℕ, ◌+◌, ◌-◌, ◌<◌, Bool, true, false, cond, not, ◌&&◌, ◌||◌, ◌==◌, List, [], ◌∷◌, ◌++◌, length, set, map, Some, None, Option, refl, sym, ap, subst, ◌∙◌, inl, inr, arith, slice_get, nat_lt}
+use Rattle.std.proofs.Common.{◌≡◌, ◌≢◌, ℕ, ◌-◌, ◌<◌, Bool, true, false, cond, not, ◌&&◌, ◌||◌, ◌==◌, List, [], ◌∷◌, length, set, map, Some, None, Option, refl, sym, ap, subst, ◌∙◌, inl, inr, slice_get, nat_lt}
 use Rattle.std.specs.Prelude.{is_none}
 use Rattle.std.specs.Option.{option_map_or}
 use Rattle.std.specs.List.{filter}
@@ -11,15 +11,15 @@ use Rattle.drm_types.proofs.Firsts.{none_first}
 use Rattle.drm_fence.specs.declared.pair.Pair.{Pair}
 use Rattle.drm_fence.specs.declared.phase.Phase.{Phase}
 use Rattle.drm_fence.specs.declared.phase.Phase.TheVariants.{Queued, Scheduled, Ended}
-use Rattle.drm_fence.specs.Phases.{is_queued, is_scheduled, has_ended}
+use Rattle.drm_fence.specs.Phases.{is_queued, is_scheduled}
 use Rattle.drm_packet.specs.declared.Packet.{Packet}
 use Rattle.drm_sched.specs.declared.answer.Answer.{Answer}
 use Rattle.drm_sched.specs.declared.answer.Answer.TheVariants as answer
 use Rattle.drm_sched.specs.declared.heads.Heads.{Heads}
 use Rattle.drm_sched.specs.declared.journal.JobRecord.{JobRecord}
 use Rattle.drm_sched.specs.Choice.{queue_of, choice, is_head_of}
-use Rattle.drm_sched.specs.Heads.{head_key, key_of, with_key, HeadsStand, HeadsStandBut}
-use Rattle.drm_sched.specs.Journal.{is_at, is_complete, changed_at}
+use Rattle.drm_sched.specs.Heads.{head_key, with_key, HeadsStand, HeadsStandBut}
+use Rattle.drm_sched.specs.Journal.{is_at, is_complete}
 use Rattle.drm_sched.specs.Order.{is_met}
 use Rattle.drm_sched.specs.Outcomes.{must_stall, at_record, stepped_by, ran_device, step_outcome, hung, hung_device, condemned, condemned_device, is_too_much, hang_outcome, timeout_at, timeout_outcome, ended_at, final_outcome, finished_device, finish_outcome, picked_device, pick_outcome, reap_outcome}
 use Rattle.drm_sched.specs.Ring.{is_stopped, head_of, current_of, limit_of, age_of, is_guilty, entity_changed}

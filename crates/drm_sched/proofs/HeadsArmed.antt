@@ -1,5 +1,5 @@
 -- The heads of the queues after an arming, and after a cancel.
-use Rattle.std.proofs.Common.{◌≡◌, ◌≢◌, ℕ, zero, suc, ◌+◌, ◌<◌, Bool, true, false, cond, not, ◌&&◌, ◌==◌, List, [], ◌∷◌, ◌++◌, length, set, map, Some, None, Option, refl, sym, ap, subst, ◌∙◌, inl, inr, ◌⊎◌, arith, slice_get}
+use Rattle.std.proofs.Common.{◌≡◌, ◌≢◌, ℕ, suc, ◌+◌, ◌<◌, Bool, true, false, cond, not, ◌&&◌, ◌==◌, List, [], ◌∷◌, ◌++◌, length, set, map, Some, None, Option, refl, sym, ap, subst, ◌∙◌, inl, inr, arith, slice_get}
 use Rattle.std.specs.Option.{option_map_or}
 use Rattle.std.specs.List.{filter, enumerate_from}
 use Rattle.std.proofs.lemmas.Bool.{cases_eq, ne_eqb, eq-eqb}
@@ -9,7 +9,6 @@ use Rattle.drm_types.specs.declared.spec.DeviceSpec.{DeviceSpec}
 use Rattle.drm_types.specs.Firsts.{first}
 use Rattle.drm_job.specs.declared.Draft.{Draft}
 use Rattle.drm_fence.specs.declared.pair.Pair.{Pair}
-use Rattle.drm_fence.specs.Phases.{is_queued}
 use Rattle.drm_sched.specs.declared.heads.Heads.{Heads}
 use Rattle.drm_sched.specs.declared.journal.JobRecord.{JobRecord}
 use Rattle.drm_sched.specs.Arming.{armed_device, new_record}

@@ -1,5 +1,5 @@
 -- What changes of the heads when one is put in place, or taken out.
-use Rattle.std.proofs.Common.{◌≡◌, ◌≢◌, ℕ, ◌<◌, Bool, true, false, cond, ◌&&◌, ◌==◌, List, [], ◌∷◌, length, set, Some, None, Option, refl, sym, ap, subst, ◌∙◌, inl, inr, arith, slice_get, get_or}
+use Rattle.std.proofs.Common.{◌≡◌, ◌≢◌, ℕ, ◌<◌, Bool, true, false, cond, ◌&&◌, ◌==◌, List, [], length, set, Some, None, Option, refl, sym, ap, subst, ◌∙◌, inl, inr, arith, slice_get, get_or}
 use Rattle.std.specs.Prelude.{option_map, All}
 use Rattle.std.proofs.lemmas.List.Elements.{All-weaker}
 use Rattle.std.specs.Option.{option_map_or}
@@ -21,7 +21,7 @@ use Rattle.drm_sched.specs.State.{DeviceState}
 use Rattle.drm_sched.specs.Watching.{unmet_pairs, watched_of}
 use Rattle.drm_sched.specs.declared.table.Table.{Table}
 use Rattle.drm_sched.specs.Plain.{marks_of}
-use Rattle.drm_sched.specs.Tables.{state_of, IsWhole}
+use Rattle.drm_sched.specs.Tables.{IsWhole}
 use Rattle.drm_sched.specs.Waits.{IsDependency}
 use Rattle.drm_fence.specs.Phases.{has_ended}
 use Rattle.std.proofs.lemmas.Option.{slice_get_within}

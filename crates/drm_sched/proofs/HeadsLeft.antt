@@ -1,20 +1,19 @@
 -- What an event leaves of the heads of the queues.
-use Rattle.std.proofs.Common.{◌≡◌, ◌≢◌, ℕ, zero, suc, ◌+◌, ◌<◌, Bool, true, false, cond, not, ◌&&◌, ◌||◌, ◌==◌, List, [], ◌∷◌, ◌++◌, map, length, set, Some, None, Option, refl, sym, ap, subst, ◌∙◌, inl, inr, arith, slice_get, nat_lt}
+use Rattle.std.proofs.Common.{◌≡◌, ◌≢◌, ℕ, zero, suc, ◌+◌, Bool, true, false, cond, not, ◌&&◌, ◌||◌, ◌==◌, List, [], ◌∷◌, map, length, set, Some, None, Option, refl, sym, ap, subst, ◌∙◌, inl, inr, arith, slice_get, nat_lt}
 use Rattle.std.specs.Option.{option_map_or}
 use Rattle.std.specs.List.{filter, enumerate_from}
 use Rattle.std.proofs.lemmas.Bool.{cases_Bool, cases_eq, eq-eqb, and_parts, ltb-true, ltb-false}
 use Rattle.std.proofs.lemmas.List.{length-set, length-map}
-use Rattle.std.proofs.lemmas.Option.{slice_get_within, slice_get_past}
+use Rattle.std.proofs.lemmas.Option.{slice_get_past}
 use Rattle.drm_types.specs.declared.spec.DeviceSpec.{DeviceSpec}
 use Rattle.drm_types.specs.Firsts.{first}
 use Rattle.drm_fence.specs.Phases.{is_queued, has_ended}
 use Rattle.drm_fence.specs.declared.pair.Pair.{Pair}
-use Rattle.drm_runq.specs.declared.key.Key.{Key}
 use Rattle.drm_sched.specs.declared.heads.Heads.{Heads}
 use Rattle.drm_sched.specs.declared.journal.JobRecord.{JobRecord}
 use Rattle.drm_sched.specs.Choice.{queue_of}
 use Rattle.drm_sched.specs.Heads.{key_of, head_key, HeadsAre, HeadsStand, HeadsStandBut}
-use Rattle.drm_sched.specs.Journal.{is_at, numbered}
+use Rattle.drm_sched.specs.Journal.{is_at}
 use Rattle.drm_sched.specs.Order.{is_met}
 use Rattle.drm_sched.specs.Ring.{is_stopped}
 use Rattle.drm_sched.specs.State.{DeviceState}

@@ -1,12 +1,11 @@
 -- What a device keeps of the heads of its queues, by which a pick finds its job.
-use Rattle.std.specs.Prelude.{◌≡◌, ◌≢◌, ℕ, Bool, ◌==◌, ◌&&◌, if◌then◌else◌, List, [], Option, Some, None, length, option_map, slice_get, slice_set}
+use Rattle.std.specs.Prelude.{◌≡◌, ℕ, Bool, ◌==◌, ◌&&◌, if◌then◌else◌, List, [], Option, Some, None, length, option_map, slice_get, slice_set}
 use Rattle.std.specs.Option.{option_map_or}
 use Rattle.std.specs.List.{count_by}
 use Rattle.drm_types.specs.declared.spec.DeviceSpec.{DeviceSpec}
 use Rattle.drm_types.specs.Firsts.{first}
 use Rattle.drm_fence.specs.declared.pair.Pair.{Pair}
 use Rattle.drm_runq.specs.declared.key.Key.{Key}
-use Rattle.drm_sched.specs.declared.journal.JobRecord.{JobRecord}
 use Rattle.drm_sched.specs.declared.heads.Heads.{Heads}
 use Rattle.drm_sched.specs.State.{DeviceState}
 use Rattle.drm_sched.specs.Choice.{queue_of}

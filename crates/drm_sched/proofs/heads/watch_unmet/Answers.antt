@@ -1,7 +1,6 @@
 use Rattle.std.proofs.Common.{◌≡◌, ◌<◌, ◌+◌, ℕ, length, take, refl, sym, subst, ◌∙◌, slice_index_or, get_or, List}
 use Rattle.std.proofs.lemmas.Option.{slice_get-get_or}
 use Rattle.std.proofs.lemmas.List.{take_all}
-use Rattle.drm_fence.specs.Waiting.{Waiting}
 use Rattle.drm_resv.specs.Latest.{IsPerEntity}
 use Rattle.drm_sched.specs.Heads.{AreWatched}
 use Rattle.drm_sched.specs.Watching.{unmet_pairs}

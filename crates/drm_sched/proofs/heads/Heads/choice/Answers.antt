@@ -1,4 +1,4 @@
-use Rattle.std.proofs.Common.{◌≡◌, ◌∙◌, sym, subst, ap}
+use Rattle.std.proofs.Common.{◌∙◌, sym}
 use Rattle.drm_sched.specs.Tables.{state_of}
 use Rattle.drm_sched.proofs.HeadChoice.{choice_found, choice_missing}
 use Rattle.drm_sched.proofs.Queues.{head_is_first}
