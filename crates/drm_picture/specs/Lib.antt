@@ -1,0 +1,7 @@
+pub mod Deeds
+pub mod Bars
+pub mod Marks
+pub mod Pictures
+pub mod Escape
+pub mod Layout
+pub mod Svg
