@@ -22,7 +22,7 @@ word_of (deed.Timeout ring now) = codes "timeout"
 word_of (deed.Cancel entity) = codes "cancel"
 word_of (deed.Reap entity) = codes "reap"
 word_of (deed.Read ctx buffer) = codes "read"
-word_of (deed.Status fence) = codes "status"
+word_of (deed.Status fence) = codes "fence"
 word_of (deed.Dump buffer) = codes "dump"
 
 -- the moment that it tells

@@ -69,7 +69,7 @@ what_of (lane.Buffer buffer) = codes ": context "
 what_of _ = codes ": fence "
 
 -- what a bar tells: its lane, its fence or context, where it begins, how long it is and how it ended
-abbrev pub title_of : Bar → List ℕ
+unfoldable pub title_of : Bar → List ℕ
 title_of bar =
     name_of bar.opening.lane ++ what_of bar.opening.lane ++ decimal bar.opening.number ++ codes ", from command " ++ decimal bar.from
     ++ codes " for " ++ decimal bar.span ++ codes " commands -> " ++ word_of_look bar.look
@@ -134,6 +134,10 @@ abbrev pub each_below : (ℕ → List ℕ) → ℕ → List ℕ
 each_below text zero = []
 each_below text (suc n) = each_below text n ++ text n
 
+-- the name of the fences, left of the first
+abbrev pub fences_text : Shape → List ℕ
+fences_text shape = LANE.now ++ decimal (row_of_lane shape (lane.Fence 0)) ++ codes "8'>fences" ++ TEXT_END.now
+
 -- the size, and the colours
 abbrev pub head_text : ℕ → ℕ → List ℕ
 head_text columns rows = HEAD.now ++ decimal columns ++ codes "0' height='" ++ decimal rows ++ STYLE.now
@@ -144,6 +148,7 @@ inside_text picture =
     each_below (λ n. lane_text picture.shape (lane.Ring n)) picture.shape.rings
     ++ each_below (λ n. lane_text picture.shape (lane.Entity n)) picture.shape.entities
     ++ each_below (λ n. lane_text picture.shape (lane.Buffer n)) picture.shape.buffers
+    ++ fences_text picture.shape
     ++ columns_text picture.columns.items
     ++ flat_map (bar_text picture.shape (codes "job")) picture.jobs.items
     ++ flat_map (bar_text picture.shape (codes "queued")) picture.queued.items

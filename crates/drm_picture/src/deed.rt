@@ -56,7 +56,7 @@ impl Deed {
             Deed::Cancel { .. } => "cancel",
             Deed::Reap { .. } => "reap",
             Deed::Read { .. } => "read",
-            Deed::Status { .. } => "status",
+            Deed::Status { .. } => "fence",
             Deed::Dump { .. } => "dump",
         }
     }

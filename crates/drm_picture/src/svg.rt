@@ -1,7 +1,7 @@
 //! A picture as a text that a browser shows.
 
 ghost use Rattle.std.specs.Prelude.{◌≡◌, ◌++◌, decimal, flat_map, IfOk, OnOk};
-ghost use Rattle.drm_picture.specs.Svg.{above_text, bar_text, class_of, column_text, columns_text, each_below, head_text, inside_text, label_text, lane_text, mark_place, mark_text, mark_title, moment_text, name_of, place_text, shape_of, sign_of_look, svg_of, title_of, title_text, what_of, word_of_look, word_of_sign};
+ghost use Rattle.drm_picture.specs.Svg.{above_text, bar_text, class_of, column_text, columns_text, each_below, fences_text, head_text, inside_text, label_text, lane_text, mark_place, mark_text, mark_title, moment_text, name_of, place_text, shape_of, sign_of_look, svg_of, title_of, title_text, what_of, word_of_look, word_of_sign};
 
 use crate::bars::{Bar, Lane, Look};
 use crate::deed::Deed;
@@ -167,6 +167,7 @@ fn what(lane: Lane) -> &'static str
 }
 
 // What a bar tells.
+#[tactic(auto, unfolding(crate::specs::Svg::title_of))]
 fn title(alloc: Global, bar: &Bar) -> Result<Vec<u8>, AllocError>
     ensures { IfOk result (λ text. text.items ≡ title_of bar.now) }
 {
@@ -397,6 +398,16 @@ fn put_buffers(out: &mut Vec<u8>, shape: Shape) -> Result<(), AllocError>
     Ok(())
 }
 
+// Puts the name of the fences left of the first.
+fn put_fences(out: &mut Vec<u8>, shape: Shape) -> Result<(), AllocError>
+    ensures { OnOk result (out.new.items ≡ out.old.items ++ fences_text shape) }
+{
+    put_text(out, LANE)?;
+    put_number(out, lane_row(shape, Lane::Fence(0)))?;
+    put_text(out, "8'>fences")?;
+    put_text(out, TEXT_END)
+}
+
 // Puts the head: the size, in pixels, and the colours.
 fn put_head(out: &mut Vec<u8>, columns: u64, rows: u64) -> Result<(), AllocError>
     ensures { OnOk result (out.new.items ≡ out.old.items ++ head_text columns rows) }
@@ -415,6 +426,7 @@ fn put_inside(alloc: Global, out: &mut Vec<u8>, picture: &Picture) -> Result<(),
     put_rings(out, picture.shape)?;
     put_entities(out, picture.shape)?;
     put_buffers(out, picture.shape)?;
+    put_fences(out, picture.shape)?;
     put_columns(out, &picture.columns)?;
     put_bars(alloc, out, picture.shape, "job", &picture.jobs)?;
     put_bars(alloc, out, picture.shape, "queued", &picture.queued)?;
