@@ -1,0 +1,30 @@
+-- What is drawn of a script.
+use Rattle.std.proofs.Common.{◌≡◌, ◌<◌, ℕ, List, Option, Some, None, length, refl, subst}
+use Rattle.std.specs.Io.KnownBytes.{Keeps}
+use Rattle.drm_sched.specs.declared.answer.Answer.{Answer}
+use Rattle.drm_picture.specs.declared.deed.Step.{Step}
+use Rattle.drm_picture.specs.declared.picture.Shape.{Shape}
+use Rattle.drm_script.specs.declared.script.Script.{Script}
+use Rattle.drm_engine.specs.Replaying.{AreAnswers}
+use Rattle.drm_draw.specs.Drawing.{AreSteps, IsDrawn, IsDrawnOf, IsTooLong, part_of, shape_of}
+
+-- the steps of a script
+abbrev pub StepsOf : Script → List Step → Type 0
+StepsOf script steps = (answers : List Answer) × AreAnswers script answers × AreSteps script.lines answers steps
+
+-- a part of them that was drawn is drawn of the script
+pub drawn_of : (script : Script) (from to : ℕ) (steps items part : List Step) (shape : Shape) (text : List ℕ) → StepsOf script steps → shape ≡ shape_of script.spec → items ≡ steps
+    → part ≡ part_of from to items → IsDrawn shape part text → IsDrawnOf script from to text
+drawn_of script from to steps items part shape text of lanes kept cut drawn =
+    let whole : IsDrawn shape (part_of from to steps) text = subst (λ (ss : List Step). IsDrawn shape (part_of from to ss) text) kept (subst (λ (ss : List Step). IsDrawn shape ss text) cut drawn) in
+    (of.0, steps, of.1, of.2, subst (λ (s : Shape). IsDrawn s (part_of from to steps) text) lanes whole)
+
+-- a part of them that is too long
+pub too_long : (script : Script) (from to : ℕ) (steps items part : List Step) → StepsOf script steps → items ≡ steps → part ≡ part_of from to items → 5000 < length part → IsTooLong script from to
+too_long script from to steps items part of kept cut long =
+    (of.0, steps, of.1, of.2, subst (λ (ss : List Step). 5000 < length (part_of from to ss)) kept (subst (λ (ss : List Step). 5000 < length ss) cut long))
+
+-- what is not written to keeps what it holds
+pub untouched : (bytes : Option (List ℕ)) → Keeps bytes bytes
+untouched None = tt
+untouched (Some bytes) = refl

@@ -1,0 +1,98 @@
+-- Pictures of runs: what is written is the picture of what the script that is read does.
+use Rattle.std.specs.Prelude.{◌≡◌, ◌<◌, ℕ, List, Option, Ok, IfSome, length, map, min, slice_range}
+use Rattle.std.specs.Io.KnownBytes.{Appends, Keeps}
+use Rattle.drm_types.specs.declared.spec.DeviceSpec.{DeviceSpec}
+use Rattle.drm_sched.specs.declared.answer.Answer.{Answer}
+use Rattle.drm_core.specs.declared.event.Event.{Event}
+use Rattle.drm_core.specs.declared.event.Event.TheVariants as event
+use Rattle.drm_picture.specs.declared.deed.Deed.{Deed}
+use Rattle.drm_picture.specs.declared.deed.Deed.TheVariants as deed
+use Rattle.drm_picture.specs.declared.deed.Step.{Step}
+use Rattle.drm_picture.specs.declared.picture.Picture.{Picture}
+use Rattle.drm_picture.specs.declared.picture.Shape.{Shape}
+use Rattle.drm_picture.specs.Pictures.{IsPicture}
+use Rattle.drm_picture.specs.Svg.{svg_of}
+use Rattle.drm_script.specs.declared.script.Script.{Script}
+use Rattle.drm_script.specs.Script.{judge_script}
+use Rattle.drm_script.specs.Transfer.{AppendsFront}
+use Rattle.drm_engine.specs.Endings.{status_of}
+use Rattle.drm_engine.specs.Replaying.{AreAnswers, Replays}
+use Rattle.drm_draw.specs.declared.drawing.Drawing.{Drawing}
+use Rattle.drm_draw.specs.declared.drawing.Drawing.TheVariants as drawing
+use Rattle.drm_engine.specs.declared.ending.Ending.{Ending}
+use Rattle.drm_engine.specs.declared.ending.Ending.TheVariants as ending
+
+-- what a command does, without the packets of its job
+abbrev pub deed_of : Event → Deed
+deed_of (event.Submit draft) = deed.Submit draft.entity
+deed_of (event.Begin ctx) = deed.Begin ctx
+deed_of (event.Try ctx buffer) = deed.Try ctx buffer
+deed_of (event.Done ctx) = deed.Done ctx
+deed_of (event.Drop ctx buffer) = deed.Drop ctx buffer
+deed_of (event.End ctx) = deed.End ctx
+deed_of (event.Plan ctx draft) = deed.Plan ctx draft.entity
+deed_of (event.Arm ctx) = deed.Arm ctx
+deed_of (event.Pick ring now) = deed.Pick ring now
+deed_of (event.Step ring) = deed.Step ring
+deed_of (event.Finish ring now) = deed.Finish ring now
+deed_of (event.Timeout ring now) = deed.Timeout ring now
+deed_of (event.Cancel entity) = deed.Cancel entity
+deed_of (event.Reap entity) = deed.Reap entity
+deed_of (event.Read ctx buffer) = deed.Read ctx buffer
+deed_of (event.Status fence) = deed.Status fence
+deed_of (event.Dump buffer) = deed.Dump buffer
+
+-- the lanes of a device, which has at most 64 of each
+abbrev pub shape_of : DeviceSpec → Shape
+shape_of spec = record { rings = min (length spec.rings) 64; entities = min (length spec.entities) 64; buffers = min (length spec.buffers) 64 }
+
+-- each event with the answer to it
+abbrev pub AreSteps : List Event → List Answer → List Step → Type 0
+AreSteps events answers steps = (map (λ step. step.deed) steps ≡ map deed_of events) × (map (λ step. step.answer) steps ≡ answers)
+
+-- the steps from one place to before another
+abbrev pub part_of : ℕ → ℕ → List Step → List Step
+part_of from to steps = slice_range steps (min from (min to (length steps))) (min to (length steps))
+
+-- the text of the picture of these steps
+abbrev pub IsDrawn : Shape → List Step → List ℕ → Type 0
+IsDrawn shape steps text = (picture : Picture) × IsPicture shape steps picture × (text ≡ svg_of picture)
+
+-- the text of the picture of a part of what the script does
+abbrev pub IsDrawnOf : Script → ℕ → ℕ → List ℕ → Type 0
+IsDrawnOf script from to text =
+    (answers : List Answer) × (steps : List Step) × AreAnswers script answers × AreSteps script.lines answers steps × IsDrawn (shape_of script.spec) (part_of from to steps) text
+
+-- how many commands of the script are in the part
+abbrev pub IsTooLong : Script → ℕ → ℕ → Type 0
+IsTooLong script from to =
+    (answers : List Answer) × (steps : List Step) × AreAnswers script answers × AreSteps script.lines answers steps × (5000 < length (part_of from to steps))
+
+-- what each ending says of a script that was read, and of what the writer holds before and after
+abbrev pub DrawsScript : Script → ℕ → ℕ → Option (List ℕ) → Option (List ℕ) → Drawing → Type 0
+DrawsScript script from to old new (drawing.Ended ending.Done) = (text : List ℕ) × IsDrawnOf script from to text × Appends old new text
+DrawsScript script from to old new (drawing.Ended ending.NoOutput) = (text : List ℕ) × IsDrawnOf script from to text × AppendsFront old new text
+DrawsScript script from to old new (drawing.Ended ending.NoMemory) = Keeps old new
+DrawsScript script from to old new (drawing.Ended ending.Differs) = ⊥
+DrawsScript script from to old new (drawing.Ended ending.NoInput) = ⊥
+DrawsScript script from to old new (drawing.Ended (ending.Fault fault)) = ⊥
+DrawsScript script from to old new drawing.TooMany = IsTooLong script from to × Keeps old new
+
+-- a script that the input spells where it is known, of which this holds
+abbrev pub SpellsScript : Option (List ℕ) → (Script → Type 0) → Type 0
+SpellsScript input Hold = (script : Script) × IfSome input (λ text. judge_script text ≡ Ok script) × Hold script
+
+-- what each ending says of the input and of what the writer holds before and after
+abbrev pub Draws : ℕ → ℕ → Option (List ℕ) → Option (List ℕ) → Option (List ℕ) → Drawing → Type 0
+Draws from to input old new (drawing.Ended ending.Done) = SpellsScript input (λ script. DrawsScript script from to old new (drawing.Ended ending.Done))
+Draws from to input old new (drawing.Ended ending.NoOutput) = SpellsScript input (λ script. DrawsScript script from to old new (drawing.Ended ending.NoOutput))
+Draws from to input old new (drawing.Ended ending.NoMemory) = Keeps old new
+Draws from to input old new (drawing.Ended ending.Differs) = ⊥
+Draws from to input old new (drawing.Ended ending.NoInput) = Keeps old new
+Draws from to input old new (drawing.Ended (ending.Fault fault)) = Replays input old new (ending.Fault fault)
+Draws from to input old new drawing.TooMany = SpellsScript input (λ script. DrawsScript script from to old new drawing.TooMany)
+
+-- the exit status: too many commands are a fault of the command line
+abbrev pub status_of_drawing : Drawing → ℕ
+status_of_drawing (drawing.Ended ending) = status_of ending
+status_of_drawing drawing.TooMany = 2
