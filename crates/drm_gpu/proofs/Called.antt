@@ -1,6 +1,6 @@
 -- What a call tells of its pass.
 use Rattle.std.proofs.Common.{◌≡◌, ℕ, [], ◌∷◌, ◌++◌, refl, sym, ap, ◌∙◌, subst, Some, None, Result, Ok, Err}
-use Rattle.std.specs.Prelude.{Option, IfOk, IfErr, OnOk, IsPermutation}
+use Rattle.std.specs.Prelude.{◌||◌, Option, IfOk, IfErr, OnOk, IsPermutation}
 use Rattle.atomic_table.specs.Seated.{TableId}
 use Rattle.ww_lock.specs.Begun.{IsJoined, sees}
 use Rattle.ww_lock.specs.Fences.{NotBack}
@@ -32,13 +32,13 @@ is_found spec v p k later = record { lawful = later.fine; later = later.grown (l
 
 -- a pass of which only the last device and the calls are others
 pass_is : (gpu : GpuState) (old new : PassState) (found : MarkedDevice) → old.gpu ≡ gpu → new.gpu ≡ gpu → new.calls ≡ old.calls ++ (found, new.last) ∷ [] → new.looked ≡ old.looked
-    → new.had ≡ old.had → new.met ≡ old.met → new.part ≡ old.part → new ≡ record old { last = new.last; calls = old.calls ++ (found, new.last) ∷ [] }
-pass_is gpu old new found at same calls looked had met part =
-    λ i. record { gpu = (same ∙ sym at) i; last = new.last; calls = calls i; looked = looked i; had = had i; met = met i; part = part i }
+    → new.had ≡ old.had → new.met ≡ old.met → new.part ≡ old.part → new.tickets_out ≡ old.tickets_out → new ≡ record old { last = new.last; calls = old.calls ++ (found, new.last) ∷ [] }
+pass_is gpu old new found at same calls looked had met part tickets =
+    λ i. record { gpu = (same ∙ sym at) i; last = new.last; calls = calls i; looked = looked i; had = had i; met = met i; tickets_out = tickets i; part = part i }
 
 -- nothing but what was seen last has changed, twice
 pub same_trans : (v s t : Seeing) → IsSameBut v s → IsSameBut s t → IsSameBut v t
-same_trans v s t a b = (b.0 ∙ a.0, b.1 ∙ a.1, b.2 ∙ a.2, b.3 ∙ a.3, b.4 ∙ a.4)
+same_trans v s t a b = (b.0 ∙ a.0, b.1 ∙ a.1, b.2 ∙ a.2, b.3 ∙ a.3, b.4 ∙ a.4, b.5 ∙ a.5)
 
 -- what a caller finds that has seen more meanwhile
 pub found_back : (d : MarkedDevice) (v s : Seeing) → GrowsTo (last_of v) (last_of s) → IsSameBut v s → IsFound d s → IsFound d v
@@ -62,6 +62,7 @@ calls_as does v s t d f e found same is on out adds holds =
         adds.2 ∙ same.2,
         adds.3 ∙ same.3,
         adds.4 ∙ same.4,
+        adds.5 ∙ same.5,
       );
     }
 
@@ -72,7 +73,7 @@ calls_after does v s t on same c = record {
   is_found = found_back c.found v s on same c.is_found;
   event = c.event;
   onward = c.onward;
-  adds = (c.adds.0 ∙ ap (λ cs. cs ++ (c.found, last_of t) ∷ []) same.0, c.adds.1 ∙ same.1, c.adds.2 ∙ same.2, c.adds.3 ∙ same.3, c.adds.4 ∙ same.4);
+  adds = (c.adds.0 ∙ ap (λ cs. cs ++ (c.found, last_of t) ∷ []) same.0, c.adds.1 ∙ same.1, c.adds.2 ∙ same.2, c.adds.3 ∙ same.3, c.adds.4 ∙ same.4, c.adds.5 ∙ same.5);
 }
 
 -- what a caller that saw v and sees t tells of its pass, which was old
@@ -91,7 +92,8 @@ calls_are does gpu old home after v t view belongs at c = record {
       (c.adds.1 ∙ ap (λ (o : PassState). o.looked) view)
       (c.adds.2 ∙ ap (λ (o : PassState). o.had) view)
       (c.adds.3 ∙ ap (λ (o : PassState). o.met) view)
-      (c.adds.4 ∙ ap (λ (o : PassState). o.part) view);
+      (c.adds.4 ∙ ap (λ (o : PassState). o.part) view)
+      (c.adds.5 ∙ ap (λ (o : PassState). o.tickets_out) view);
 }
 
 -- the same where a packet of a ring went out
@@ -118,6 +120,7 @@ started_of gpu old home ring out v s view belongs o =
         looked = (o.same.1 ∙ ap (λ (p : PassState). p.looked) view) i;
         had = (o.same.2 ∙ ap (λ (p : PassState). p.had) view) i;
         met = (o.same.3 ∙ ap (λ (p : PassState). p.met) view) i;
+        tickets_out = (o.same.5 ∙ ap (λ (p : PassState). p.tickets_out) view) i;
         part = (o.same.4 ∙ ap (λ (p : PassState). p.part) view) i;
       };
     }
@@ -164,5 +167,6 @@ joined_of gpu one other h k v u t first second belongs kv ku seat j =
       looked = ap (λ (z : Seeing). z.looked) j.2 ∙ (ap (λ (o : PassState). o.looked ++ u.looked) first ∙ ap (λ (o : PassState). one.looked ++ o.looked) second);
       had = ap (λ (z : Seeing). z.lock.had) j.2 ∙ (ap (λ (o : PassState). o.had ++ u.lock.had) first ∙ ap (λ (o : PassState). one.had ++ o.had) second);
       met = ap (λ (z : Seeing). z.lock.met) j.2 ∙ (ap (λ (o : PassState). o.met ++ u.lock.met) first ∙ ap (λ (o : PassState). one.met ++ o.met) second);
+      tickets_out = ap (λ (z : Seeing). z.lock.ended) j.2 ∙ (ap (λ (o : PassState). o.tickets_out || u.lock.ended) first ∙ ap (λ (o : PassState). one.tickets_out || o.tickets_out) second);
       part = ap (λ (z : Seeing). z.part) j.2 ∙ (ap (λ (o : PassState). o.part ++ u.part) first ∙ ap (λ (o : PassState). one.part ++ o.part) second);
     }

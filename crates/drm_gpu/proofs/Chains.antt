@@ -70,7 +70,7 @@ module _ (gpu : GpuState) (p q : MarkedDevice) where
       (ap (λ (z : Seeing). z.task) view ∙ (ap (task_after change) k.knows.waits ∙ turns)) in
       let last : last_of (sees t) ≡ q = last_is gpu.spec q (sees t) knows in (
         (record { idle = (out, knows.waits); knows = subst (λ d. Knows gpu.spec d (sees t)) (sym last) knows }, last),
-        (mine, ap (λ (z : Seeing). z.looked) view, ap (λ (z : Seeing). z.lock.had) view, ap (λ (z : Seeing). z.lock.met) view, ap (λ (z : Seeing). z.part) view),
+        (mine, ap (λ (z : Seeing). z.looked) view, ap (λ (z : Seeing). z.lock.had) view, ap (λ (z : Seeing). z.lock.met) view, ap (λ (z : Seeing). z.part) view, ap (λ (z : Seeing). z.lock.ended) view),
       )
 
   -- the same, where it has shown q by the word of a fence before
@@ -90,6 +90,7 @@ module _ (gpu : GpuState) (p q : MarkedDevice) where
           ap (λ (z : Seeing). z.lock.had) view ∙ ap (λ (z : Seeing). z.lock.had) post,
           ap (λ (z : Seeing). z.lock.met) view ∙ ap (λ (z : Seeing). z.lock.met) post,
           ap (λ (z : Seeing). z.part) view ∙ ap (λ (z : Seeing). z.part) post,
+          ap (λ (z : Seeing). z.lock.ended) view ∙ ap (λ (z : Seeing). z.lock.ended) post,
         ),
       )
 
@@ -99,7 +100,7 @@ pub left_quietly : {before after : Option Task} (spec : DeviceSpec) (p q r : Mar
 left_quietly spec p q r xs v w change k on turns view =
     let knows = knows_entered spec p q v w k (ap (λ (z : Seeing). z.pivot.seen) view) (ap (λ (z : Seeing). z.pivot.mine) view) (ap (λ (z : Seeing). z.task) view ∙ (ap (task_after change) k.waits ∙ turns)) on in (
       (knows, last_is spec q w knows),
-      (ap (λ (z : Seeing). z.pivot.mine) view, ap (λ (z : Seeing). z.looked) view, ap (λ (z : Seeing). z.lock.had) view, ap (λ (z : Seeing). z.lock.met) view, ap (λ (z : Seeing). z.part) view),
+      (ap (λ (z : Seeing). z.pivot.mine) view, ap (λ (z : Seeing). z.looked) view, ap (λ (z : Seeing). z.lock.had) view, ap (λ (z : Seeing). z.lock.met) view, ap (λ (z : Seeing). z.part) view, ap (λ (z : Seeing). z.lock.ended) view),
     )
 
 -- what two joined passes know

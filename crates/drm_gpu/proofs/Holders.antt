@@ -87,7 +87,7 @@ left_view spec p q r xs v w k fresh on e view =
     ap (λ (z : Seeing). z.pivot.mine) view ∙ (ap (λ b. calls_with (true && not b) v.pivot.mine r q) fresh ∙ ap (λ n. v.pivot.mine ++ (n, q) ∷ []) is) in
     let knows : Knows spec q w = knows_called spec p q v w k on (ap (λ (z : Seeing). z.pivot.seen) view) mine (ap (λ (z : Seeing). z.task) view ∙ k.waits) in
     let last : last_of w ≡ q = last_is spec q w knows in
-    ((subst (λ d. Knows spec d w) (sym last) knows, last), (mine, ap (λ (z : Seeing). z.looked) view, ap (λ (z : Seeing). z.lock.had) view, ap (λ (z : Seeing). z.lock.met) view, ap (λ (z : Seeing). z.part) view))
+    ((subst (λ d. Knows spec d w) (sym last) knows, last), (mine, ap (λ (z : Seeing). z.looked) view, ap (λ (z : Seeing). z.lock.had) view, ap (λ (z : Seeing). z.lock.met) view, ap (λ (z : Seeing). z.part) view, ap (λ (z : Seeing). z.lock.ended) view))
 
 -- the same, where it has shown q before
 pub shown_view : (spec : DeviceSpec) (p q r r' : MarkedDevice) (xs ys : List (ℕ × WithRoom)) (v u w : Seeing) → Knows spec p v → GrowsTo p q → v.pivot.seen ≡ r ∷ []
@@ -105,6 +105,7 @@ shown_view spec p q r r' xs ys v u w k on e post view =
         ap (λ (z : Seeing). z.lock.had) view ∙ ap (λ (z : Seeing). z.lock.had) post,
         ap (λ (z : Seeing). z.lock.met) view ∙ ap (λ (z : Seeing). z.lock.met) post,
         ap (λ (z : Seeing). z.part) view ∙ ap (λ (z : Seeing). z.part) post,
+        ap (λ (z : Seeing). z.lock.ended) view ∙ ap (λ (z : Seeing). z.lock.ended) post,
       ),
     )
 

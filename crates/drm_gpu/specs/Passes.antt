@@ -1,5 +1,5 @@
 -- A device that is shared, its passes, and what a call with one says.
-use Rattle.std.specs.Prelude.{◌≡◌, ℕ, false, List, [], ◌∷◌, ◌++◌, Option, Some, None, IsPermutation}
+use Rattle.std.specs.Prelude.{◌≡◌, ◌||◌, ℕ, Bool, false, List, [], ◌∷◌, ◌++◌, Option, Some, None, IsPermutation}
 use Rattle.atomic_table.specs.Seated.{TableId}
 use Rattle.ww_lock.specs.declared.board.View.{View}
 use Rattle.ww_lock.specs.declared.lifetime.Seat.{Seat}
@@ -33,8 +33,8 @@ pub record GpuState : Type 0 where
   pub spec : DeviceSpec
 
 -- a pass: its device, the state of that device which it saw last, its calls as (found, left), the fence words that it
--- looked at, the claims that it made, the holders that its tries met, and its part of the device: pieces, each told by how often it
--- was halved. The parts of all passes make up the whole
+-- looked at, the claims that it made, the holders that its tries met, whether it was told that all tickets are drawn, and its part of
+-- the device: pieces, each told by how often it was halved. The parts of all passes make up the whole
 pub record PassState : Type 0 where
   pub gpu : GpuState
   pub last : MarkedDevice
@@ -42,6 +42,7 @@ pub record PassState : Type 0 where
   pub looked : List (ℕ × ℕ)
   pub had : List (ℕ × ℕ)
   pub met : List (ℕ × ℕ)
+  pub tickets_out : Bool
   pub part : List ℕ
 
 -- what a seat of the device knows
@@ -74,12 +75,13 @@ pass_of home v = record {
   looked = v.looked;
   had = v.lock.had;
   met = v.lock.met;
+  tickets_out = v.lock.ended;
   part = v.part;
 }
 
 -- a pass that has done nothing, to a device that was just built
 abbrev pub first_pass : GpuState → PassState
-first_pass gpu = record { gpu = gpu; last = unmarked (opened_device gpu.spec); calls = []; looked = []; had = []; met = []; part = 0 ∷ [] }
+first_pass gpu = record { gpu = gpu; last = unmarked (opened_device gpu.spec); calls = []; looked = []; had = []; met = []; tickets_out = false; part = 0 ∷ [] }
 
 -- one device of this description was seen last. The calls are a chain, what each left grows to what was seen, and this task is the seat's
 pub record KnowsWith (task : Option Task) (spec : DeviceSpec) (last : MarkedDevice) (v : Seeing) : Type 0 where
@@ -118,12 +120,12 @@ Entered = EnteredWithTask None
 -- only what was seen last has changed
 abbrev pub IsSameBut : Seeing → Seeing → Type 0
 IsSameBut v w =
-    (w.pivot.mine ≡ v.pivot.mine) × (w.looked ≡ v.looked) × (w.lock.had ≡ v.lock.had) × (w.lock.met ≡ v.lock.met) × (w.part ≡ v.part)
+    (w.pivot.mine ≡ v.pivot.mine) × (w.looked ≡ v.looked) × (w.lock.had ≡ v.lock.had) × (w.lock.met ≡ v.lock.met) × (w.part ≡ v.part) × (w.lock.ended ≡ v.lock.ended)
 
 -- and one call was added
 abbrev pub Adds : MarkedDevice → MarkedDevice → Seeing → Seeing → Type 0
 Adds found left v w =
-    (w.pivot.mine ≡ v.pivot.mine ++ (found, left) ∷ []) × (w.looked ≡ v.looked) × (w.lock.had ≡ v.lock.had) × (w.lock.met ≡ v.lock.met) × (w.part ≡ v.part)
+    (w.pivot.mine ≡ v.pivot.mine ++ (found, left) ∷ []) × (w.looked ≡ v.looked) × (w.lock.had ≡ v.lock.had) × (w.lock.met ≡ v.lock.met) × (w.part ≡ v.part) × (w.lock.ended ≡ v.lock.ended)
 
 -- a device that a caller finds: it is lawful, came of the one that was seen last, and shows no fence earlier than it was looked at
 pub record IsFound (found : MarkedDevice) (v : Seeing) : Type 0 where
@@ -162,4 +164,5 @@ pub record IsJoinedOf (one other new : PassState) : Type 0 where
   pub looked : new.looked ≡ one.looked ++ other.looked
   pub had : new.had ≡ one.had ++ other.had
   pub met : new.met ≡ one.met ++ other.met
+  pub tickets_out : new.tickets_out ≡ (one.tickets_out || other.tickets_out)
   pub part : new.part ≡ one.part ++ other.part

@@ -209,7 +209,8 @@ impl Gpu {
     ///
     /// # Errors
     ///
-    /// Where memory is refused or all tickets were drawn. The pass and the job come back as they were.
+    /// Where memory is refused, and then the pass and the job come back as they were; or where all tickets were drawn, which
+    /// the pass knows from then on: it never begins again.
     pub fn begin<'g, R: Wait>(
         &'g self,
         alloc: Global,
@@ -221,6 +222,7 @@ impl Gpu {
         requires job { IsJob self.now.spec job }
         ensures begun { IfOk result (λ l. (l.pass ≡ pass) × (l.job ≡ job) × (l.held ≡ [])) }
         ensures ticket { IfOk result (λ l. IsNewTicket pass l.ticket) }
+        ensures tickets_left { IfOk result (λ _. pass.tickets_out ≡ false) }
         ensures refused { IfErr result (λ e. IsBack pass job e) }
     {
         let Pass { seat } = pass;
@@ -247,6 +249,7 @@ impl Gpu {
         requires { pass.gpu ≡ self.now }
         ensures holding { IfOk result (λ a. Holding self.now a × (a.sealed ≡ false) × (a.held.items ≡ [])) }
         ensures pass { IfOk result (λ a. pass_of self.now.home (view a) ≡ pass) }
+        ensures tickets_left { IfOk result (λ _. pass.tickets_out ≡ false) }
         ensures refused { IfErr result (IsBackFromRead pass) }
     {
         let Pass { seat } = pass;
@@ -261,7 +264,8 @@ impl Gpu {
     ///
     /// # Errors
     ///
-    /// Where memory is refused or all tickets were drawn. The pass comes back as it was.
+    /// Where memory is refused, and then the pass comes back as it was; or where all tickets were drawn, which the pass knows
+    /// from then on: it never begins again.
     pub fn begin_read<'g, R: Wait>(
         &'g self,
         alloc: Global,
@@ -272,6 +276,7 @@ impl Gpu {
         requires pass { pass.gpu ≡ self.now }
         requires buffer { buffer < length self.now.spec.buffers }
         ensures begun { IfOk result (λ r. (r.buffer ≡ buffer) × (r.pass ≡ record pass { had = r.pass.had; met = r.pass.met })) }
+        ensures tickets_left { IfOk result (λ _. pass.tickets_out ≡ false) }
         ensures refused { IfErr result (IsBackFromRead pass) }
     {
         let mut acquire = self.draw(alloc, pass, rt)?;

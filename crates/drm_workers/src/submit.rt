@@ -14,7 +14,7 @@ use drm_types::FenceId;
 use std::alloc::Global;
 use std::sync::Wait;
 
-// Draws a ticket for the job, or gives the pass back where no turn is left.
+// Draws a ticket for the job, or gives the pass back where no turn or no ticket is left.
 fn begin<'g, R: Wait>(
     gpu: &'g Gpu,
     alloc: Global,
@@ -26,7 +26,7 @@ fn begin<'g, R: Wait>(
     requires pass { pass.gpu ≡ gpu.now }
     requires job { IsJob gpu.now.spec job }
     ensures begun { IfOk result (λ l. (l.pass ≡ pass) × (l.job ≡ job)) }
-    ensures back { IfErr result (λ p. p ≡ pass) }
+    ensures back { IfErr result (HasArmed [] pass) }
 {
     let mut pass = pass;
     let mut job = job;
@@ -37,10 +37,7 @@ fn begin<'g, R: Wait>(
                 pass = same;
                 job = back;
             }
-            Err(BeginError::TicketsOut(same, back)) => {
-                pass = same;
-                job = back;
-            }
+            Err(BeginError::TicketsOut(same, _job)) => return Err(same),
         }
         if !turns.make(1) {
             return Err(pass);

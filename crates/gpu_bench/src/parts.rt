@@ -4,16 +4,14 @@ ghost use Rattle.gpu_bench.specs.Devices.{IsBatch, IsEven, WorksOn};
 
 use crate::devices::{Work, description, jobs_of};
 use crate::workers::{Stage, Worker, work_in_threads};
-use drm_gpu::{Closed, Driver, Gpu, Pass};
+use drm_gpu::{Closed, Gpu, Pass};
 use drm_job::Job;
-use drm_sched::Device;
 use drm_types::{BufferId, DeviceSpec, RingId};
 use std::alloc::{AllocError, Global};
 use std::io;
 use std::sync::Wait;
 use std::thread::Threads;
 use std::time::{Clock, Duration, Instant};
-use ww_lock::Board;
 
 /// How many rings the device has, and so how many threads there may be.
 pub(crate) const RINGS: u32 = 8;
@@ -126,21 +124,11 @@ fn hire(
     Ok((workers, left))
 }
 
-// A board of the kind that a device has: by it a proof knows what of a device may cross threads.
-fn spare_board(alloc: Global) -> Result<Board<Driver>, AllocError> {
-    let Ok(device) = Device::build(alloc, description(alloc, 1, 1)?) else {
-        return Err(AllocError);
-    };
-    let (board, _seat) = Board::<Driver>::new(alloc, device, Vec::new(alloc), 0)?;
-    Ok(board)
-}
-
 // All stages, one after another.
 fn run_stages<R: Threads + Wait + Sync>(
     gpu: &Gpu,
     workers: Vec<Worker>,
     stages: &[Stage],
-    spare: &Board<Driver>,
     rt: &R,
     alloc: Global,
 ) -> Result<Vec<Worker>, AllocError>
@@ -149,7 +137,7 @@ fn run_stages<R: Threads + Wait + Sync>(
 {
     let mut workers = workers;
     for &stage in stages {
-        workers = work_in_threads(gpu, workers, stage, spare, rt, alloc)?;
+        workers = work_in_threads(gpu, workers, stage, rt, alloc)?;
     }
     Ok(workers)
 }
@@ -213,16 +201,15 @@ pub(crate) fn run_part<R: Threads + Wait + Clock + Sync>(
     let max_jobs = part.jobs.saturating_mul(threads).max(1);
     let spec = description(alloc, RINGS, max_jobs)?;
     let batches = batches(alloc, &spec, threads, part)?;
-    let spare = spare_board(alloc)?;
     let Ok((gpu, pass)) = Gpu::build(alloc, spec) else {
         return Err(AllocError.into());
     };
     let (workers, pass) = hire(&gpu, pass, batches, part.rounds, alloc)?;
-    let workers = run_stages(&gpu, workers, part.before, &spare, rt, alloc)?;
+    let workers = run_stages(&gpu, workers, part.before, rt, alloc)?;
     let start = Instant::now(rt)?;
-    let workers = run_stages(&gpu, workers, part.timed, &spare, rt, alloc)?;
+    let workers = run_stages(&gpu, workers, part.timed, rt, alloc)?;
     let took = start.elapsed(rt)?;
-    let workers = run_stages(&gpu, workers, part.after, &spare, rt, alloc)?;
+    let workers = run_stages(&gpu, workers, part.after, rt, alloc)?;
     let sum = sum_of(&workers);
     Ok(tell(gpu, pass, sum, took, alloc)?)
 }

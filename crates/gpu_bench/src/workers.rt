@@ -3,7 +3,7 @@ ghost use Rattle.std.specs.Prelude.{◌≡◌, ◌<◌, All, IfOk, length};
 ghost use Rattle.gpu_bench.specs.Devices.{WorksOn};
 
 use crate::rounds::{Reach, look, run_one, run_packet, split_and_join, submit_and_run};
-use drm_gpu::{Driver, Gpu, Pass};
+use drm_gpu::{Gpu, Pass};
 use drm_job::Job;
 use drm_sched::Expired;
 use drm_types::RingId;
@@ -11,7 +11,6 @@ use std::alloc::{AllocError, Global};
 use std::sync::Wait;
 use std::thread;
 use std::thread::Threads;
-use ww_lock::Board;
 
 /// One thread: its pass, its ring, and the jobs that it is to submit.
 #[derive(Drop)]
@@ -188,14 +187,13 @@ pub(crate) fn work_in_threads<R: Threads + Wait + Sync>(
     gpu: &Gpu,
     workers: Vec<Worker>,
     stage: Stage,
-    spare: &Board<Driver>,
     rt: &R,
     alloc: Global,
 ) -> Result<Vec<Worker>, AllocError>
     requires { All (WorksOn gpu.now) workers.items }
     ensures { IfOk result (λ done. All (WorksOn gpu.now) done.items) }
 {
-    spare.crosses_threads();
+    gpu.crosses_threads();
     thread::map_vec(
         rt,
         workers,

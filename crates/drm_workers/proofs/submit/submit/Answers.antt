@@ -4,7 +4,7 @@ use Rattle.drm_workers.proofs.Arming.{has_then, locks_arm, same_pass}
 use Rattle.drm_workers.proofs.submit.submit.Goals as goal
 
 pub returns-in_err-locking : goal.returns-in_err-locking
-returns-in_err-locking g c = let h : HasArmed [] c.args.pass c.in_err-locking.field-0.0 = same_pass _ _ c.in_err-locking.ensures.back in search rules
+returns-in_err-locking g c = let h : HasArmed [] c.args.pass c.in_err-locking.field-0.0 = c.in_err-locking.ensures.back in search rules
 
 pub returns-then-not-passes : goal.returns-then-not-passes
 returns-then-not-passes g c =

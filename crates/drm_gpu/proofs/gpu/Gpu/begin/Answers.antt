@@ -1,4 +1,4 @@
-use Rattle.std.proofs.Common.{◌∙◌, ap, subst}
+use Rattle.std.proofs.Common.{◌≡◌, ◌∙◌, ap, subst, false}
 use Rattle.ww_lock.specs.Acquiring.{HoldsOutside, view}
 use Rattle.ww_lock.specs.Begun.{sees}
 use Rattle.ww_lock.specs.Rule.{In}
@@ -35,3 +35,6 @@ pub returns-in-Ok-clause-ticket : goal.returns-in-Ok-clause-ticket
 returns-in-Ok-clause-ticket g c =
     let below = c.in-Ok.ensures.next.2 in
     subst (λ (o : PassState). IsNewTicket o c.in-Ok.acquire.ticket) c.pass.view_is (below.1, below.2)
+
+pub returns-in-Ok-clause-tickets_left : goal.returns-in-Ok-clause-tickets_left
+returns-in-Ok-clause-tickets_left g c = subst (λ (o : PassState). o.tickets_out ≡ false) c.pass.view_is c.in-Ok.ensures.next.3

@@ -1,4 +1,4 @@
-use Rattle.std.proofs.Common.{◌∙◌, ap, sym, subst}
+use Rattle.std.proofs.Common.{◌≡◌, ◌∙◌, ap, sym, subst, false}
 use Rattle.ww_lock.specs.Acquiring.{HoldsOutside}
 use Rattle.ww_lock.specs.Begun.{sees}
 use Rattle.drm_gpu.specs.Passes.{GpuState, PassState, Seeing, Knows, last_of, pass_of}
@@ -31,3 +31,6 @@ invariant_of-result-in-Err-TicketsOut g c =
     let v = sees c.pass.inside.seat in
     let k = c.pass.invariant.knows in
     seated_again c.self.inside.board.table.shared.table_id (last_of v).state.spec v c.in-Err-TicketsOut.seat k (idle k.waits) (ap (λ m. m.0.pivot) back.2) (ap (λ m. m.0.task) back.2)
+
+pub returns-in-Ok-clause-tickets_left : goal.returns-in-Ok-clause-tickets_left
+returns-in-Ok-clause-tickets_left g c = subst (λ (o : PassState). o.tickets_out ≡ false) c.pass.view_is c.in-Ok.ensures.next.3

@@ -26,4 +26,4 @@ returns-clause-found g c = is_found c.args.self.now.spec (sees c.args.seat.now) 
 pub returns-clause-same : goal.returns-clause-same
 returns-clause-same g c =
     let view = c.enter.ensures.view in
-    (ap (λ (z : Seeing). z.pivot.mine) view, ap (λ (z : Seeing). z.looked) view, ap (λ (z : Seeing). z.lock.had) view, ap (λ (z : Seeing). z.lock.met) view, ap (λ (z : Seeing). z.part) view)
+    (ap (λ (z : Seeing). z.pivot.mine) view, ap (λ (z : Seeing). z.looked) view, ap (λ (z : Seeing). z.lock.had) view, ap (λ (z : Seeing). z.lock.met) view, ap (λ (z : Seeing). z.part) view, ap (λ (z : Seeing). z.lock.ended) view)

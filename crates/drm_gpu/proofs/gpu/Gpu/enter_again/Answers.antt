@@ -29,4 +29,4 @@ returns-clause-busy g c = c.enter.ensures.later.waits c.args.task.now c.requires
 pub returns-clause-same : goal.returns-clause-same
 returns-clause-same g c =
     let view = c.enter.ensures.view in
-    (ap (λ (z : Seeing). z.pivot.mine) view, ap (λ (z : Seeing). z.looked) view, ap (λ (z : Seeing). z.lock.had) view, ap (λ (z : Seeing). z.lock.met) view, ap (λ (z : Seeing). z.part) view)
+    (ap (λ (z : Seeing). z.pivot.mine) view, ap (λ (z : Seeing). z.looked) view, ap (λ (z : Seeing). z.lock.had) view, ap (λ (z : Seeing). z.lock.met) view, ap (λ (z : Seeing). z.part) view, ap (λ (z : Seeing). z.lock.ended) view)

@@ -31,4 +31,4 @@ pub returns-clause-same : goal.returns-clause-same
 returns-clause-same g c =
     let e = c.enter_with.ensures.view in
     let s = c.enter_with.ensures.same in
-    ((s.0.0, s.0.1, s.1), (ap (λ (z : Seeing). z.pivot.mine) e, ap (λ (z : Seeing). z.looked) e, ap (λ (z : Seeing). z.lock.had) e, ap (λ (z : Seeing). z.lock.met) e, ap (λ (z : Seeing). z.part) e))
+    ((s.0.0, s.0.1, s.1), (ap (λ (z : Seeing). z.pivot.mine) e, ap (λ (z : Seeing). z.looked) e, ap (λ (z : Seeing). z.lock.had) e, ap (λ (z : Seeing). z.lock.met) e, ap (λ (z : Seeing). z.part) e, ap (λ (z : Seeing). z.lock.ended) e))
