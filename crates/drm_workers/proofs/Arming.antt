@@ -1,5 +1,5 @@
 -- What one call more has armed, by the laws of what calls arm.
-use Rattle.std.proofs.Common.{◌≡◌, ℕ, List, [], ◌∷◌, ◌++◌, Result, sym, ap, ◌∙◌, subst}
+use Rattle.std.proofs.Common.{◌≡◌, ℕ, true, List, [], ◌∷◌, ◌++◌, Result, sym, ap, ◌∙◌, subst}
 use Rattle.drm_job.specs.declared.Draft.{Draft}
 use Rattle.drm_resv.specs.Reservation.{Reservation}
 use Rattle.drm_sched.specs.declared.answer.Refusal.{Refusal}
@@ -77,6 +77,10 @@ stays old new gpu last calls = record {
 
 pub same_pass : (old new : PassState) → new ≡ old → HasArmed [] old new
 same_pass old new is = stays old new (ap (λ p. p.gpu) is) (ap (λ p. p.last) is) (ap (λ p. p.calls) is)
+
+-- a pass that was told that all tickets are drawn
+pub told_arms : (old new : PassState) → new ≡ record old { tickets_out = true } → HasArmed [] old new
+told_arms old new is = stays old new (ap (λ p. p.gpu) is) (ap (λ p. p.last) is) (ap (λ p. p.calls) is)
 
 pub locks_arm : (old new : Submission) → GoesOn old new → HasArmed [] old.pass new.pass
 locks_arm old new on = stays old.pass new.pass (ap (λ p. p.gpu) on.2) (ap (λ p. p.last) on.2) (ap (λ p. p.calls) on.2)
