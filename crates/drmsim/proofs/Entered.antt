@@ -24,7 +24,7 @@ use Rattle.std.proofs.lemmas.Option.{same_Some}
 use Rattle.clap.specs.Walk.{first_of, one_of, rows_of}
 use Rattle.clap.specs.Matches.{first_value, found_of, one_text}
 use Rattle.clap.proofs.WalkLemmas.{first_value-rows, one_text-rows}
-use Rattle.drmsim.specs.CommandLine.{number_entered, option_entered, program_app, word_entered}
+use Rattle.drmsim.specs.CommandLine.{number_entered, option_entered, program_app, word_entered, word_given}
 
 -- where the walk over the words has not stopped at `help`
 abbrev StopsElsewhere : Option (Text × List Text) → Type 0
@@ -119,23 +119,25 @@ wants_command true wants_help wants_argument passed = refl
 wants_command false true wants_argument passed = absurd (cc)
 wants_command false false wants_argument passed = absurd (cc)
 
--- what was entered is the command of an engine, or that which runs a script in threads, or that which explains
+-- what was entered is the command of an engine, or that which runs a script in threads, or that which explains, or that which draws
 abbrev Named : {X : Type 0} → (X → Text) → Option X → Type 0
 Named name entered =
-    ((engine : Engine) × (option_map name entered ≡ Some (word_of engine))) ⊎ ((option_map name entered ≡ Some (codes "run")) ⊎ (option_map name entered ≡ Some (codes "explain")))
+    ((engine : Engine) × (option_map name entered ≡ Some (word_of engine))) ⊎ ((option_map name entered ≡ Some (codes "run")) ⊎ ((option_map name entered ≡ Some (codes "explain")) ⊎ (option_map name entered ≡ Some (codes "draw"))))
 
--- what was entered is one of the first five of six
-first_five : {X Y : Type 0} (enter : X → Y) (name : Y → Text) (a b c r e d : X) (is_a is_b is_c is_r is_e is_d : Bool)
-    → name (enter a) ≡ word_of engine.Replay → name (enter b) ≡ word_of engine.Serial → name (enter c) ≡ word_of engine.Check → name (enter r) ≡ codes "run" → name (enter e) ≡ codes "explain" → is_d ≡ false
-    → is_some (option_map enter (cond (is_a || false) (Some a) (cond (is_b || false) (Some b) (cond (is_c || false) (Some c) (cond (is_r || false) (Some r) (cond (is_e || false) (Some e) (cond (is_d || false) (Some d) None))))))) ≡ true
-    → Named name (option_map enter (cond (is_a || false) (Some a) (cond (is_b || false) (Some b) (cond (is_c || false) (Some c) (cond (is_r || false) (Some r) (cond (is_e || false) (Some e) (cond (is_d || false) (Some d) None)))))))
-first_five enter name a b c r e d true is_b is_c is_r is_e is_d x y z u v other some = inl (engine.Replay, ap Some x)
-first_five enter name a b c r e d false true is_c is_r is_e is_d x y z u v other some = inl (engine.Serial, ap Some y)
-first_five enter name a b c r e d false false true is_r is_e is_d x y z u v other some = inl (engine.Check, ap Some z)
-first_five enter name a b c r e d false false false true is_e is_d x y z u v other some = inr (inl (ap Some u))
-first_five enter name a b c r e d false false false false true is_d x y z u v other some = inr (inr (ap Some v))
-first_five enter name a b c r e d false false false false false true x y z u v other some = absurd (cc)
-first_five enter name a b c r e d false false false false false false x y z u v other some = absurd (cc)
+-- what was entered is one of the first six of seven
+first_six : {X Y : Type 0} (enter : X → Y) (name : Y → Text) (a b c r e w d : X) (is_a is_b is_c is_r is_e is_w is_d : Bool)
+    → name (enter a) ≡ word_of engine.Replay → name (enter b) ≡ word_of engine.Serial → name (enter c) ≡ word_of engine.Check → name (enter r) ≡ codes "run" → name (enter e) ≡ codes "explain"
+    → name (enter w) ≡ codes "draw" → is_d ≡ false
+    → is_some (option_map enter (cond (is_a || false) (Some a) (cond (is_b || false) (Some b) (cond (is_c || false) (Some c) (cond (is_r || false) (Some r) (cond (is_e || false) (Some e) (cond (is_w || false) (Some w) (cond (is_d || false) (Some d) None)))))))) ≡ true
+    → Named name (option_map enter (cond (is_a || false) (Some a) (cond (is_b || false) (Some b) (cond (is_c || false) (Some c) (cond (is_r || false) (Some r) (cond (is_e || false) (Some e) (cond (is_w || false) (Some w) (cond (is_d || false) (Some d) None))))))))
+first_six enter name a b c r e w d true is_b is_c is_r is_e is_w is_d x y z u v t other some = inl (engine.Replay, ap Some x)
+first_six enter name a b c r e w d false true is_c is_r is_e is_w is_d x y z u v t other some = inl (engine.Serial, ap Some y)
+first_six enter name a b c r e w d false false true is_r is_e is_w is_d x y z u v t other some = inl (engine.Check, ap Some z)
+first_six enter name a b c r e w d false false false true is_e is_w is_d x y z u v t other some = inr (inl (ap Some u))
+first_six enter name a b c r e w d false false false false true is_w is_d x y z u v t other some = inr (inr (inl (ap Some v)))
+first_six enter name a b c r e w d false false false false false true is_d x y z u v t other some = inr (inr (inr (ap Some t)))
+first_six enter name a b c r e w d false false false false false false true x y z u v t other some = absurd (cc)
+first_six enter name a b c r e w d false false false false false false false x y z u v t other some = absurd (cc)
 
 is_false : (b : Bool) → (b ≡ true → ⊥) → b ≡ false
 is_false true never = absurd (never refl)
@@ -149,8 +151,8 @@ entered_named : (stop : Option (Text × List Text)) → StopsElsewhere stop → 
 entered_named None elsewhere some = absurd (cc)
 entered_named (Some stop) elsewhere some =
     let other : bytes_eq (codes "help") stop.0 ≡ false = not_equal _ _ (λ same. elsewhere (sym same)) in
-    first_five (λ s. rows_at s stop.1) (λ p. p.0) _ _ _ _ _ _ (bytes_eq (codes "replay") stop.0) (bytes_eq (codes "serial") stop.0) (bytes_eq (codes "check") stop.0) (bytes_eq (codes "run") stop.0)
-    (bytes_eq (codes "explain") stop.0) (bytes_eq (codes "help") stop.0) refl refl refl refl refl other some
+    first_six (λ s. rows_at s stop.1) (λ p. p.0) _ _ _ _ _ _ _ (bytes_eq (codes "replay") stop.0) (bytes_eq (codes "serial") stop.0) (bytes_eq (codes "check") stop.0) (bytes_eq (codes "run") stop.0)
+    (bytes_eq (codes "explain") stop.0) (bytes_eq (codes "draw") stop.0) (bytes_eq (codes "help") stop.0) refl refl refl refl refl refl other some
 
 -- one level that clap refuses nowhere was walked to its end and has met the command that it wants
 level_passed : (s : Shape) (names : Names) (h : Held) (words : List Text) (has : Bool) (below : Kinds) → s.subcommand_required ≡ true
@@ -196,6 +198,23 @@ word_found a words m name is matches found =
     let rows = (matches (ap is_simple is ∙ refl)).1 in
     same_name (out-ArgMatches m).subcommand (subcommand_of program_app words) name (rows ∙ ap (λ (b : App). subcommand_of b words) is) found
 
+module _ {Z : Type 0} where
+  no_rows : (o : Option (Box SubCommand Z)) (rows : Option (Text × List Row)) → subcommand_rows o ≡ rows → None ≡ option_map (λ b. (out-SubCommand (box_value b)).name.now) o
+      → (name : Text) → option_map (λ p. p.0) rows ≡ Some name → ⊥
+  no_rows None rows is none name named = absurd (cc)
+  no_rows (Some b) rows is none name named = absurd (cc)
+
+-- where clap refuses the words nowhere, a parse has found a command
+pub none_entered : (a : App) (words : List Text) (m : ArgMatches) → a ≡ program_app → HasMatchesOf a words m → None ≡ subcommand_name_of m → fault_of program_app words ≡ [] → ⊥
+none_entered a words m is matches none passed =
+    let rows = (matches (ap is_simple is ∙ refl)).1 ∙ ap (λ (b : App). subcommand_of b words) is in
+    elim (command_entered words passed) [
+      | inl named ↦ no_rows (out-ArgMatches m).subcommand (subcommand_of program_app words) rows none _ named.1
+      | inr (inl named) ↦ no_rows (out-ArgMatches m).subcommand (subcommand_of program_app words) rows none _ named
+      | inr (inr (inl named)) ↦ no_rows (out-ArgMatches m).subcommand (subcommand_of program_app words) rows none _ named
+      | inr (inr (inr named)) ↦ no_rows (out-ArgMatches m).subcommand (subcommand_of program_app words) rows none _ named
+    ]
+
 -- the rows of a command that was entered are those that clap finds
 rows_found : (read : List Row → Option Text) (a : App) (words : List Text) (m own : ArgMatches) → a ≡ program_app → HasMatchesOf a words m
     → option_map (λ p. p.1) (subcommand_rows (out-ArgMatches m).subcommand) ≡ Some (rows_of (found_of own)) → option_and_then (λ p. read p.1) (subcommand_of program_app words) ≡ read (rows_of (found_of own))
@@ -207,6 +226,11 @@ rows_found read a words m own is matches rows =
 pub number_found : (a : App) (words : List Text) (m own : ArgMatches) → a ≡ program_app → HasMatchesOf a words m
     → option_map (λ p. p.1) (subcommand_rows (out-ArgMatches m).subcommand) ≡ Some (rows_of (found_of own)) → number_entered words ≡ first_value (found_of own) (codes "number")
 number_found a words m own is matches rows = rows_found (first_of (codes "number")) a words m own is matches rows ∙ sym (first_value-rows (found_of own) (codes "number"))
+
+-- and that of an option
+pub given_found : (name : Text) (a : App) (words : List Text) (m own : ArgMatches) → a ≡ program_app → HasMatchesOf a words m
+    → option_map (λ p. p.1) (subcommand_rows (out-ArgMatches m).subcommand) ≡ Some (rows_of (found_of own)) → word_given name words ≡ first_value (found_of own) name
+given_found name a words m own is matches rows = rows_found (first_of name) a words m own is matches rows ∙ sym (first_value-rows (found_of own) name)
 
 -- and the text of an option
 pub option_found : (name : Text) (a : App) (words : List Text) (m own : ArgMatches) → a ≡ program_app → HasMatchesOf a words m

@@ -8,7 +8,7 @@ use Rattle.clap.specs.declared.error.kind.ErrorKind.TheVariants.{OutOfMemory}
 use Rattle.drm_engine.specs.Engines.{word_of}
 use Rattle.drm_engine.specs.declared.engine.Engine.{Engine}
 use Rattle.drmsim.specs.declared.command_line.Request.{Request}
-use Rattle.drmsim.specs.declared.command_line.Request.TheVariants.{Run, Work, Explain}
+use Rattle.drmsim.specs.declared.command_line.Request.TheVariants.{Run, Work, Explain, Draw}
 
 -- the program without its commands, as clap reads it
 abbrev pub top_app : App
@@ -41,9 +41,17 @@ most_turns = 1000000000
 abbrev pub run_app : App
 run_app = with_rule (with_rule (new_app (codes "run")) (number_rule (codes "threads") most_submitters)) (number_rule (codes "turns") most_turns)
 
+-- an option that may be there, a text
+abbrev pub text_rule : Text → Rule
+text_rule name = record (new_rule name) { long = Some name; value_names = 1 }
+
+-- the command that draws a part of a run
+abbrev pub draw_app : App
+draw_app = with_rule (with_rule (new_app (codes "draw")) (text_rule (codes "from"))) (text_rule (codes "to"))
+
 -- the program with its commands
 abbrev pub program_app : App
-program_app = with_subcommand (with_subcommand (with_subcommand (with_subcommand (with_subcommand top_app (new_app (codes "replay")).top) (new_app (codes "serial")).top) (new_app (codes "check")).top) run_app.top) explain_app.top
+program_app = with_subcommand (with_subcommand (with_subcommand (with_subcommand (with_subcommand (with_subcommand top_app (new_app (codes "replay")).top) (new_app (codes "serial")).top) (new_app (codes "check")).top) run_app.top) explain_app.top) draw_app.top
 
 -- the name of the command that clap finds in the words
 abbrev pub word_entered : List Text → Option Text
@@ -52,6 +60,10 @@ word_entered words = option_map (λ p. p.0) (subcommand_of program_app words)
 -- the word behind the command that clap finds, where one stands for a number
 abbrev pub number_entered : List Text → Option Text
 number_entered words = option_and_then (λ p. first_of (codes "number") p.1) (subcommand_of program_app words)
+
+-- the word behind an option of the command that clap finds, where one stands there
+abbrev pub word_given : Text → List Text → Option Text
+word_given name words = option_and_then (λ p. first_of name p.1) (subcommand_of program_app words)
 
 -- the text of an option of the command that clap finds
 abbrev pub option_entered : Text → List Text → Option Text
@@ -63,12 +75,14 @@ IsNumber name most words n =
     ((text : Text) × (option_entered name words ≡ Some text) × (digits_value 10 (without_leading_plus text) ≡ n)) × ((0 < n) × (n ≤ most))
 
 -- clap finds in the words what is asked for: the command of the engine, that which runs a script by workers, with both its
--- numbers, or that which explains, and the word behind it
+-- numbers, that which explains, and the word behind it, or that which draws, and the words behind its options
 abbrev pub IsAsked : List Text → Request → Type 0
 IsAsked words (Run engine) = word_entered words ≡ Some (word_of engine)
 IsAsked words (Work submitters turns) =
     (word_entered words ≡ Some (codes "run")) × (IsNumber (codes "threads") most_submitters words submitters × IsNumber (codes "turns") most_turns words turns)
 IsAsked words (Explain word) = (word_entered words ≡ Some (codes "explain")) × (number_entered words ≡ option_map (λ w. w.now) word)
+IsAsked words (Draw from to) =
+    (word_entered words ≡ Some (codes "draw")) × ((word_given (codes "from") words ≡ option_map (λ w. w.now) from) × (word_given (codes "to") words ≡ option_map (λ w. w.now) to))
 
 -- the words are the program's name and the word of the engine
 abbrev pub IsCommandLineOf : Engine → List Text → Type 0

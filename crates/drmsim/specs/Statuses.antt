@@ -1,8 +1,13 @@
 -- The exit status of the program.
-use Rattle.std.specs.Prelude.{◌≡◌, ◌⊎◌, ℕ, Bool, List, Option, Some, codes, if◌then◌else◌}
+use Rattle.std.specs.Prelude.{◌≡◌, ◌⊎◌, ℕ, Bool, List, Option, Some, None, codes, if◌then◌else◌}
 use Rattle.clap.specs.Words.{IsAmong, Kinds, Text}
 use Rattle.clap.specs.declared.error.kind.ErrorKind.{ErrorKind}
 use Rattle.clap.specs.declared.error.kind.ErrorKind.TheVariants as kind
+use Rattle.drm_draw.specs.Drawing.{Draws, status_of_drawing}
+use Rattle.drm_draw.specs.declared.drawing.Drawing.{Drawing}
+use Rattle.drm_text.specs.Number.{number_up_to}
+use Rattle.std.specs.Io.KnownBytes.{Keeps}
+use Rattle.std.specs.Option.{option_map_or}
 use Rattle.drm_engine.specs.declared.ending.Ending.{Ending}
 use Rattle.drm_engine.specs.declared.engine.Engine.{Engine}
 use Rattle.drm_engine.specs.Endings.{status_of}
@@ -13,7 +18,7 @@ use Rattle.drm_explain.specs.declared.telling.Telling.TheVariants as telling
 use Rattle.drm_run.specs.Endings as run_ending
 use Rattle.drm_run.specs.Runs as run
 use Rattle.drm_run.specs.declared.ending.RunEnding.{RunEnding}
-use Rattle.drmsim.specs.CommandLine.{IsAsked, number_entered, word_entered}
+use Rattle.drmsim.specs.CommandLine.{IsAsked, number_entered, word_entered, word_given}
 use Rattle.drmsim.specs.declared.command_line.Request.TheVariants.{Work}
 
 -- the engine ran to an ending, of which this is the exit status
@@ -47,10 +52,31 @@ IsWorked words input old new status = (submitters turns : ℕ) × IsAsked words 
 abbrev pub IsExplained : List Text → Option (List ℕ) → Option (List ℕ) → ℕ → Type 0
 IsExplained words old new status = (word_entered words ≡ Some (codes "explain")) × ToldAs (number_entered words) old new status
 
+-- the number that a word spells, of 32 bits, or another where there is no word
+abbrev pub number_of_word : ℕ → Option Text → Option ℕ
+number_of_word other word = option_map_or (λ text. number_up_to 4294967295 text) word (Some other)
+
+-- a part of what a script does was drawn as this exit status tells; where a word spells no number, nothing was written, for
+-- want of memory or since the command line is refused
+abbrev pub DrawnFrom : Option ℕ → Option ℕ → Option (List ℕ) → Option (List ℕ) → Option (List ℕ) → ℕ → Type 0
+DrawnFrom (Some from) (Some to) input old new status = (ending : Drawing) × Draws from to input old new ending × (status ≡ status_of_drawing ending)
+DrawnFrom (Some from) None input old new status = Keeps old new × ((status ≡ 2) ⊎ (status ≡ 3))
+DrawnFrom None to input old new status = Keeps old new × ((status ≡ 2) ⊎ (status ≡ 3))
+
+-- the part between the numbers of two words, from the first command where there is no first word, to the last where there is
+-- no second
+abbrev pub DrawnAs : Option Text → Option Text → Option (List ℕ) → Option (List ℕ) → Option (List ℕ) → ℕ → Type 0
+DrawnAs from to input old new status = DrawnFrom (number_of_word 0 from) (number_of_word 4294967295 to) input old new status
+
+-- the words name the command that draws, which ended so
+abbrev pub IsDrawing : List Text → Option (List ℕ) → Option (List ℕ) → Option (List ℕ) → ℕ → Type 0
+IsDrawing words input old new status =
+    (word_entered words ≡ Some (codes "draw")) × DrawnAs (word_given (codes "from") words) (word_given (codes "to") words) input old new status
+
 -- the words name a command, which ended as this exit status tells
 abbrev pub IsObeyed : List Text → Option (List ℕ) → Option (List ℕ) → Option (List ℕ) → ℕ → Type 0
 IsObeyed words input old new status =
-    IsRun words input old new status ⊎ (IsWorked words input old new status ⊎ IsExplained words old new status)
+    IsRun words input old new status ⊎ (IsWorked words input old new status ⊎ (IsExplained words old new status ⊎ IsDrawing words input old new status))
 
 -- the exit status after an error of the words, which was printed or could not be: help and the version are asked for
 abbrev pub status_of_error : ErrorKind → Bool → ℕ

@@ -5,7 +5,7 @@ ghost use Rattle.std.specs.String.{string_bytes};
 ghost use Rattle.clap.specs.Words.{FailsBy, app_of, fault_of, new_app, rule_of};
 ghost use Rattle.clap.specs.declared.builder.command.Command.TheViews.{out-Command};
 ghost use Rattle.drm_engine.specs.declared.engine.Engine.{Engine as EngineOf};
-ghost use Rattle.drmsim.specs.CommandLine.{GivesAlone, IsAsked, IsCommandLineOf, explain_app, number_rule, program_app, run_app, top_app};
+ghost use Rattle.drmsim.specs.CommandLine.{GivesAlone, IsAsked, IsCommandLineOf, draw_app, explain_app, number_rule, program_app, run_app, text_rule, top_app};
 
 use clap::builder::ValueParser;
 use clap::{Arg, Command, Error};
@@ -69,11 +69,20 @@ Example:
   drmsim explain 46
 begins with 'refused 46 F'.";
 
+const DRAW_HELP: &str = "\
+Reads a script from standard input, and writes one SVG image that any browser shows: from left to right the commands, from \
+the top the rings, the entities, the buffers and the fences. A picture has at most 5000 commands: '--from' and '--to' draw a \
+part, the commands counted from 0, '--to' the first that is not drawn.
+
+Example:
+  drmsim draw < examples/first_fill.script > run.svg";
+
 const STATUS_HELP: &str = "\
 Examples:
   drmsim replay < examples/first_fill.script
   drmsim check < examples/journals/pipeline_same.journal
   drmsim run --threads 4 --turns 1000000 < examples/threads/two_rings.script
+  drmsim draw < examples/first_fill.script > run.svg
 
 Exit status:
   0  all was done; of 'check', all bytes are the same
@@ -151,6 +160,34 @@ fn run_command<'a>(alloc: Global) -> Result<Command<'a>, AllocError>
     .arg(turns)
 }
 
+/// An option that may be there, a text.
+fn text<'a>(alloc: Global, name: &'a str, value: &'a str, help: &'a str) -> Arg<'a>
+    ensures rule { rule_of result ≡ text_rule name.entry.now }
+    ensures local { result.global ≡ false }
+{
+    Arg::new(alloc, name)
+        .long(name)
+        .value_name(value)
+        .help(help)
+}
+
+/// The command that draws a part of a run.
+fn draw_command<'a>(alloc: Global) -> Result<Command<'a>, AllocError>
+    ensures app { IfOk result (λ command. app_of command ≡ draw_app) }
+    ensures local { IfOk result (λ command. (out-Command command).has_globals ≡ false) }
+{
+    let from = text(alloc, "from", "N", "The first command to draw, counted from 0");
+    let to = text(alloc, "to", "M", "The first command behind those to draw");
+    command(
+        alloc,
+        "draw",
+        "Draws what the commands of a script do",
+        DRAW_HELP,
+    )
+    .arg(from)?
+    .arg(to)
+}
+
 /// The program without its commands.
 fn bare_program<'a>(alloc: Global) -> Command<'a>
     ensures app { app_of result ≡ top_app }
@@ -189,12 +226,14 @@ fn program<'a>(alloc: Global) -> Result<Command<'a>, AllocError>
     );
     let run = run_command(alloc)?;
     let explain = explain_command(alloc)?;
+    let draw = draw_command(alloc)?;
     bare_program(alloc)
         .subcommand(replay)?
         .subcommand(serial)?
         .subcommand(check)?
         .subcommand(run)?
-        .subcommand(explain)
+        .subcommand(explain)?
+        .subcommand(draw)
 }
 
 /// What the words of the command line ask for.
@@ -211,6 +250,13 @@ pub enum Request<'a> {
     },
     /// To explain the number that a word spells, or to list all numbers where there is no word.
     Explain(Option<&'a str>),
+    /// To draw the part of a run between the numbers that two words spell.
+    Draw {
+        /// The first command that is drawn.
+        from: Option<&'a str>,
+        /// The first that is not.
+        to: Option<&'a str>,
+    },
 }
 
 /// What the words ask for, the program's name first. An error is what `clap` says of words that ask for nothing
@@ -229,6 +275,12 @@ pub fn read_words<'a>(alloc: Global, words: &'a [String]) -> Result<Request<'a>,
             (Some(submitters), Some(turns)) => Ok(Request::Work { submitters, turns }),
             _ => unreachable!(),
         };
+    }
+    if let Some(draw) = matches.subcommand_matches("draw") {
+        return Ok(Request::Draw {
+            from: draw.get_str("from"),
+            to: draw.get_str("to"),
+        });
     }
     match matches.subcommand_name() {
         Some(name) => match Engine::of_word(name) {

@@ -6,17 +6,18 @@
 //! all that between any reader and any writer, and its clauses are what the program promises.
 #![tactic(auto)]
 
-ghost use Rattle.std.specs.Prelude.{◌<◌, ◌≡◌, ◌≢◌, ◌≤◌, [], Bool, map, option_map};
+ghost use Rattle.std.specs.Prelude.{◌<◌, ◌≡◌, ◌≢◌, ◌≤◌, ◌^◌, [], Bool, map, option_map, IfSome};
 ghost use Rattle.std.specs.Io.KnownBytes.{Keeps};
 ghost use Rattle.std.specs.IoError.{error_kind};
 ghost use Rattle.std.specs.Process.{exit_status};
 ghost use Rattle.std.specs.String.{string_bytes};
 ghost use Rattle.clap.specs.Words.{fault_of, kind_of};
+ghost use Rattle.drm_draw.specs.Drawing.{status_of_drawing};
 ghost use Rattle.drm_engine.specs.Endings.{status_of};
 ghost use Rattle.drm_run.specs.Endings.{status_of as status_of_run};
 ghost use Rattle.drm_engine.specs.declared.engine.Engine.{Engine as EngineOf};
 ghost use Rattle.drmsim.specs.CommandLine.{IsCommandLineOf, program_app};
-ghost use Rattle.drmsim.specs.Statuses.{EndsAs, IsObeyed, IsRefusal, ToldAs, WorksAs, status_of_error, status_of_telling};
+ghost use Rattle.drmsim.specs.Statuses.{DrawnAs, EndsAs, IsObeyed, IsRefusal, ToldAs, WorksAs, number_of_word, status_of_error, status_of_telling};
 
 mod command_line;
 mod progress;
@@ -25,9 +26,11 @@ mod tests;
 
 use clap::error::ErrorKind as WordsError;
 use command_line::{Request, read_words};
+use drm_draw::{Drawing, draw};
 use drm_engine::Ending;
 use drm_explain::{Telling, tell_word};
 use drm_run::{RunEnding, run};
+use drm_text::read_number;
 use progress::ProgressLine;
 use std::env;
 use std::io::{self, ErrorKind, Read, Write};
@@ -37,6 +40,9 @@ use std::thread::Threads;
 
 /// The exit status where a number is asked for that is none: the command line is refused.
 const UNKNOWN_NUMBER: u8 = 2;
+
+/// The exit status where what a command is given asks for what it does not do.
+const REFUSED_WORDS: u8 = 2;
 
 /// The words of the command line, the program's name first.
 fn words(rt: &HostRuntime) -> io::Result<Vec<String>> {
@@ -111,6 +117,56 @@ fn explain_number<W: Write>(rt: &HostRuntime, word: Option<&str>, writer: &mut W
     tell_telling(rt, how, word.unwrap_or(""))
 }
 
+/// Tells the ending of a drawing; of one that is too long, which options help.
+fn tell_drawing(rt: &HostRuntime, ending: Drawing) -> ExitCode
+    ensures { exit_status result ≡ status_of_drawing ending }
+{
+    match ending {
+        Drawing::Ended(ending) => tell_ended(rt, ending),
+        Drawing::TooMany => {
+            eprintln!(rt;
+                "error: a picture has at most 5000 commands\n\nDraw a part with '--from N' and '--to M'. For more information, try '--help'."
+            ).ok();
+            ExitCode::from(REFUSED_WORDS)
+        }
+    }
+}
+
+/// The number that a word spells, or another where there is no word.
+fn number_or(other: u32, word: Option<&str>) -> Option<u64>
+    ensures value { result ≡ number_of_word other (option_map (λ w. w.now) word.entry) }
+    ensures small { IfSome result (λ n. n < 2 ^ 32) }
+{
+    match word {
+        Some(word) => read_number(word.as_bytes(), u64::from(u32::MAX)),
+        None => Some(u64::from(other)),
+    }
+}
+
+/// Draws the part of a run between the numbers that two words spell.
+fn draw_part<R: Read, W: Write>(
+    rt: &HostRuntime,
+    from: Option<&str>,
+    to: Option<&str>,
+    reader: &mut R,
+    writer: &mut W,
+) -> ExitCode
+    ensures { DrawnAs (option_map (λ w. w.now) from.entry) (option_map (λ w. w.now) to.entry) (R.remaining reader.old) (W.contents writer.old) (W.contents writer.new) (exit_status result) }
+{
+    match (number_or(0, from), number_or(u32::MAX, to)) {
+        (Some(from), Some(to)) => {
+            let ending = draw(rt.alloc(), from as u32, to as u32, reader, writer);
+            tell_drawing(rt, ending)
+        }
+        _ => {
+            eprintln!(rt;
+                "error: '--from' and '--to' take a number of commands, 0 to 4294967295\n\nFor more information, try '--help'."
+            ).ok();
+            ExitCode::from(REFUSED_WORDS)
+        }
+    }
+}
+
 /// Runs a script by workers in threads. Where standard error is a terminal, a line there tells how far they are.
 fn work<H: Threads + Wait + Sync, R: Read, W: Write>(
     rt: &HostRuntime,
@@ -160,6 +216,7 @@ fn obey<H: Threads + Wait + Sync, R: Read, W: Write>(
             work(rt, threads, submitters, turns, reader, writer)
         }
         Ok(Request::Explain(word)) => explain_number(rt, word, writer),
+        Ok(Request::Draw { from, to }) => draw_part(rt, from, to, reader, writer),
         Err(error) => explain(rt, &error),
     }
 }

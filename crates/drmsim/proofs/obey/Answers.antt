@@ -8,7 +8,7 @@ use Rattle.drmsim.specs.Statuses.{EndsAs, status_of_error}
 use Rattle.drmsim.proofs.Entered.{command_entered}
 use Rattle.drm_run.specs.declared.ending.RunEnding.TheVariants.{Ended}
 use Rattle.drmsim.proofs.Numbers.{run_is_asked}
-use Rattle.drmsim.proofs.Statuses.{memory_alone, runs_without_memory, untouched}
+use Rattle.drmsim.proofs.Statuses.{drawn_without_memory, memory_alone, runs_without_memory, untouched}
 use Rattle.drmsim.proofs.obey.Goals as goal
 
 pub returns-in-Ok-Run-clause-commands : goal.returns-in-Ok-Run-clause-commands
@@ -27,6 +27,14 @@ returns-in-Ok-Work-clause-accepted g c = λ passed.
 pub returns-in-Ok-Explain-clause-commands : goal.returns-in-Ok-Explain-clause-commands
 returns-in-Ok-Explain-clause-commands g c = λ engine line. absurd (cc (c.in-Ok-Explain.ensures.command engine line))
 
+pub returns-in-Ok-Draw-clause-commands : goal.returns-in-Ok-Draw-clause-commands
+returns-in-Ok-Draw-clause-commands g c = λ engine line. absurd (cc (c.in-Ok-Draw.ensures.command engine line))
+
+pub returns-in-Ok-Draw-clause-accepted : goal.returns-in-Ok-Draw-clause-accepted
+returns-in-Ok-Draw-clause-accepted g c = λ passed.
+    let asked = subst (IsAsked (map string_bytes c.args.words.now)) c.in-Ok-Draw.field-0-is c.in-Ok-Draw.ensures.named in
+    inr (inr (inr (asked.0, rw (asked.1.0, asked.1.1) c.draw_part.ensures)))
+
 pub returns-in-Err-clause-commands : goal.returns-in-Err-clause-commands
 returns-in-Err-clause-commands g c = λ engine line.
     (NoMemory, runs_without_memory engine _ _, c.explain.ensures.1 ∙ ap (λ kind. status_of_error kind c.explain.ensures.0) (c.in-Err.ensures.command engine line))
@@ -37,5 +45,6 @@ returns-in-Err-clause-accepted g c = λ passed.
     elim (command_entered (map string_bytes c.args.words.now) passed) [
       | inl named ↦ inl (named.0, named.1, (NoMemory, runs_without_memory named.0 _ _, ended))
       | inr (inl named) ↦ let asked = run_is_asked (map string_bytes c.args.words.now) passed named in inr (inl (asked.0, asked.1, asked.2, (Ended NoMemory, untouched _, ended)))
-      | inr (inr named) ↦ inr (inr (named, (telling.NoMemory, untouched _, ended)))
+      | inr (inr (inl named)) ↦ inr (inr (inl (named, (telling.NoMemory, untouched _, ended))))
+      | inr (inr (inr named)) ↦ inr (inr (inr (named, drawn_without_memory _ _ _ _ _ ended)))
     ]

@@ -7,4 +7,5 @@ returns c =
     let serial = added _ _ _ _ _ replay c.command-serial.ensures.app c.command-serial.ensures.local c.in_ok-subcommand-2.ensures in
     let check = added _ _ _ _ _ serial c.command-check.ensures.app c.command-check.ensures.local c.in_ok-subcommand-3.ensures in
     let run = added _ _ _ _ _ check c.in_ok-run.ensures.app c.in_ok-run.ensures.local c.in_ok-subcommand-4.ensures in
-    added_last _ _ c.subcommand-5.result _ _ run c.in_ok-explain.ensures.app c.in_ok-explain.ensures.local c.subcommand-5.ensures
+    let explain = added _ _ _ _ _ run c.in_ok-explain.ensures.app c.in_ok-explain.ensures.local c.in_ok-subcommand-5.ensures in
+    added_last _ _ c.subcommand-6.result _ _ explain c.in_ok-draw.ensures.app c.in_ok-draw.ensures.local c.subcommand-6.ensures

@@ -7,8 +7,8 @@ use Rattle.drmsim.specs.declared.command_line.Request.TheVariants.{Run}
 use Rattle.drmsim.specs.CommandLine.{IsNumber, most_submitters, most_turns, word_entered}
 use Rattle.drmsim.proofs.Numbers.{number_read}
 use Rattle.drmsim.proofs.Options.{options_are_read}
-use Rattle.drmsim.proofs.Taken.{is_taken, is_entered, names_one, names_some, none_is_not, not_explain, not_run}
-use Rattle.drmsim.proofs.Entered.{command_entered, none_refused, number_found, word_found}
+use Rattle.drmsim.proofs.Taken.{is_taken, is_entered, names_one, names_some, none_is_not, not_draw, not_explain, not_run}
+use Rattle.drmsim.proofs.Entered.{command_entered, given_found, none_entered, none_refused, number_found, word_found}
 use Rattle.drmsim.proofs.command_line.read_words.Goals.{in_default-2-via-in-Some+in_default, in_default-2-via-in_default}
 use Rattle.drmsim.proofs.command_line.read_words.Goals as goal
 
@@ -88,6 +88,26 @@ pub returns-in-Some-subcommand_matches-clause-kinds : goal.returns-in-Some-subco
 returns-in-Some-subcommand_matches-clause-kinds c =
     none_refused _ _ c.in_ok-program.ensures c.in_ok-matches.ensures.kinds
 
+pub returns-in-Some-subcommand_matches-2-clause-named : goal.returns-in-Some-subcommand_matches-2-clause-named
+returns-in-Some-subcommand_matches-2-clause-named c =
+    let app = c.in_ok-program.ensures in
+    let matches = c.in_ok-matches.ensures.matches in
+    let rows = c.in-Some-subcommand_matches-2.ensures.rows in (
+      word_found _ _ _ _ app matches (sym (c.in-Some-subcommand_matches-2.ensures.found.0 refl)),
+      (given_found _ _ _ _ _ app matches rows ∙ sym c.get_str-in-Some-subcommand_matches-2.ensures, given_found _ _ _ _ _ app matches rows ∙ sym c.get_str-in-Some-subcommand_matches-2-2.ensures),
+    )
+
+pub returns-in-Some-subcommand_matches-2-clause-command : goal.returns-in-Some-subcommand_matches-2-clause-command
+returns-in-Some-subcommand_matches-2-clause-command c = λ engine line.
+    let app = c.in_ok-program.ensures in
+    let found = word_found _ _ _ _ app c.in_ok-matches.ensures.matches (sym (c.in-Some-subcommand_matches-2.ensures.found.0 refl)) in
+    let entered = ap word_entered line.1 ∙ is_entered line.0 engine in
+    absurd (not_draw engine (same_Some _ _ (sym entered ∙ found)))
+
+pub returns-in-Some-subcommand_matches-2-clause-kinds : goal.returns-in-Some-subcommand_matches-2-clause-kinds
+returns-in-Some-subcommand_matches-2-clause-kinds c =
+    none_refused _ _ c.in_ok-program.ensures c.in_ok-matches.ensures.kinds
+
 pub unreachable-requires-in-None-of_word : goal.unreachable-requires-in-None-of_word
 unreachable-requires-in-None-of_word c =
     let app = c.in_ok-program.ensures in
@@ -95,5 +115,11 @@ unreachable-requires-in-None-of_word c =
     elim (command_entered (map string_bytes c.args.words.now) (none_refused _ _ app c.in_ok-matches.ensures.kinds)) [
       | inl named ↦ names_some named.0 _ (same_Some _ _ (sym found ∙ named.1)) c.in-None-of_word.ensures.none
       | inr (inl named) ↦ none_is_not c.subcommand_matches-2.result c.in_default-subcommand_matches.is (c.subcommand_matches-2.ensures.found.1 (sym c.in-Some-subcommand_name.ensures ∙ sym found ∙ named))
-      | inr (inr named) ↦ none_is_not c.subcommand_matches.result c.in_default.is (c.subcommand_matches.ensures.found.1 (sym c.in-Some-subcommand_name.ensures ∙ sym found ∙ named))
+      | inr (inr (inl named)) ↦ none_is_not c.subcommand_matches.result c.in_default.is (c.subcommand_matches.ensures.found.1 (sym c.in-Some-subcommand_name.ensures ∙ sym found ∙ named))
+      | inr (inr (inr named)) ↦ none_is_not c.subcommand_matches-3.result c.in_default-subcommand_matches-2.is (c.subcommand_matches-3.ensures.found.1 (sym c.in-Some-subcommand_name.ensures ∙ sym found ∙ named))
     ]
+
+pub unreachable-requires-in-None : goal.unreachable-requires-in-None
+unreachable-requires-in-None c =
+    let app = c.in_ok-program.ensures in
+    none_entered _ (map string_bytes c.args.words.now) _ app c.in_ok-matches.ensures.matches c.in-None.ensures (none_refused _ _ app c.in_ok-matches.ensures.kinds)
