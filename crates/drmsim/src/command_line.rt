@@ -176,7 +176,12 @@ fn draw_command<'a>(alloc: Global) -> Result<Command<'a>, AllocError>
     ensures app { IfOk result (λ command. app_of command ≡ draw_app) }
     ensures local { IfOk result (λ command. (out-Command command).has_globals ≡ false) }
 {
-    let from = text(alloc, "from", "N", "The first command to draw, counted from 0");
+    let from = text(
+        alloc,
+        "from",
+        "N",
+        "The first command to draw, counted from 0",
+    );
     let to = text(alloc, "to", "M", "The first command behind those to draw");
     command(
         alloc,
