@@ -5,9 +5,9 @@ use Rattle.drm_types.specs.declared.spec.DeviceSpec.{DeviceSpec}
 use Rattle.drm_sched.specs.declared.answer.Answer.{Answer}
 use Rattle.drm_core.specs.declared.event.Event.{Event}
 use Rattle.drm_core.specs.declared.event.Event.TheVariants as event
-use Rattle.drm_picture.specs.declared.deed.Deed.{Deed}
-use Rattle.drm_picture.specs.declared.deed.Deed.TheVariants as deed
-use Rattle.drm_picture.specs.declared.deed.Step.{Step}
+use Rattle.drm_picture.specs.declared.command.Command.{Command}
+use Rattle.drm_picture.specs.declared.command.Command.TheVariants as command
+use Rattle.drm_picture.specs.declared.command.Step.{Step}
 use Rattle.drm_picture.specs.declared.picture.Picture.{Picture}
 use Rattle.drm_picture.specs.declared.picture.Shape.{Shape}
 use Rattle.drm_picture.specs.Pictures.{IsPicture}
@@ -23,24 +23,24 @@ use Rattle.drm_engine.specs.declared.ending.Ending.{Ending}
 use Rattle.drm_engine.specs.declared.ending.Ending.TheVariants as ending
 
 -- what a command does, without the packets of its job
-abbrev pub deed_of : Event → Deed
-deed_of (event.Submit draft) = deed.Submit draft.entity
-deed_of (event.Begin ctx) = deed.Begin ctx
-deed_of (event.Try ctx buffer) = deed.Try ctx buffer
-deed_of (event.Done ctx) = deed.Done ctx
-deed_of (event.Drop ctx buffer) = deed.Drop ctx buffer
-deed_of (event.End ctx) = deed.End ctx
-deed_of (event.Plan ctx draft) = deed.Plan ctx draft.entity
-deed_of (event.Arm ctx) = deed.Arm ctx
-deed_of (event.Pick ring now) = deed.Pick ring now
-deed_of (event.Step ring) = deed.Step ring
-deed_of (event.Finish ring now) = deed.Finish ring now
-deed_of (event.Timeout ring now) = deed.Timeout ring now
-deed_of (event.Cancel entity) = deed.Cancel entity
-deed_of (event.Reap entity) = deed.Reap entity
-deed_of (event.Read ctx buffer) = deed.Read ctx buffer
-deed_of (event.Status fence) = deed.Status fence
-deed_of (event.Dump buffer) = deed.Dump buffer
+abbrev pub command_of : Event → Command
+command_of (event.Submit draft) = command.Submit draft.entity
+command_of (event.Begin ctx) = command.Begin ctx
+command_of (event.Try ctx buffer) = command.Try ctx buffer
+command_of (event.Done ctx) = command.Done ctx
+command_of (event.Drop ctx buffer) = command.Drop ctx buffer
+command_of (event.End ctx) = command.End ctx
+command_of (event.Plan ctx draft) = command.Plan ctx draft.entity
+command_of (event.Arm ctx) = command.Arm ctx
+command_of (event.Pick ring now) = command.Pick ring now
+command_of (event.Step ring) = command.Step ring
+command_of (event.Finish ring now) = command.Finish ring now
+command_of (event.Timeout ring now) = command.Timeout ring now
+command_of (event.Cancel entity) = command.Cancel entity
+command_of (event.Reap entity) = command.Reap entity
+command_of (event.Read ctx buffer) = command.Read ctx buffer
+command_of (event.Status fence) = command.Status fence
+command_of (event.Dump buffer) = command.Dump buffer
 
 -- the lanes of a device, which has at most 64 of each
 abbrev pub shape_of : DeviceSpec → Shape
@@ -48,7 +48,7 @@ shape_of spec = record { rings = min (length spec.rings) 64; entities = min (len
 
 -- each event with the answer to it
 abbrev pub AreSteps : List Event → List Answer → List Step → Type 0
-AreSteps events answers steps = (map (λ step. step.deed) steps ≡ map deed_of events) × (map (λ step. step.answer) steps ≡ answers)
+AreSteps events answers steps = (map (λ step. step.command) steps ≡ map command_of events) × (map (λ step. step.answer) steps ≡ answers)
 
 -- the steps from one place to before another
 abbrev pub part_of : ℕ → ℕ → List Step → List Step

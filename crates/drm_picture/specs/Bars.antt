@@ -14,9 +14,9 @@ use Rattle.drm_picture.specs.declared.bars.Lane.TheVariants as lane
 use Rattle.drm_picture.specs.declared.bars.Look.{Look}
 use Rattle.drm_picture.specs.declared.bars.Look.TheVariants as look
 use Rattle.drm_picture.specs.declared.bars.Opening.{Opening}
-use Rattle.drm_picture.specs.declared.deed.Deed.{Deed}
-use Rattle.drm_picture.specs.declared.deed.Deed.TheVariants as deed
-use Rattle.drm_picture.specs.declared.deed.Step.{Step}
+use Rattle.drm_picture.specs.declared.command.Command.{Command}
+use Rattle.drm_picture.specs.declared.command.Command.TheVariants as command
+use Rattle.drm_picture.specs.declared.command.Step.{Step}
 
 -- a job begins on this ring where the answer is that it was picked
 abbrev pub picked : ℕ → Answer → Option Opening
@@ -38,23 +38,23 @@ abbrev pub armed : Answer → Option Opening
 armed (answer.Armed fence) = Some (record { lane = lane.Fence fence; number = fence; skipped = false })
 armed _ = None
 
-abbrev pub picked_by : Deed → Answer → Option Opening
-picked_by (deed.Pick ring now) a = picked ring a
+abbrev pub picked_by : Command → Answer → Option Opening
+picked_by (command.Pick ring now) a = picked ring a
 picked_by _ a = None
 
-abbrev pub submitted_by : Deed → Answer → Option Opening
-submitted_by (deed.Submit entity) a = submitted entity a
+abbrev pub submitted_by : Command → Answer → Option Opening
+submitted_by (command.Submit entity) a = submitted entity a
 submitted_by _ a = None
 
-abbrev pub locked_by : Deed → Answer → Option Opening
-locked_by (deed.Try ctx buffer) a = locked buffer ctx a
+abbrev pub locked_by : Command → Answer → Option Opening
+locked_by (command.Try ctx buffer) a = locked buffer ctx a
 locked_by _ a = None
 
 -- what a step begins of this kind
 abbrev pub opening_of : Kind → Step → Option Opening
-opening_of kind.Job step = picked_by step.deed step.answer
-opening_of kind.Queued step = submitted_by step.deed step.answer
-opening_of kind.Lock step = locked_by step.deed step.answer
+opening_of kind.Job step = picked_by step.command step.answer
+opening_of kind.Queued step = submitted_by step.command step.answer
+opening_of kind.Lock step = locked_by step.command step.answer
 opening_of kind.Fence step = armed step.answer
 
 -- the job of this fence leaves its ring
@@ -78,13 +78,13 @@ abbrev pub granted : Answer → Bool
 granted answer.Ok = true
 granted _ = false
 
-abbrev pub drops : ℕ → ℕ → Deed → Bool
-drops buffer ctx (deed.Drop by at) = at == buffer && by == ctx
+abbrev pub drops : ℕ → ℕ → Command → Bool
+drops buffer ctx (command.Drop by at) = at == buffer && by == ctx
 drops buffer ctx _ = false
 
 -- the context lets go of the buffer
 abbrev pub unlocks : ℕ → ℕ → Step → Bool
-unlocks buffer ctx step = drops buffer ctx step.deed && granted step.answer
+unlocks buffer ctx step = drops buffer ctx step.command && granted step.answer
 
 abbrev pub ends_in : Lane → ℕ → Step → Bool
 ends_in (lane.Ring ring) number step = ends_job number step.answer

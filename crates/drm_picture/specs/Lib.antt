@@ -1,4 +1,4 @@
-pub mod Deeds
+pub mod Commands
 pub mod Bars
 pub mod Marks
 pub mod Pictures

@@ -3,8 +3,8 @@ use Rattle.std.specs.Prelude.{ℕ, List, Option, Some, None, option_and_then, op
 use Rattle.std.specs.List.{enumerate_from, filter_map}
 use Rattle.drm_sched.specs.declared.answer.Answer.{Answer}
 use Rattle.drm_sched.specs.declared.answer.Answer.TheVariants as answer
-use Rattle.drm_picture.specs.Deeds.{lane_of}
-use Rattle.drm_picture.specs.declared.deed.Step.{Step}
+use Rattle.drm_picture.specs.Commands.{lane_of}
+use Rattle.drm_picture.specs.declared.command.Step.{Step}
 use Rattle.drm_picture.specs.declared.marks.Mark.{Mark}
 use Rattle.drm_picture.specs.declared.marks.Sign.{Sign}
 use Rattle.drm_picture.specs.declared.marks.Sign.TheVariants as sign
@@ -24,7 +24,7 @@ sign_of _ = None
 
 -- the mark of a step: in the lane of what its command names, with the sign of its answer
 abbrev pub mark_from : ℕ → Step → Option Mark
-mark_from place step = option_and_then (λ at. option_map (λ says. record { lane = at; place = place; sign = says }) (sign_of step.answer)) (lane_of step.deed)
+mark_from place step = option_and_then (λ at. option_map (λ says. record { lane = at; place = place; sign = says }) (sign_of step.answer)) (lane_of step.command)
 
 -- the marks of a run: one for each step that has one, in the order of the steps, and no other
 abbrev pub marks_of : List Step → List Mark

@@ -2,7 +2,7 @@
 use Rattle.std.specs.Prelude.{ℕ, zero, suc, List, [], ◌++◌, ◌+◌, Option, Some, None, codes, flat_map, length, if◌then◌else◌}
 use Rattle.std.specs.Fmt.{decimal}
 use Rattle.std.specs.List.{enumerate_from}
-use Rattle.drm_picture.specs.Deeds.{moment_of, word_of}
+use Rattle.drm_picture.specs.Commands.{moment_of, word_of}
 use Rattle.drm_picture.specs.Escape.{escaped}
 use Rattle.drm_picture.specs.Layout.{row_of_bar, row_of_lane}
 use Rattle.drm_picture.specs.declared.svg.TheConstants.{ABOVE, COLOUR, HEAD, HEIGHT, LABEL_END, LANE, MARK, MARK_TITLE, STYLE, TEXT_END, TITLE, TITLE_END, TURNED}
@@ -11,7 +11,7 @@ use Rattle.drm_picture.specs.declared.bars.Lane.{Lane}
 use Rattle.drm_picture.specs.declared.bars.Lane.TheVariants as lane
 use Rattle.drm_picture.specs.declared.bars.Look.{Look}
 use Rattle.drm_picture.specs.declared.bars.Look.TheVariants as look
-use Rattle.drm_picture.specs.declared.deed.Deed.{Deed}
+use Rattle.drm_picture.specs.declared.command.Command.{Command}
 use Rattle.drm_picture.specs.declared.marks.Mark.{Mark}
 use Rattle.drm_picture.specs.declared.marks.Sign.{Sign}
 use Rattle.drm_picture.specs.declared.marks.Sign.TheVariants as sign
@@ -119,11 +119,11 @@ moment_text place (Some now) = above_text place (codes "-46") ++ decimal now ++ 
 moment_text place None = []
 
 -- above each column the word of its command, and the moment that it tells
-unfoldable pub column_text : ℕ → Deed → List ℕ
-column_text place deed = above_text place (codes "-4") ++ word_of deed ++ TEXT_END.now ++ moment_text place (moment_of deed)
+unfoldable pub column_text : ℕ → Command → List ℕ
+column_text place command = above_text place (codes "-4") ++ word_of command ++ TEXT_END.now ++ moment_text place (moment_of command)
 
-abbrev pub columns_text : List Deed → List ℕ
-columns_text deeds = flat_map (λ p. column_text p.0 p.1) (enumerate_from 0 deeds)
+abbrev pub columns_text : List Command → List ℕ
+columns_text commands = flat_map (λ p. column_text p.0 p.1) (enumerate_from 0 commands)
 
 -- the name of a lane left of it
 abbrev pub lane_text : Shape → Lane → List ℕ

@@ -5,7 +5,7 @@ ghost use Rattle.std.specs.Option.{option_copied};
 ghost use Rattle.std.specs.Prelude.{◌≡◌, ◌<◌, ◌++◌, [], find, length, option_map, position, IfOk, OnOk};
 ghost use Rattle.drm_picture.specs.Bars.{armed, bar_from, bars_of, begins_in, ends, ends_fence, ends_job, leaves_queue, locked, look_of, opening_of, picked, same_lane, shown_by, span_of, submitted, turn_of, unlocks};
 
-use crate::deed::{Deed, Step};
+use crate::command::{Command, Step};
 use drm_sched::Answer;
 use drm_types::Outcome;
 use std::alloc::{AllocError, Global};
@@ -134,16 +134,16 @@ fn opening_at(kind: Kind, step: &Step) -> Option<Opening>
     ensures { result ≡ opening_of kind step.now }
 {
     match kind {
-        Kind::Job => match step.deed {
-            Deed::Pick { ring, .. } => picked_at(ring, &step.answer),
+        Kind::Job => match step.command {
+            Command::Pick { ring, .. } => picked_at(ring, &step.answer),
             _ => None,
         },
-        Kind::Queued => match step.deed {
-            Deed::Submit { entity } => submitted_at(entity, &step.answer),
+        Kind::Queued => match step.command {
+            Command::Submit { entity } => submitted_at(entity, &step.answer),
             _ => None,
         },
-        Kind::Lock => match step.deed {
-            Deed::Try { ctx, buffer } => locked_at(buffer, ctx, &step.answer),
+        Kind::Lock => match step.command {
+            Command::Try { ctx, buffer } => locked_at(buffer, ctx, &step.answer),
             _ => None,
         },
         Kind::Fence => armed_at(&step.answer),
@@ -186,9 +186,9 @@ fn is_end_of_fence(fence: u32, answer: &Answer) -> bool
 fn is_unlock(buffer: u32, ctx: u32, step: &Step) -> bool
     ensures { result ≡ unlocks buffer ctx step.now }
 {
-    match (step.deed, &step.answer) {
+    match (step.command, &step.answer) {
         (
-            Deed::Drop {
+            Command::Drop {
                 ctx: by,
                 buffer: at,
             },

@@ -7,7 +7,7 @@
 #![tactic(auto)]
 
 mod bars;
-mod deed;
+mod command;
 mod escape;
 mod layout;
 mod marks;
@@ -15,7 +15,7 @@ mod picture;
 mod svg;
 
 pub use bars::{Bar, Kind, Lane, Look, Opening};
-pub use deed::{Deed, Step};
+pub use command::{Command, Step};
 pub use marks::{Mark, Sign};
 pub use picture::{Picture, Shape, picture_of};
 pub use svg::write_svg;

@@ -5,7 +5,7 @@ ghost use Rattle.std.specs.Prelude.{◌≡◌, ◌++◌, [], IfOk, OnOk, map};
 ghost use Rattle.drm_picture.specs.Marks.{mark_from, marks_of, sign_of};
 
 use crate::bars::Lane;
-use crate::deed::{Deed, Step};
+use crate::command::{Command, Step};
 use drm_sched::Answer;
 use std::alloc::{AllocError, Global};
 
@@ -63,7 +63,7 @@ fn sign_at(answer: &Answer) -> Option<Sign>
 fn mark_at(place: usize, step: &Step) -> Option<Mark>
     ensures { result ≡ mark_from place step.now }
 {
-    match step.deed.lane() {
+    match step.command.lane() {
         Some(lane) => match sign_at(&step.answer) {
             Some(sign) => Some(Mark { lane, place, sign }),
             None => None,
@@ -97,8 +97,8 @@ pub(crate) fn marks(alloc: Global, steps: &[Step]) -> Result<Vec<Mark>, AllocErr
 }
 
 /// The commands of a run.
-pub(crate) fn deeds(alloc: Global, steps: &[Step]) -> Result<Vec<Deed>, AllocError>
-    ensures { IfOk result (λ deeds. deeds.items ≡ map (λ step. step.deed) steps.now) }
+pub(crate) fn commands(alloc: Global, steps: &[Step]) -> Result<Vec<Command>, AllocError>
+    ensures { IfOk result (λ commands. commands.items ≡ map (λ step. step.command) steps.now) }
 {
-    steps.iter().map(|step| step.deed).collect(alloc)
+    steps.iter().map(|step| step.command).collect(alloc)
 }

@@ -4,8 +4,8 @@ ghost use Rattle.std.specs.Prelude.{IfOk};
 ghost use Rattle.drm_picture.specs.Pictures.{IsPicture};
 
 use crate::bars::{Bar, Kind, bars};
-use crate::deed::{Deed, Step};
-use crate::marks::{Mark, deeds, marks};
+use crate::command::{Command, Step};
+use crate::marks::{Mark, commands, marks};
 use std::alloc::{AllocError, Global};
 
 /// How many rings, entities and buffers a device has.
@@ -22,7 +22,7 @@ pub struct Picture {
     /// How many lanes there are.
     pub shape: Shape,
     /// A column for each command.
-    pub columns: Vec<Deed>,
+    pub columns: Vec<Command>,
     /// The jobs on their rings.
     pub jobs: Vec<Bar>,
     /// The jobs in the queues of their entities.
@@ -41,7 +41,7 @@ pub fn picture_of(alloc: Global, shape: Shape, steps: &[Step]) -> Result<Picture
 {
     Ok(Picture {
         shape,
-        columns: deeds(alloc, steps)?,
+        columns: commands(alloc, steps)?,
         jobs: bars(alloc, Kind::Job, steps)?,
         queued: bars(alloc, Kind::Queued, steps)?,
         locks: bars(alloc, Kind::Lock, steps)?,

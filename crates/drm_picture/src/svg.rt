@@ -4,7 +4,7 @@ ghost use Rattle.std.specs.Prelude.{◌≡◌, ◌++◌, decimal, flat_map, IfOk
 ghost use Rattle.drm_picture.specs.Svg.{above_text, bar_text, class_of, column_text, columns_text, each_below, fences_text, head_text, inside_text, label_text, lane_text, mark_place, mark_text, mark_title, moment_text, name_of, place_text, shape_of, sign_of_look, svg_of, title_of, title_text, what_of, word_of_look, word_of_sign};
 
 use crate::bars::{Bar, Lane, Look};
-use crate::deed::Deed;
+use crate::command::Command;
 use crate::escape::put_escaped;
 use crate::layout::{bar_row, lane_row};
 use crate::marks::{Mark, Sign};
@@ -338,21 +338,21 @@ fn put_moment(out: &mut Vec<u8>, place: usize, moment: Option<u64>) -> Result<()
 
 // Puts the word of a command above its column, and its moment.
 #[tactic(auto, unfolding(crate::specs::Svg::column_text))]
-fn put_column(out: &mut Vec<u8>, place: usize, deed: &Deed) -> Result<(), AllocError>
-    ensures { OnOk result (out.new.items ≡ out.old.items ++ column_text place deed.now) }
+fn put_column(out: &mut Vec<u8>, place: usize, command: &Command) -> Result<(), AllocError>
+    ensures { OnOk result (out.new.items ≡ out.old.items ++ column_text place command.now) }
 {
     put_above(out, place, "-4")?;
-    put_text(out, deed.word())?;
+    put_text(out, command.word())?;
     put_text(out, TEXT_END)?;
-    put_moment(out, place, deed.moment())
+    put_moment(out, place, command.moment())
 }
 
 // Puts the columns.
-fn put_columns(out: &mut Vec<u8>, columns: &[Deed]) -> Result<(), AllocError>
+fn put_columns(out: &mut Vec<u8>, columns: &[Command]) -> Result<(), AllocError>
     ensures { OnOk result (out.new.items ≡ out.old.items ++ columns_text columns.now) }
 {
-    for (place, deed) in columns.iter().enumerate() {
-        put_column(out, place, deed)?;
+    for (place, command) in columns.iter().enumerate() {
+        put_column(out, place, command)?;
     }
     Ok(())
 }

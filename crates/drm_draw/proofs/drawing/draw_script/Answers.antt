@@ -7,8 +7,7 @@ use Rattle.drm_draw.proofs.drawing.draw_script.Goals as goal
 pub returns-then-drawn-gt-MOST_DRAWN : goal.returns-then-drawn-gt-MOST_DRAWN
 returns-then-drawn-gt-MOST_DRAWN g c =
     let of = played c.args.script c.in-Ok.core c.take_steps.new.core c.args.script.lines (λ answers. AreSteps c.args.script.lines answers c.in-Ok-take_steps.steps.items)
-    c.every_run_is_lawful.ensures c.headline.ensures c.in-Ok.ensures.ok.0 refl c.requires.exist c.in-Ok-take_steps.ensures in
-    (
+    c.every_run_is_lawful.ensures c.headline.ensures c.in-Ok.ensures.ok.0 refl c.requires.exist c.in-Ok-take_steps.ensures in (
       too_long c.args.script c.args.from c.args.to c.in-Ok-take_steps.steps.items c.deref.result.now c.part-drawn.result.now of c.deref.ensures.value c.part-drawn.ensures c.if-drawn-gt-MOST_DRAWN.true,
       untouched _,
     )
@@ -16,8 +15,7 @@ returns-then-drawn-gt-MOST_DRAWN g c =
 pub returns-in-Ok-put_all : goal.returns-in-Ok-put_all
 returns-in-Ok-put_all g c =
     let of = played c.args.script c.in-Ok.core c.take_steps.new.core c.args.script.lines (λ answers. AreSteps c.args.script.lines answers c.in-Ok-take_steps.steps.items)
-    c.every_run_is_lawful.ensures c.headline.ensures c.in-Ok.ensures.ok.0 refl c.requires.exist c.in-Ok-take_steps.ensures in
-    (
+    c.every_run_is_lawful.ensures c.headline.ensures c.in-Ok.ensures.ok.0 refl c.requires.exist c.in-Ok-take_steps.ensures in (
       c.in-Ok-text_of.text.items,
       drawn_of c.args.script c.args.from c.args.to c.in-Ok-take_steps.steps.items c.deref.result.now c.part-drawn.result.now c.shape-shape.result c.in-Ok-text_of.text.items of c.shape-shape.ensures c.deref.ensures.value c.part-drawn.ensures c.in-Ok-text_of.ensures,
       rw c.deref-2.ensures.value at c.in-Ok-put_all.ensures.ok,
@@ -26,8 +24,7 @@ returns-in-Ok-put_all g c =
 pub returns : goal.returns
 returns g c =
     let of = played c.args.script c.in-Ok.core c.take_steps.new.core c.args.script.lines (λ answers. AreSteps c.args.script.lines answers c.in-Ok-take_steps.steps.items)
-    c.every_run_is_lawful.ensures c.headline.ensures c.in-Ok.ensures.ok.0 refl c.requires.exist c.in-Ok-take_steps.ensures in
-    (
+    c.every_run_is_lawful.ensures c.headline.ensures c.in-Ok.ensures.ok.0 refl c.requires.exist c.in-Ok-take_steps.ensures in (
       c.in-Ok-text_of.text.items,
       drawn_of c.args.script c.args.from c.args.to c.in-Ok-take_steps.steps.items c.deref.result.now c.part-drawn.result.now c.shape-shape.result c.in-Ok-text_of.text.items of c.shape-shape.ensures c.deref.ensures.value c.part-drawn.ensures c.in-Ok-text_of.ensures,
       rw c.deref-2.ensures.value at c.in-Err.ensures.err,

@@ -2,14 +2,14 @@ use Rattle.std.proofs.Common.{◌≡◌, List, length, map}
 use Rattle.drm_sched.specs.declared.answer.Answer.{Answer}
 use Rattle.drm_script.specs.Commands.{AllNamesExist}
 use Rattle.drm_engine.proofs.Pieces.{GoesOn}
-use Rattle.drm_draw.proofs.Steps.{DeedsSoFar}
+use Rattle.drm_draw.proofs.Steps.{CommandsSoFar}
 use Rattle.drm_draw.proofs.drawing.take_steps.Given as goal
 
 abbrev pub invariant-loop-event : goal.invariant-loop-event
 invariant-loop-event l = record {
   names : AllNamesExist l.core.device.spec l.rest;
   so_far : (given : List Answer) × GoesOn l.fn.core l.fn.events given l.core l.rest × (map (λ step. step.answer) l.steps.items ≡ given);
-  deeds : DeedsSoFar l.fn.events l.rest l.steps.items;
+  commands : CommandsSoFar l.fn.events l.rest l.steps.items;
 }
 
 abbrev pub decreases-loop-event : goal.decreases-loop-event
