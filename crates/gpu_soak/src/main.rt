@@ -24,14 +24,15 @@ mod workers;
 use crate::device::small;
 use crate::driving::drain;
 use crate::judging::judge;
-use crate::tally::Tally;
+use crate::reading::Seen;
+use crate::tally::{Tally, count};
 use crate::workers::{all_together, hire, hired, work_in_threads};
-use drm_gpu::{Gpu, Pass};
+use drm_gpu::{CloseError, Gpu, Pass};
 use std::alloc::{AllocError, Global};
 use std::process::ExitCode;
 use std::sync::Wait;
 use std::thread::Threads;
-use std::time::{Duration, Instant};
+use std::time::{Clock, Duration, Instant};
 use std::{env, io};
 
 /// How many jobs a device takes: more than are submitted in its rounds.
@@ -59,6 +60,26 @@ fn opened(alloc: Global) -> Result<(Gpu, Pass), AllocError>
     }
 }
 
+// Takes the device apart, and counts what is wrong with it. Nobody else is in it any more.
+fn end(
+    gpu: Gpu,
+    pass: Pass,
+    seen: &[Seen],
+    tally: &mut Tally,
+    alloc: Global,
+) -> Result<(), AllocError>
+    requires { pass.gpu ≡ gpu }
+{
+    match gpu.close(alloc, pass) {
+        Ok(closed) => judge(&closed, seen, tally, alloc),
+        Err(CloseError::Memory(_gpu, _pass)) => Err(AllocError),
+        Err(CloseError::Inside) => {
+            count(&mut tally.wrong, true);
+            Ok(())
+        }
+    }
+}
+
 // The threads on one device, until all their jobs have ended, and what came of it.
 fn soak<R: Threads + Wait + Sync>(
     load: Load,
@@ -73,11 +94,30 @@ fn soak<R: Threads + Wait + Sync>(
     let mut pass = all.pass;
     let mut tally = all.tally;
     drain(&gpu, &mut pass, &mut tally, JOBS, rt);
-    let Ok(closed) = gpu.close(alloc, pass) else {
-        return Err(AllocError);
-    };
-    judge(&closed, all.seen.as_slice(), &mut tally, alloc)?;
+    end(gpu, pass, all.seen.as_slice(), &mut tally, alloc)?;
     Ok(tally)
+}
+
+// Devices one after another, how many they were, and what came of all of them.
+fn soak_each<R: Threads + Wait + Clock + Sync>(
+    load: Load,
+    rt: &R,
+    alloc: Global,
+) -> io::Result<(u64, Tally)> {
+    let start = Instant::now(rt)?;
+    let mut tally = Tally::new();
+    let mut made = 0u64;
+    for number in 0..load.devices {
+        let seed = u64::from(load.seed)
+            .wrapping_mul(1_000_003)
+            .wrapping_add(u64::from(number));
+        tally = tally.with(&soak(load, seed, rt, alloc)?);
+        made = made.wrapping_add(1);
+        if load.seconds > 0 && start.elapsed(rt)? >= Duration::from_secs(u64::from(load.seconds)) {
+            break;
+        }
+    }
+    Ok((made, tally))
 }
 
 // The number at this place of the words, or what stands for it.
@@ -102,20 +142,7 @@ fn load_of(words: &[String]) -> Load {
 fn main(rt: HostRuntime) -> io::Result<ExitCode> {
     let words: Vec<String> = env::args(&rt)?.collect(rt.alloc())?;
     let load = load_of(words.as_slice());
-    let start = Instant::now(&rt)?;
-    let mut tally = Tally::new();
-    let mut devices = 0u32;
-    for number in 0..load.devices {
-        let seed = u64::from(load.seed)
-            .wrapping_mul(1_000_003)
-            .wrapping_add(u64::from(number));
-        tally = tally.with(&soak(load, seed, &rt, rt.alloc())?);
-        devices = number;
-        if load.seconds > 0 && start.elapsed(&rt)? >= Duration::from_secs(u64::from(load.seconds)) {
-            break;
-        }
-    }
-    let made = u64::from(devices) + u64::from(load.devices > 0);
+    let (made, tally) = soak_each(load, &rt, rt.alloc())?;
     eprintln!(rt;
         "{made} devices: {} jobs armed, {} picked, {} finished, {} reaped, {} packets, {} readbacks, {} times backed off, {} given up",
         tally.armed,
