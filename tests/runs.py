@@ -46,10 +46,11 @@ def wrong_journal(script, journal, submitters):
 
 
 def journal_of(text):
-    """The journal of a run of a script by one submitter, each of whose jobs ends well."""
+    """The journal of a run of a script by one submitter, each of whose jobs ends well. It tells each buffer by its bytes."""
     device, jobs = second_reader.read_run(text)
     memory = [bytearray(it) for it in device.buffers]
-    told = text.split(b"submit ")
+    rest = text.split(b"\n", len(memory))[-1]
+    told = (b"".join(b"buffer %s\n" % it.hex().encode() for it in memory) + rest).split(b"submit ")
     for place, job in enumerate(jobs, 1):
         job.run(memory, len(job.packets))
         told[place] = b"job %d 1 %s" % (len(job.packets), told[place])
