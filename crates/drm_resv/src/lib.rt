@@ -4,7 +4,7 @@
 //! the usage that is asked for and of all stronger ones, that `add` replaces the first entry that it may replace and
 //! else appends, and that the history is exact. So an entry stands for each user that has not ended, by itself or by
 //! a later one of its entity. `Deps` collects the latest fence of each entity, and
-//! `StoredDeps` keeps them with a job. Nothing but `Resv::reserve` and `StoredDeps::of` takes memory.
+//! `StoredDeps` keeps those of all armed jobs. Nothing but `Resv::reserve` and `StoredDeps::new` takes memory.
 #![tactic(auto)]
 
 mod deps;

@@ -1,95 +1,106 @@
-ghost use Rattle.std.specs.Prelude.{◌≡◌, ◌<◌, ◌≤◌, ◌+◌, ◌==◌, length, slice_get, Some, IfOk};
-ghost use Rattle.drm_resv.specs.Latest.{noted, IsPerEntity};
+ghost use Rattle.std.specs.Prelude.{◌≡◌, ◌<◌, ◌≤◌, ◌+◌, ◌++◌, ◌∷◌, ◌==◌, [], length, slice_get, vec_capacity, vec_len, Some, IfOk};
+ghost use Rattle.drm_resv.specs.Latest.{IsPerEntity};
 
-use crate::deps::{Deps, place_of};
+use crate::deps::Deps;
 use drm_types::{EntityId, FenceId};
 use std::alloc::{AllocError, Global};
 use std::marker::Model;
 
-/// The fences that a planned or queued job waits for (`dependencies` of `struct drm_sched_job`), in the memory that
-/// they need: what `Deps` collects, to be kept with the job. Contracts see the list and for how many there is room.
+/// The most fences of one job: one of each entity that a device can have.
+const MOST: usize = 64;
+
+/// The places of one job's fences, from the first to before the last.
+#[derive(Clone, Copy)]
+pub(crate) struct Span {
+    pub(crate) from: usize,
+    pub(crate) to: usize,
+}
+
+/// The fences that each armed job of a device waits for (`dependencies` of `struct drm_sched_job`), by the job's number.
+/// Contracts see the lists, and for how many jobs there is room.
+///
+/// The lists stand one behind another in one list, whose room is taken at once for the most that so many jobs can wait
+/// for. What of that room is used is what they do wait for: memory that is never written costs a system nothing.
 #[derive(Drop)]
 pub struct StoredDeps {
-    list: Vec<(EntityId, FenceId)>,
+    fences: Vec<(EntityId, FenceId)>,
+    spans: Vec<Span>,
 }
 
 impl Model for StoredDeps {
     ghost use Rattle.std.specs.Prelude.{vec_capacity};
-    ghost use Rattle.drm_resv.specs.Latest.{ListWithPlaces, IsPerEntity};
+    ghost use Rattle.drm_resv.specs.Stored.{HasRoom, AreSpans, ListsWithPlaces, lists_at};
 
-    ghost Value = { ListWithPlaces };
+    ghost Value = { ListsWithPlaces };
 
-    ghost view = { λ d. record { list = d.list.items; places = vec_capacity d.list } };
+    ghost view = { λ d. record { lists = lists_at d.fences.items d.spans.items; places = vec_capacity d.spans } };
 
-    ghost invariant = { λ d. IsPerEntity d.list.items };
+    ghost invariant = { λ d. AreSpans d.fences.items d.spans.items × HasRoom (vec_capacity d.spans) (vec_capacity d.fences) };
+}
+
+// Puts these behind those that are there.
+fn append(fences: &mut Vec<(EntityId, FenceId)>, entries: &[(EntityId, FenceId)])
+    requires { vec_len fences.old + length entries.now ≤ vec_capacity fences.old }
+    ensures items { fences.new.items ≡ fences.old.items ++ entries.now }
+    ensures room { vec_capacity fences.new ≡ vec_capacity fences.old }
+{
+    for entry in entries {
+        fences.push_reserved(*entry);
+    }
 }
 
 impl StoredDeps {
-    /// These fences, with room for so many more entities. The memory is taken at once, as much as that; none, where
-    /// it is for nothing.
-    pub fn of(alloc: Global, deps: &Deps, more: u32) -> Result<StoredDeps, AllocError>
-        ensures list { IfOk result (λ s. s.list ≡ deps.now) }
-        ensures places { IfOk result (λ s. s.places ≡ length deps.now + more) }
+    /// No job has any yet. All memory that the lists of so many jobs need is taken here.
+    pub fn new(alloc: Global, jobs: u32) -> Result<StoredDeps, AllocError>
+        ensures { IfOk result (λ s. s ≡ record { lists = []; places = jobs }) }
     {
-        let entries = deps.entries();
-        let mut list = Vec::with_capacity(alloc, entries.len() + more as usize)?;
-        for dep in entries {
-            list.push_reserved(*dep);
-        }
-        Ok(StoredDeps { list })
+        let jobs = jobs as usize;
+        let fences = Vec::with_capacity(alloc, jobs * MOST)?;
+        let spans = Vec::with_capacity(alloc, jobs)?;
+        Ok(StoredDeps { fences, spans })
     }
 
-    /// How many entities there is a fence of.
+    /// How many jobs have a list.
     pub fn len(&self) -> usize
-        ensures { result ≡ length self.now.list }
+        ensures { result ≡ length self.now.lists }
     {
-        self.list.len()
+        self.spans.len()
     }
 
-    /// Whether there is nothing to wait for.
+    /// Whether no job has one.
     pub fn is_empty(&self) -> bool
-        ensures { result ≡ (length self.now.list == 0) }
+        ensures { result ≡ (length self.now.lists == 0) }
     {
-        self.list.is_empty()
+        self.spans.is_empty()
     }
 
-    /// For how many entities there is room.
+    /// For how many jobs there is room.
     pub fn places(&self) -> usize
         ensures { result ≡ self.now.places }
     {
-        self.list.capacity()
+        self.spans.capacity()
     }
 
-    /// Each entity with its fence, in the order in which the entities were first noted.
-    pub fn as_slice(&self) -> &[(EntityId, FenceId)]
-        ensures list { result.now ≡ self.now.list }
-        ensures once { IsPerEntity self.now.list }
+    /// Each entity with the fence of it that the job waits for, in the order in which the entities were first noted.
+    pub fn of(&self, job: usize) -> &[(EntityId, FenceId)]
+        requires { job < length self.now.lists }
+        ensures list { slice_get self.now.lists job ≡ Some result.now }
+        ensures once { IsPerEntity result.now }
+        ensures within { length result.now ≤ 64 }
     {
-        &self.list
+        let Span { from, to } = self.spans[job];
+        &self.fences[from..to]
     }
 
-    /// The entity and the fence at a place, counted from 0.
-    pub fn at(&self, place: usize) -> (EntityId, FenceId)
-        requires { place < length self.now.list }
-        ensures { slice_get self.now.list place ≡ Some result }
-    {
-        self.list[place]
-    }
-
-    /// Notes a fence of an entity, for which there is room: it keeps the later of this fence and the one that is
-    /// there. It takes no memory.
-    pub fn note(&mut self, entity: EntityId, fence: FenceId)
-        requires entity { entity < 64 }
-        requires room { length self.old.list < self.old.places }
-        ensures list { self.new.list ≡ noted self.old.list entity fence }
+    /// The next job, for which there is room, waits for these. It takes no memory.
+    pub fn push(&mut self, deps: &Deps)
+        requires { length self.old.lists < self.old.places }
+        ensures lists { self.new.lists ≡ self.old.lists ++ deps.now ∷ [] }
         ensures places { self.new.places ≡ self.old.places }
     {
-        let place = place_of(&self.list, entity);
-        if place < self.list.len() {
-            let slot = &mut self.list[place];
-            slot.1 = slot.1.max(fence);
-        } else {
-            self.list.push_reserved((entity, fence));
-        }
+        let from = self.fences.len();
+        append(&mut self.fences, deps.entries());
+        let to = self.fences.len();
+        self.spans.push_reserved(Span { from, to });
     }
 }

@@ -19,6 +19,7 @@ use Rattle.drm_job.specs.Fault.{job_tests, IsJob}
 use Rattle.drm_types.proofs.Firsts.{none_first, none_at, none_when}
 use Rattle.drm_fence.specs.declared.phase.Phase.TheVariants.{Queued}
 use Rattle.drm_fence.specs.Fences.{Fences}
+use Rattle.drm_resv.specs.Stored.{ListsWithPlaces}
 use Rattle.drm_entity.specs.Rows.{EntityRows, pushed}
 use Rattle.drm_sched.specs.declared.journal.JobRecord.{JobRecord}
 use Rattle.drm_sched.specs.declared.loads.Loads.{Loads}
@@ -196,14 +197,14 @@ arming_ring_there t entity w there =
     ring_of_entity_there t entity (arming_ring (state_of t) entity) w there (arming_listed (state_of t) entity w.steady)
 
 -- the tables after the arming
-abbrev pub armed_tables : Table → Vec JobRecord Global → Vec (List (ℕ × ℕ)) Global → Fences → EntityRows → Loads → Table
+abbrev pub armed_tables : Table → Vec JobRecord Global → ListsWithPlaces → Fences → EntityRows → Loads → Table
 armed_tables t journal waits fences entities loads = record t { journal = journal; waits = waits; fences = fences; entities = entities; loads = loads }
 
-pub arm_done : (t : Table) (job : Draft) (deps : List (ℕ × ℕ)) (ring : ℕ) (journal : Vec JobRecord Global) (waits : Vec (List (ℕ × ℕ)) Global) (fences : Fences) (entities : EntityRows) (loads : Loads) → IsWhole t
+pub arm_done : (t : Table) (job : Draft) (deps : List (ℕ × ℕ)) (ring : ℕ) (journal : Vec JobRecord Global) (waits : ListsWithPlaces) (fences : Fences) (entities : EntityRows) (loads : Loads) → IsWhole t
     → IsJob t.spec job → DepsCover (state_of t) job deps → arm_refusal (state_of t) job ≡ None → ring ≡ arming_ring (state_of t) job.entity
     → journal.items ≡ t.journal.items ++ record (new_record (state_of t) job) { ring = ring } ∷ []
-    → waits.items ≡ t.waits.items ++ all_named t.journal.items deps job.after ∷ []
-    → fences.list ≡ t.fences.list ++ record { phase = Queued; ran = 0 } ∷ [] → vec_capacity journal ≡ vec_capacity t.journal → vec_capacity waits ≡ vec_capacity t.waits
+    → waits.lists ≡ t.waits.lists ++ all_named t.journal.items deps job.after ∷ []
+    → fences.list ≡ t.fences.list ++ record { phase = Queued; ran = 0 } ∷ [] → vec_capacity journal ≡ vec_capacity t.journal → waits.places ≡ t.waits.places
     → fences.places ≡ t.fences.places → entities ≡ pushed t.entities job.entity (length t.journal.items)
     → ((n : ℕ) → slice_get t.loads.live.items ring ≡ Some n → loads.live.items ≡ set t.loads.live.items ring (n + 1))
     → loads.last.items ≡ set t.loads.last.items job.entity (Some (length t.journal.items)) → loads.ended ≡ t.loads.ended
@@ -226,7 +227,7 @@ arm_done t job deps ring journal waits fences entities loads w is_job cover may 
         fences = list ∙ (ap (λ fs. fs ++ record { phase = Queued; ran = 0 } ∷ []) w.fences
             ∙ (sym (map-append fence_state_of t.journal.items (new ∷ [])) ∙ ap (map fence_state_of) (sym items_are)));
         waits = subst (λ ws. WaitsStand journal.items ws) (sym waits_are)
-            (subst (λ js. WaitsStand js (t.waits.items ++ all_named t.journal.items deps job.after ∷ [])) (sym items_are) (waits_armed d job deps t.waits.items new w.waits refl cover arms));
+            (subst (λ js. WaitsStand js (t.waits.lists ++ all_named t.journal.items deps job.after ∷ [])) (sym items_are) (waits_armed d job deps t.waits.lists new w.waits refl cover arms));
         queues = subst (QueuesStand journal.items) (sym queued)
             (subst (λ js. QueuesStand js (pushed t.entities job.entity (length t.journal.items))) (sym items_are)
             (stands_pushed t.journal.items new t.entities job.entity row.0 row.1 refl refl w.queues));

@@ -107,7 +107,7 @@ no_waits journal waits no_jobs none = subst (λ ws. WaitsStand journal ws) (sym 
   stand = λ j r deps at going found. absurd (cc (at));
 }))
 
-pub blank_whole : (t : Table) → state_of t ≡ opened_device t.spec → AreBlank t.spec.rings t.rings.items → spec_fault t.spec ≡ None → t.fences.list ≡ [] → t.waits.items ≡ [] → t.entities ≡ blank_entities t.spec
+pub blank_whole : (t : Table) → state_of t ≡ opened_device t.spec → AreBlank t.spec.rings t.rings.items → spec_fault t.spec ≡ None → t.fences.list ≡ [] → t.waits.lists ≡ [] → t.entities ≡ blank_entities t.spec
     → t.loads.live.items ≡ replicate (length t.spec.rings) 0 → t.loads.last.items ≡ replicate (length t.spec.entities) None → t.loads.ended ≡ 0 → HasRooms t → IsWhole t
 blank_whole t opened blank limits fences waits entities live last ended rooms =
     let no_jobs : t.journal.items ≡ [] = ap (λ (d : DeviceState). d.journal) opened in
@@ -116,7 +116,7 @@ blank_whole t opened blank limits fences waits entities live last ended rooms =
       limits = limits;
       count = let none : length t.journal.items ≡ 0 = ap length no_jobs in omega (arith, none);
       fences = fences ∙ ap (map fence_state_of) (sym no_jobs);
-      waits = no_waits t.journal.items t.waits.items no_jobs waits;
+      waits = no_waits t.journal.items t.waits.lists no_jobs waits;
       queues = subst (QueuesStand t.journal.items) (sym entities) (subst (λ js. QueuesStand js (blank_entities t.spec)) (sym no_jobs) (no_queues t.spec));
       loads = subst (λ js. LoadsOf t.spec js t.loads) (sym no_jobs) (loads_blank t.spec t.loads live last ended);
       rows = blank_rows (state_of t) t.rings.items blank;

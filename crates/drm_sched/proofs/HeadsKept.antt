@@ -161,7 +161,7 @@ own_key d entity ring number r going is =
 
 -- the entities and the fences of dependencies are there
 pub deps_there : (t : Table) (number : ℕ) (r : JobRecord) (deps : List (ℕ × ℕ)) (w : Waiting) → IsWhole t → slice_get t.journal.items number ≡ Some r → has_ended r.phase ≡ false
-    → slice_get t.waits.items number ≡ Some deps → w.entities ≡ length t.spec.entities → w.fences ≡ t.spec.max_jobs → All (λ (d : ℕ × ℕ). (d.0 < w.entities) × (d.1 < w.fences)) deps
+    → slice_get t.waits.lists number ≡ Some deps → w.entities ≡ length t.spec.entities → w.fences ≡ t.spec.max_jobs → All (λ (d : ℕ × ℕ). (d.0 < w.entities) × (d.1 < w.fences)) deps
 deps_there t number r deps w whole at going at_deps entities fences =
     All-weaker (IsDependency t.journal.items number r.job) (λ (d : ℕ × ℕ). (d.0 < w.entities) × (d.1 < w.fences)) each deps (whole.waits.stand number r deps at going at_deps).of_jobs
   where
@@ -293,12 +293,12 @@ pub its_record : (js : List JobRecord) (i : ℕ) (x r : JobRecord) → x ≡ get
 its_record js i x r read at = let there = at_index js i x read (slice_get_within js i r at) in cc (there, at)
 
 -- the dependencies of a job
-pub deps_of : (t : Table) (number : ℕ) (r : JobRecord) → IsWhole t → slice_get t.journal.items number ≡ Some r → (deps : List (ℕ × ℕ)) × (slice_get t.waits.items number ≡ Some deps)
+pub deps_of : (t : Table) (number : ℕ) (r : JobRecord) → IsWhole t → slice_get t.journal.items number ≡ Some r → (deps : List (ℕ × ℕ)) × (slice_get t.waits.lists number ≡ Some deps)
 deps_of t number r whole at =
-    stands_within t.waits.items number (let lt = slice_get_within t.journal.items number r at in let count = whole.waits.count in omega (arith, lt, count))
+    stands_within t.waits.lists number (let lt = slice_get_within t.journal.items number r at in let count = whole.waits.count in omega (arith, lt, count))
 
-pub read_deps : (waits : List (List (ℕ × ℕ))) (i : ℕ) (x deps : List (ℕ × ℕ)) → x ≡ get_or waits i x → slice_get waits i ≡ Some deps → x ≡ deps
-read_deps waits i x deps read at = let there = at_index waits i x read (slice_get_within waits i deps at) in cc (there, at)
+pub read_deps : (waits : List (List (ℕ × ℕ))) (i : ℕ) (x deps : List (ℕ × ℕ)) → slice_get waits i ≡ Some x → slice_get waits i ≡ Some deps → x ≡ deps
+read_deps waits i x deps read at = cc (read, at)
 
 -- a ring's run queue has room for the entity
 pub keys_room : (d : DeviceState) (waits : List (List (ℕ × ℕ))) (h : Heads) (ring entity : ℕ) → HeadsStand d waits h → ring < length d.spec.rings → entity < length d.spec.entities

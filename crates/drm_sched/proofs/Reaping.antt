@@ -167,7 +167,7 @@ earlier_ended t entity number ring r w front is there ring_is =
 
 -- whether the front of a queue has to wait, by the dependencies that are kept for it
 pub must_wait_is : (t : Table) (entity number ring : ℕ) (r : JobRecord) (deps : List (ℕ × ℕ)) → IsWhole t → IsFront t.journal.items entity number r
-    → head_number t.journal.items entity ≡ Some number → ring < length t.spec.rings → ring ≡ r.ring → slice_get t.waits.items number ≡ Some deps
+    → head_number t.journal.items entity ≡ Some number → ring < length t.spec.rings → ring ≡ r.ring → slice_get t.waits.lists number ≡ Some deps
     → must_still_wait t.journal.items number r ≡ not (may_end_after t.journal.items deps (pending_of (state_of t) ring) entity)
 must_wait_is t entity number ring r deps w front is there ring_is at_deps =
     let js = t.journal.items in
@@ -185,7 +185,7 @@ must_wait_is t entity number ring r deps w front is there ring_is at_deps =
 -- whether a reap is refused, by the dependencies that are kept for the front of the queue
 pub reap_refused : (t : Table) (entity number ring : ℕ) (r : JobRecord) (row : RingJobs) (deps : List (ℕ × ℕ)) (may : Bool) → IsWhole t → is_stopped (state_of t) entity ≡ true
     → head_number t.journal.items entity ≡ Some number → slice_get t.journal.items number ≡ Some r → ring ≡ r.ring → row ≡ get_or t.rings.items ring row
-    → deps ≡ get_or t.waits.items number deps → may_end_after t.journal.items deps row.pending.items entity ≡ may
+    → slice_get t.waits.lists number ≡ Some deps → may_end_after t.journal.items deps row.pending.items entity ≡ may
     → reap_refusal (state_of t) entity ≡ first_of (when (not may) Waits ∷ [])
 reap_refused t entity number ring r row deps may w stopped is r_at ring_of_r row_is deps_is may_is =
     let js = t.journal.items in
@@ -193,8 +193,7 @@ reap_refused t entity number ring r row deps may w stopped is r_at ring_of_r row
     let same : r ≡ front.0 = cc (r_at, front.1.at) in
     let ring_is : ring ≡ front.0.ring = ring_of_r ∙ ap (λ (z : JobRecord). z.ring) same in
     let there : ring < length t.spec.rings = subst (λ n. n < length t.spec.rings) (sym ring_of_r) (job_ring_there t number r w r_at) in
-    let within : number < length t.waits.items = subst (λ n. number < n) (sym w.waits.count) (slice_get_within js number front.0 front.1.at) in
-    let waits = must_wait_is t entity number ring front.0 deps w front.1 is there ring_is (at_index t.waits.items number deps deps_is within) in
+    let waits = must_wait_is t entity number ring front.0 deps w front.1 is there ring_is deps_is in
     let pending = row_pending t ring row (row_found t ring row w there row_is) in
     ap (λ b. first_of (when (not b || is_none (first (queue_of entity js))) Nothing
     ∷ option_map_or (λ n. when (must_still_wait js n.0 n.1) Waits) (first (queue_of entity js)) None ∷ [])) stopped

@@ -46,43 +46,43 @@ use Rattle.drm_sched.proofs.MarkedDone.{ring_is_there}
 
 -- the heads stand beside these tables
 abbrev pub StandBeside : MarkedTable → Heads → Type 0
-StandBeside d h = HeadsStand (state_of d.table) d.table.waits.items h
+StandBeside d h = HeadsStand (state_of d.table) d.table.waits.lists h
 
 pub beside_same : (d n : MarkedTable) (h : Heads) → n ≡ d → StandBeside d h → StandBeside n h
 beside_same d n h is stand = subst (λ m. StandBeside m h) (sym is) stand
 
 -- the same state
-same_state : (d n : MarkedTable) (h : Heads) → state_of n.table ≡ state_of d.table → n.table.waits.items ≡ d.table.waits.items → StandBeside d h → StandBeside n h
-same_state d n h state waits stand = subst (λ ws. HeadsStand (state_of n.table) ws h) (sym waits) (subst (λ s. HeadsStand s d.table.waits.items h) (sym state) stand)
+same_state : (d n : MarkedTable) (h : Heads) → state_of n.table ≡ state_of d.table → n.table.waits.lists ≡ d.table.waits.lists → StandBeside d h → StandBeside n h
+same_state d n h state waits stand = subst (λ ws. HeadsStand (state_of n.table) ws h) (sym waits) (subst (λ s. HeadsStand s d.table.waits.lists h) (sym state) stand)
 
 pub step_beside : (d n : MarkedTable) (h : Heads) (ring : ℕ) (r : Result Stepped Refusal) → IsWholeMarked d → ring < length d.table.spec.rings
     → IfOk r (λ s. (out_or (is_in_way (marked_of d) ring) (step_refusal (state_of d.table) ring) ≡ None) × (step_outcome (state_of d.table) ring ≡ (stepped s, state_of n.table)))
     → IfErr r (λ e. (out_or (is_in_way (marked_of d) ring) (step_refusal (state_of d.table) ring) ≡ Some e) × (n ≡ d))
-    → n.table.waits.items ≡ d.table.waits.items → StandBeside d h → StandBeside n h
+    → n.table.waits.lists ≡ d.table.waits.lists → StandBeside d h → StandBeside n h
 step_beside d n h ring (Ok s) w there ok err waits stand =
-    stand_after (state_of d.table) (state_of n.table) d.table.waits.items n.table.waits.items h
+    stand_after (state_of d.table) (state_of n.table) d.table.waits.lists n.table.waits.lists h
     (all_by (state_of d.table) (state_of n.table) (stepped s) _ ok.1 (step_all (state_of d.table) ring w.steady.state there)) waits stand
 step_beside d n h ring (Err e) w there ok err waits stand = beside_same d n h err.1 stand
 
 pub timeout_beside : (d n : MarkedTable) (h : Heads) (ring now : ℕ) (r : Result Expired Refusal) → IsWholeMarked d → ring < length d.table.spec.rings
     → IfOk r (λ x. (out_or (ring_out (marked_of d) ring) None ≡ None) × (timeout_outcome (state_of d.table) ring now ≡ (timed_out x, state_of n.table)))
     → IfErr r (λ e. (out_or (ring_out (marked_of d) ring) None ≡ Some e) × (n ≡ d))
-    → n.table.waits.items ≡ d.table.waits.items → StandBeside d h → StandBeside n h
+    → n.table.waits.lists ≡ d.table.waits.lists → StandBeside d h → StandBeside n h
 timeout_beside d n h ring now (Ok x) w there ok err waits stand =
-    stand_after (state_of d.table) (state_of n.table) d.table.waits.items n.table.waits.items h
+    stand_after (state_of d.table) (state_of n.table) d.table.waits.lists n.table.waits.lists h
     (all_by (state_of d.table) (state_of n.table) (timed_out x) _ ok.1 (timeout_all (state_of d.table) ring now w.steady.state there)) waits stand
 timeout_beside d n h ring now (Err e) w there ok err waits stand = beside_same d n h err.1 stand
 
 pub report_beside : (d n : MarkedTable) (h : Heads) (ring : ℕ) (ran : ℕ × ℕ) → IsWholeMarked d → HasReported (marked_of d) ring ran (marked_of n)
-    → n.table.waits.items ≡ d.table.waits.items → StandBeside d h → StandBeside n h
+    → n.table.waits.lists ≡ d.table.waits.lists → StandBeside d h → StandBeside n h
 report_beside d n h ring ran w (m, p, is, at, ran_is, left, may, stepped_is) waits stand =
-    stand_after (state_of d.table) (state_of n.table) d.table.waits.items n.table.waits.items h
+    stand_after (state_of d.table) (state_of n.table) d.table.waits.lists n.table.waits.lists h
     (all_by (state_of d.table) (state_of n.table) (answer.Ran m.fence m.packet) _ stepped_is (step_all (state_of d.table) ring w.steady.state (ring_is_there d ring m w is))) waits stand
 
 pub begin_beside : (d n : MarkedTable) (h : Heads) (ring : ℕ) (r : Result Begun Refusal)
     → IfOk r (λ b. (out_or (is_in_way (marked_of d) ring) (step_refusal (state_of d.table) ring) ≡ None) × HasBegun (marked_of d) ring b (marked_of n))
     → IfErr r (λ e. (out_or (is_in_way (marked_of d) ring) (step_refusal (state_of d.table) ring) ≡ Some e) × (n ≡ d))
-    → n.table.waits.items ≡ d.table.waits.items → StandBeside d h → StandBeside n h
+    → n.table.waits.lists ≡ d.table.waits.lists → StandBeside d h → StandBeside n h
 begin_beside d n h ring (Ok (Work fence packet copy write read)) ok err waits stand =
     same_state d n h (ap (λ (m : MarkedDevice). m.state) ok.1.8) waits stand
 begin_beside d n h ring (Ok (Stalled fence)) ok err waits stand = same_state d n h (ap (λ (m : MarkedDevice). m.state) ok.1.1) waits stand
@@ -118,7 +118,7 @@ replicate_get zero k x y at = absurd (cc (at))
 replicate_get (suc n) zero x y at = cc (at)
 replicate_get (suc n) (suc k) x y at = replicate_get n k x y at
 
-pub opened_beside : (d : MarkedTable) (h : Heads) (spec : DeviceSpec) → marked_of d ≡ unmarked (opened_device spec) → d.table.waits.items ≡ []
+pub opened_beside : (d : MarkedTable) (h : Heads) (spec : DeviceSpec) → marked_of d ≡ unmarked (opened_device spec) → d.table.waits.lists ≡ []
     → h.queues.items ≡ replicate (length spec.rings) (replicate (length spec.entities) None)
     → h.waiters ≡ record { entities = length spec.entities; fences = spec.max_jobs; pairs = [] } → StandBeside d h
 opened_beside d h spec opened waits queues waiters =
@@ -151,11 +151,11 @@ pub cancel_beside : (d n : MarkedTable) (h : Heads) (entity : ℕ) (r : Result (
     → is_stopped (state_of d.table) entity ≡ false
     → OnOk r ((cancel_refusal (state_of d.table) entity ≡ None) × (state_of n.table ≡ cancelled_device (state_of d.table) entity))
     → IfErr r (λ e. (cancel_refusal (state_of d.table) entity ≡ Some e) × (n ≡ d))
-    → n.table.waits.items ≡ d.table.waits.items → HeadsStandBut (state_of d.table) d.table.waits.items entity h → StandBeside n h
+    → n.table.waits.lists ≡ d.table.waits.lists → HeadsStandBut (state_of d.table) d.table.waits.lists entity h → StandBeside n h
 cancel_beside d n h entity (Ok u) w there going ok err waits but =
     let count = w.steady.state.lawful.entity_count in
     subst (λ ws. HeadsStand (state_of n.table) ws h) (sym waits)
-    (subst (λ s. HeadsStand s d.table.waits.items h) (sym ok.1) (cancel_stand (state_of d.table) d.table.waits.items entity h (omega (arith, there, count)) but))
+    (subst (λ s. HeadsStand s d.table.waits.lists h) (sym ok.1) (cancel_stand (state_of d.table) d.table.waits.lists entity h (omega (arith, there, count)) but))
 cancel_beside d n h entity (Err e) w there going ok err waits but =
     absurd (let clash : None ≡ Some e = sym (ap (λ b. when b AlreadyStopped) going) ∙ err.0 in cc (clash))
 
@@ -170,27 +170,27 @@ some_first (x ∷ xs) is = (x, refl)
 
 pub armed_but : (d n : MarkedTable) (h : Heads) (job : Draft) (entity : ℕ) (deps : List (ℕ × ℕ)) → IsWholeMarked d → IsJob d.table.spec job → entity ≡ job.entity
     → is_nil (queue_at d.table.entities entity) ≡ true
-    → state_of n.table ≡ armed_device (state_of d.table) job → n.table.waits.items ≡ d.table.waits.items ++ deps ∷ [] → StandBeside d h
-    → (entity < length n.table.spec.entities) × HeadsStandBut (state_of n.table) n.table.waits.items entity h
+    → state_of n.table ≡ armed_device (state_of d.table) job → n.table.waits.lists ≡ d.table.waits.lists ++ deps ∷ [] → StandBeside d h
+    → (entity < length n.table.spec.entities) × HeadsStandBut (state_of n.table) n.table.waits.lists entity h
 armed_but d n h job entity deps w is_job of_it none armed waits stand =
     let there = (few_entities d.table.spec job w.table.limits is_job).0 in
     let here : entity < length d.table.spec.entities = subst (λ e. e < length d.table.spec.entities) (sym of_it) there in
     let empty = no_front d.table entity w.table here (nothing_first (queue_at d.table.entities entity) none) in (
       subst (λ (s : DeviceSpec). entity < length s.entities) (sym (ap (λ (x : DeviceState). x.spec) armed)) here,
       subst (λ ws. HeadsStandBut (state_of n.table) ws entity h) (sym waits)
-          (subst (λ s. HeadsStandBut s (d.table.waits.items ++ deps ∷ []) entity h) (sym armed)
-          (subst (λ e. HeadsStandBut (armed_device (state_of d.table) job) (d.table.waits.items ++ deps ∷ []) e h) (sym of_it)
-          (arm_stand_but (state_of d.table) job d.table.waits.items deps h w.table.waits (ap (λ e. first (queue_of e d.table.journal.items)) (sym of_it) ∙ empty) stand))),
+          (subst (λ s. HeadsStandBut s (d.table.waits.lists ++ deps ∷ []) entity h) (sym armed)
+          (subst (λ e. HeadsStandBut (armed_device (state_of d.table) job) (d.table.waits.lists ++ deps ∷ []) e h) (sym of_it)
+          (arm_stand_but (state_of d.table) job d.table.waits.lists deps h w.table.waits (ap (λ e. first (queue_of e d.table.journal.items)) (sym of_it) ∙ empty) stand))),
     )
 
 pub armed_beside : (d n : MarkedTable) (h : Heads) (job : Draft) (entity : ℕ) (deps : List (ℕ × ℕ)) → IsWholeMarked d → IsJob d.table.spec job → entity ≡ job.entity
     → is_nil (queue_at d.table.entities entity) ≡ false
-    → state_of n.table ≡ armed_device (state_of d.table) job → n.table.waits.items ≡ d.table.waits.items ++ deps ∷ [] → StandBeside d h → StandBeside n h
+    → state_of n.table ≡ armed_device (state_of d.table) job → n.table.waits.lists ≡ d.table.waits.lists ++ deps ∷ [] → StandBeside d h → StandBeside n h
 armed_beside d n h job entity deps w is_job of_it some armed waits stand =
     let there = (few_entities d.table.spec job w.table.limits is_job).0 in
     let here : entity < length d.table.spec.entities = subst (λ e. e < length d.table.spec.entities) (sym of_it) there in
     let number = some_first (queue_at d.table.entities entity) some in
     let front = front_found d.table entity number.0 w.table here number.1 in
     subst (λ ws. HeadsStand (state_of n.table) ws h) (sym waits)
-    (subst (λ s. HeadsStand s (d.table.waits.items ++ deps ∷ []) h) (sym armed)
-    (arm_stand (state_of d.table) job d.table.waits.items deps h (number.0, front.0) w.table.waits (ap (λ e. first (queue_of e d.table.journal.items)) (sym of_it) ∙ front.1.first) stand))
+    (subst (λ s. HeadsStand s (d.table.waits.lists ++ deps ∷ []) h) (sym armed)
+    (arm_stand (state_of d.table) job d.table.waits.lists deps h (number.0, front.0) w.table.waits (ap (λ e. first (queue_of e d.table.journal.items)) (sym of_it) ∙ front.1.first) stand))

@@ -161,7 +161,7 @@ waits_kept old new waits stand grows count = record {
 }
 
 -- tables stay whole when their device is kept and their parts go on with it
-pub whole_kept : (t u : Table) → IsWhole t → IsKept (state_of t) (state_of u) → u.fences.list ≡ map fence_state_of u.journal.items → u.waits.items ≡ t.waits.items
+pub whole_kept : (t u : Table) → IsWhole t → IsKept (state_of t) (state_of u) → u.fences.list ≡ map fence_state_of u.journal.items → u.waits.lists ≡ t.waits.lists
     → QueuesStand u.journal.items u.entities → LoadsOf u.spec u.journal.items u.loads → RowsStand (state_of u) u.rings.items → sizes_of u.memory.bytes ≡ sizes_of t.memory.bytes → HasRooms u → IsWhole u
 whole_kept t u w kept fences waits queues loads rows sizes rooms =
     let spec : u.spec ≡ t.spec = kept.grows.spec in
@@ -170,7 +170,7 @@ whole_kept t u w kept fences waits queues loads rows sizes rooms =
       limits = ap spec_fault spec ∙ w.limits;
       count = subst (λ n. n ≤ u.spec.max_jobs) (sym kept.count) (subst (λ (s : DeviceSpec). length t.journal.items ≤ s.max_jobs) (sym spec) w.count);
       fences = fences;
-      waits = subst (λ ws. WaitsStand u.journal.items ws) (sym waits) (waits_kept (state_of t) (state_of u) t.waits.items w.waits kept.grows kept.count);
+      waits = subst (λ ws. WaitsStand u.journal.items ws) (sym waits) (waits_kept (state_of t) (state_of u) t.waits.lists w.waits kept.grows kept.count);
       queues = queues;
       loads = loads;
       rows = rows;
@@ -211,11 +211,11 @@ row_found t ring row w there is = at_index t.rings.items ring row is (row_there 
 
 -- room stays where one row changed and kept its own
 pub rooms_kept : (t u : Table) (ring : ℕ) (row new : RingJobs) → HasRooms t → u.spec ≡ t.spec → u.rings.items ≡ set t.rings.items ring new → slice_get t.rings.items ring ≡ Some row
-    → deque_capacity new.pending ≡ deque_capacity row.pending → vec_capacity u.journal ≡ vec_capacity t.journal → vec_capacity u.waits ≡ vec_capacity t.waits
+    → deque_capacity new.pending ≡ deque_capacity row.pending → vec_capacity u.journal ≡ vec_capacity t.journal → u.waits.places ≡ t.waits.places
     → u.fences.places ≡ t.fences.places → u.entities.places ≡ t.entities.places → HasRooms u
 rooms_kept t u ring row new rooms spec rings at room jobs waits places queues = record {
   jobs = subst (λ n. u.spec.max_jobs ≤ n) (sym jobs) (subst (λ (s : DeviceSpec). s.max_jobs ≤ vec_capacity t.journal) (sym spec) rooms.jobs);
-  waits = subst (λ n. u.spec.max_jobs ≤ n) (sym waits) (subst (λ (s : DeviceSpec). s.max_jobs ≤ vec_capacity t.waits) (sym spec) rooms.waits);
+  waits = subst (λ n. u.spec.max_jobs ≤ n) (sym waits) (subst (λ (s : DeviceSpec). s.max_jobs ≤ t.waits.places) (sym spec) rooms.waits);
   places = places ∙ (rooms.places ∙ ap (λ (s : DeviceSpec). s.max_jobs) (sym spec));
   queues = queues ∙ (rooms.queues ∙ ap (λ (s : DeviceSpec). s.max_jobs) (sym spec));
   pending = λ k r at_k.

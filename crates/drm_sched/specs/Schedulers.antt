@@ -5,4 +5,4 @@ use Rattle.drm_sched.specs.Tables.{state_of}
 
 -- the heads are those of the queues
 abbrev pub HasHeads : Scheduler → Type 0
-HasHeads s = HeadsStand (state_of s.marked.table) s.marked.table.waits.items s.heads
+HasHeads s = HeadsStand (state_of s.marked.table) s.marked.table.waits.lists s.heads

@@ -55,7 +55,7 @@ ending r = if is_complete r then Some (final_outcome r) else None
 -- ring
 pub record HasRooms (t : Table) : Type 0 where
   pub jobs : t.spec.max_jobs ≤ vec_capacity t.journal
-  pub waits : t.spec.max_jobs ≤ vec_capacity t.waits
+  pub waits : t.spec.max_jobs ≤ t.waits.places
   pub places : t.fences.places ≡ t.spec.max_jobs
   pub queues : t.entities.places ≡ t.spec.max_jobs
   pub pending : (ring : ℕ) (row : RingJobs) → slice_get t.rings.items ring ≡ Some row → credit_limit_of (state_of t) ring ≤ deque_capacity row.pending
@@ -68,7 +68,7 @@ pub record IsWhole (t : Table) : Type 0 where
   pub limits : spec_fault t.spec ≡ None
   pub count : length t.journal.items ≤ t.spec.max_jobs
   pub fences : t.fences.list ≡ map fence_state_of t.journal.items
-  pub waits : WaitsStand t.journal.items t.waits.items
+  pub waits : WaitsStand t.journal.items t.waits.lists
   pub queues : QueuesStand t.journal.items t.entities
   pub loads : LoadsOf t.spec t.journal.items t.loads
   pub rows : RowsStand (state_of t) t.rings.items

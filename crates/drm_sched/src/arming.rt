@@ -156,7 +156,7 @@ impl Table {
         ensures armed { state_of self.new ≡ armed_device (state_of self.old) plan.job }
         ensures whole { IsWhole self.new }
         ensures out { self.new.memory.out ≡ self.old.memory.out }
-        ensures waits { (deps : _) × (self.new.waits.items ≡ self.old.waits.items ++ deps ∷ []) }
+        ensures waits { (deps : _) × (self.new.waits.lists ≡ self.old.waits.lists ++ deps ∷ []) }
     {
         let Plan { job, mut deps } = plan;
         note_named(&self.journal, job.after(), &mut deps);
@@ -165,7 +165,7 @@ impl Table {
         let number = self.journal.len() as u32;
         self.entities.push(entity, number);
         self.loads.add(ring, entity, number);
-        self.waits.push_reserved(deps);
+        self.waits.push(&deps);
         self.journal.push_reserved(JobRecord {
             job,
             ring,

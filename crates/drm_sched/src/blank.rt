@@ -9,6 +9,7 @@ use crate::table::{RingJobs, Table};
 use drm_buffer::Store;
 use drm_entity::Entities;
 use drm_fence::Timeline;
+use drm_resv::StoredDeps;
 use drm_ring::Credits;
 use drm_types::{DeviceSpec, RingSpec};
 use std::alloc::{AllocError, Global};
@@ -40,12 +41,12 @@ impl Table {
         ensures opened { IfOk result (λ t. state_of t ≡ opened_device spec) }
         ensures whole { IfOk result (λ t. IsWhole t) }
         ensures inside { IfOk result (λ t. AllIn t) }
-        ensures waits { IfOk result (λ t. t.waits.items ≡ []) }
+        ensures waits { IfOk result (λ t. t.waits.lists ≡ []) }
     {
         let memory = Store::copy_of(alloc, &spec.buffers)?;
         let max_jobs = spec.max_jobs as usize;
         let journal = Vec::with_capacity(alloc, max_jobs)?;
-        let waits = Vec::with_capacity(alloc, max_jobs)?;
+        let waits = StoredDeps::new(alloc, spec.max_jobs)?;
         let fences = Timeline::new(alloc, spec.max_jobs)?;
         let rings = blank_rings(alloc, spec.rings.as_slice())?;
         let entities = Entities::new(alloc, &spec)?;

@@ -1,6 +1,7 @@
 ghost use Rattle.std.specs.Prelude.{◌≡◌, ◌≢◌, ℕ, ◌<◌, ◌≤◌, ◌==◌, [], length, replicate, Some, None, IfOk, IfSome, IfNone, slice_get, All};
 ghost use Rattle.drm_fence.specs.declared.pair.Pair.{Pair};
 ghost use Rattle.drm_fence.specs.Waiting.{unmet_in, without_early, without_entity, without_fence};
+ghost use Rattle.drm_resv.specs.Latest.{IsPerEntity};
 ghost use Rattle.drm_runq.specs.Keys.{IsFirstReady, NoneReady};
 ghost use Rattle.drm_sched.specs.Choice.{choice};
 ghost use Rattle.drm_sched.specs.Heads.{AreWatched, HeadsStand, HeadsStandBut, keys_at, with_key};
@@ -12,7 +13,6 @@ use crate::choice;
 use crate::journal::JobRecord;
 use crate::table::Table;
 use drm_fence::Waiters;
-use drm_resv::Deps;
 use drm_runq::RunQueue;
 use drm_types::{DeviceSpec, EntityId, FenceId, Priority, RingId};
 use std::alloc::{AllocError, Global};
@@ -51,11 +51,12 @@ fn is_on(journal: &[JobRecord], fence: FenceId, ring: RingId) -> bool
 fn watch_unmet(
     waiters: &mut Waiters,
     journal: &[JobRecord],
-    deps: &Deps,
+    deps: &[(EntityId, FenceId)],
     entity: EntityId,
     ring: RingId,
 )
     requires entity { entity < waiters.old.entities }
+    requires once { IsPerEntity deps.now }
     requires there { All (λ d. (d.0 < waiters.old.entities) × (d.1 < waiters.old.fences)) deps.now }
     requires none { AreWatched waiters.old.pairs entity [] }
     ensures watched { AreWatched waiters.new.pairs entity (unmet_pairs journal.now entity ring deps.now) }
@@ -63,8 +64,7 @@ fn watch_unmet(
     ensures entities { waiters.new.entities ≡ waiters.old.entities }
     ensures fences { waiters.new.fences ≡ waiters.old.fences }
 {
-    let entries = deps.entries();
-    for dep in entries {
+    for dep in deps {
         let is_met = choice::is_met(journal, dep.1, ring);
         if !is_met {
             let early = is_on(journal, dep.1, ring);
@@ -99,7 +99,7 @@ impl Heads {
     pub(crate) fn choice(&self, table: &Table, ring: RingId) -> Option<FenceId>
         requires there { ring < length table.now.spec.rings }
         requires whole { IsWhole table.now }
-        requires heads { HeadsStand (state_of table.now) table.now.waits.items self.now }
+        requires heads { HeadsStand (state_of table.now) table.now.waits.lists self.now }
         ensures { result ≡ choice (state_of table.now) ring }
     {
         let entity = self.first(ring)?;
@@ -137,8 +137,8 @@ impl Heads {
     pub(crate) fn withdraw(&mut self, table: &Table, entity: EntityId)
         requires there { entity < length table.now.spec.entities }
         requires whole { IsWhole table.now }
-        requires heads { HeadsStand (state_of table.now) table.now.waits.items self.old }
-        ensures { HeadsStandBut (state_of table.now) table.now.waits.items entity self.new }
+        requires heads { HeadsStand (state_of table.now) table.now.waits.lists self.old }
+        ensures { HeadsStandBut (state_of table.now) table.now.waits.lists entity self.new }
     {
         let Some(number) = table.entities.head(entity) else {
             return;
@@ -161,8 +161,8 @@ impl Heads {
     pub(crate) fn place(&mut self, table: &Table, entity: EntityId)
         requires there { entity < length table.now.spec.entities }
         requires whole { IsWhole table.now }
-        requires others { HeadsStandBut (state_of table.now) table.now.waits.items entity self.old }
-        ensures { HeadsStand (state_of table.now) table.now.waits.items self.new }
+        requires others { HeadsStandBut (state_of table.now) table.now.waits.lists entity self.old }
+        ensures { HeadsStand (state_of table.now) table.now.waits.lists self.new }
     {
         if table.is_stopped(entity) {
             return;
@@ -173,7 +173,7 @@ impl Heads {
         let ring = table.journal[number as usize].ring;
         let priority = table.spec.entities.as_slice()[entity as usize].priority;
         self.insert(entity, ring, priority, number);
-        let deps = &table.waits[number as usize];
+        let deps = table.waits.of(number as usize);
         watch_unmet(&mut self.waiters, &table.journal, deps, entity, ring);
     }
 }

@@ -109,7 +109,7 @@ impl Table {
         requires back { ComesBack self.old ring number write read }
         requires whole { IsWhole self.old }
         ensures ran { IsBack self.old number self.new }
-        ensures waits { self.new.waits.items ≡ self.old.waits.items }
+        ensures waits { self.new.waits.lists ≡ self.old.waits.lists }
         ensures whole { IsWhole self.new }
     {
         let record = &self.journal[number as usize];
@@ -149,7 +149,7 @@ impl MarkedTable {
         requires whole { IsWholeMarked self.old }
         ensures begun { IfOk result (λ b. (out_or (is_in_way (marked_of self.old) ring) (step_refusal (state_of self.old.table) ring) ≡ None) × HasBegun (marked_of self.old) ring b (marked_of self.new)) }
         ensures runs { IfOk result MayRun }
-        ensures waits { self.new.table.waits.items ≡ self.old.table.waits.items }
+        ensures waits { self.new.table.waits.lists ≡ self.old.table.waits.lists }
         ensures refused { IfErr result (λ r. (out_or (is_in_way (marked_of self.old) ring) (step_refusal (state_of self.old.table) ring) ≡ Some r) × (self.new ≡ self.old)) }
         ensures whole { IsWholeMarked self.new }
     {
@@ -187,7 +187,7 @@ impl MarkedTable {
         requires busy { IsReport (marked_of self.old) ring write read }
         requires whole { IsWholeMarked self.old }
         ensures reported { HasReported (marked_of self.old) ring result (marked_of self.new) }
-        ensures waits { self.new.table.waits.items ≡ self.old.table.waits.items }
+        ensures waits { self.new.table.waits.lists ≡ self.old.table.waits.lists }
         ensures whole { IsWholeMarked self.new }
     {
         match mem::replace(&mut self.marks[ring as usize], None) {
@@ -212,7 +212,7 @@ impl MarkedTable {
         ensures picked { IfOk result (λ p. (pick_refusal (state_of self.old.table) ring ≡ None) × (pick_outcome (state_of self.old.table) ring now ≡ (picked p, state_of self.new.table))) }
         ensures refused { IfErr result (λ r. (pick_refusal (state_of self.old.table) ring ≡ Some r) × (self.new ≡ self.old)) }
         ensures marks { self.new.marks ≡ self.old.marks }
-        ensures waits { self.new.table.waits.items ≡ self.old.table.waits.items }
+        ensures waits { self.new.table.waits.lists ≡ self.old.table.waits.lists }
         ensures whole { IsWholeMarked self.new }
     {
         self.table.pick(ring, chosen, now)
@@ -225,7 +225,7 @@ impl MarkedTable {
         ensures ran { IfOk result (λ s. (out_or (is_in_way (marked_of self.old) ring) (step_refusal (state_of self.old.table) ring) ≡ None) × (step_outcome (state_of self.old.table) ring ≡ (stepped s, state_of self.new.table))) }
         ensures refused { IfErr result (λ r. (out_or (is_in_way (marked_of self.old) ring) (step_refusal (state_of self.old.table) ring) ≡ Some r) × (self.new ≡ self.old)) }
         ensures marks { self.new.marks ≡ self.old.marks }
-        ensures waits { self.new.table.waits.items ≡ self.old.table.waits.items }
+        ensures waits { self.new.table.waits.lists ≡ self.old.table.waits.lists }
         ensures whole { IsWholeMarked self.new }
     {
         if self.is_in_way(ring) {
@@ -241,7 +241,7 @@ impl MarkedTable {
         ensures finished { IfOk result (λ f. (out_or (ring_out (marked_of self.old) ring) (finish_refusal (state_of self.old.table) ring) ≡ None) × (finish_outcome (state_of self.old.table) ring now ≡ (finished f, state_of self.new.table))) }
         ensures refused { IfErr result (λ r. (out_or (ring_out (marked_of self.old) ring) (finish_refusal (state_of self.old.table) ring) ≡ Some r) × (self.new ≡ self.old)) }
         ensures marks { self.new.marks ≡ self.old.marks }
-        ensures waits { self.new.table.waits.items ≡ self.old.table.waits.items }
+        ensures waits { self.new.table.waits.lists ≡ self.old.table.waits.lists }
         ensures whole { IsWholeMarked self.new }
     {
         if self.has_out(ring) {
@@ -258,7 +258,7 @@ impl MarkedTable {
         ensures expired { IfOk result (λ e. (out_or (ring_out (marked_of self.old) ring) None ≡ None) × (timeout_outcome (state_of self.old.table) ring now ≡ (timed_out e, state_of self.new.table))) }
         ensures refused { IfErr result (λ r. (out_or (ring_out (marked_of self.old) ring) None ≡ Some r) × (self.new ≡ self.old)) }
         ensures marks { self.new.marks ≡ self.old.marks }
-        ensures waits { self.new.table.waits.items ≡ self.old.table.waits.items }
+        ensures waits { self.new.table.waits.lists ≡ self.old.table.waits.lists }
         ensures whole { IsWholeMarked self.new }
     {
         if self.has_out(ring) {
@@ -274,7 +274,7 @@ impl MarkedTable {
         ensures stopped { OnOk result ((cancel_refusal (state_of self.old.table) entity ≡ None) × (state_of self.new.table ≡ cancelled_device (state_of self.old.table) entity)) }
         ensures refused { IfErr result (λ r. (cancel_refusal (state_of self.old.table) entity ≡ Some r) × (self.new ≡ self.old)) }
         ensures marks { self.new.marks ≡ self.old.marks }
-        ensures waits { self.new.table.waits.items ≡ self.old.table.waits.items }
+        ensures waits { self.new.table.waits.lists ≡ self.old.table.waits.lists }
         ensures whole { IsWholeMarked self.new }
     {
         self.table.cancel(entity)
@@ -287,7 +287,7 @@ impl MarkedTable {
         ensures reaped { IfOk result (λ f. (reap_refusal (state_of self.old.table) entity ≡ None) × (reap_outcome (state_of self.old.table) entity ≡ (answer.Reaped f, state_of self.new.table))) }
         ensures refused { IfErr result (λ r. (reap_refusal (state_of self.old.table) entity ≡ Some r) × (self.new ≡ self.old)) }
         ensures marks { self.new.marks ≡ self.old.marks }
-        ensures waits { self.new.table.waits.items ≡ self.old.table.waits.items }
+        ensures waits { self.new.table.waits.lists ≡ self.old.table.waits.lists }
         ensures whole { IsWholeMarked self.new }
     {
         self.table.reap(entity)
@@ -302,7 +302,7 @@ impl MarkedTable {
         ensures number { result ≡ length self.old.table.journal.items }
         ensures armed { state_of self.new.table ≡ armed_device (state_of self.old.table) plan.job }
         ensures marks { self.new.marks ≡ self.old.marks }
-        ensures waits { (deps : _) × (self.new.table.waits.items ≡ self.old.table.waits.items ++ deps ∷ []) }
+        ensures waits { (deps : _) × (self.new.table.waits.lists ≡ self.old.table.waits.lists ++ deps ∷ []) }
         ensures whole { IsWholeMarked self.new }
     {
         self.table.arm(plan)
@@ -313,7 +313,7 @@ impl MarkedTable {
         requires limits { spec_fault spec ≡ None }
         ensures opened { IfOk result (λ d. marked_of d ≡ unmarked (opened_device spec)) }
         ensures whole { IfOk result (λ d. IsWholeMarked d) }
-        ensures waits { IfOk result (λ d. d.table.waits.items ≡ []) }
+        ensures waits { IfOk result (λ d. d.table.waits.lists ≡ []) }
     {
         let table = Table::open(alloc, spec)?;
         let marks = no_marks(alloc, table.rings.len())?;

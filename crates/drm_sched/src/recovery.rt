@@ -78,7 +78,7 @@ impl Table {
         ensures expired { timeout_outcome (state_of self.old) ring now ≡ (timed_out result, state_of self.new) }
         ensures whole { IsWhole self.new }
         ensures out { self.new.memory.out ≡ self.old.memory.out }
-        ensures waits { self.new.waits.items ≡ self.old.waits.items }
+        ensures waits { self.new.waits.lists ≡ self.old.waits.lists }
     {
         let entity = self.journal[number as usize].job.entity();
         let priority = self.priority_of(entity);
@@ -103,7 +103,7 @@ impl Table {
         ensures expired { timeout_outcome (state_of self.old) ring now ≡ (timed_out result, state_of self.new) }
         ensures whole { IsWhole self.new }
         ensures out { self.new.memory.out ≡ self.old.memory.out }
-        ensures waits { self.new.waits.items ≡ self.old.waits.items }
+        ensures waits { self.new.waits.lists ≡ self.old.waits.lists }
     {
         let Some(number) = self.head(ring) else {
             return Expired::Empty;

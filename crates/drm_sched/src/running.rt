@@ -90,7 +90,7 @@ impl Table {
         ensures refused { IfErr result (λ r. (pick_refusal (state_of self.old) ring ≡ Some r) × (self.new ≡ self.old)) }
         ensures whole { IsWhole self.new }
         ensures out { self.new.memory.out ≡ self.old.memory.out }
-        ensures waits { self.new.waits.items ≡ self.old.waits.items }
+        ensures waits { self.new.waits.lists ≡ self.old.waits.lists }
     {
         let Some(number) = chosen else {
             return Err(Refusal::Idle);
@@ -124,7 +124,7 @@ impl Table {
         ensures refused { IfErr result (λ r. (step_refusal (state_of self.old) ring ≡ Some r) × (self.new ≡ self.old)) }
         ensures whole { IsWhole self.new }
         ensures out { self.new.memory.out ≡ self.old.memory.out }
-        ensures waits { self.new.waits.items ≡ self.old.waits.items }
+        ensures waits { self.new.waits.lists ≡ self.old.waits.lists }
     {
         let Some(number) = self.current(ring) else {
             return Err(Refusal::Idle);
@@ -153,7 +153,7 @@ impl Table {
         ensures refused { IfErr result (λ r. (finish_refusal (state_of self.old) ring ≡ Some r) × (self.new ≡ self.old)) }
         ensures whole { IsWhole self.new }
         ensures out { self.new.memory.out ≡ self.old.memory.out }
-        ensures waits { self.new.waits.items ≡ self.old.waits.items }
+        ensures waits { self.new.waits.lists ≡ self.old.waits.lists }
     {
         let Some(number) = self.head(ring) else {
             return Err(Refusal::Idle);

@@ -13,7 +13,6 @@ use crate::answer::Refusal;
 use crate::journal::JobRecord;
 use crate::running;
 use crate::table::Table;
-use drm_resv::Deps;
 use drm_types::{EntityId, FenceId, Outcome};
 use std::collections::VecDeque;
 
@@ -28,12 +27,10 @@ fn has_outcome(journal: &[JobRecord], fence: FenceId) -> bool
 }
 
 // Whether all these dependencies have outcomes.
-fn have_outcomes(journal: &[JobRecord], deps: &Deps) -> bool
+fn have_outcomes(journal: &[JobRecord], deps: &[(EntityId, FenceId)]) -> bool
     ensures { result ≡ list_all (λ d. is_at journal.now d.1 (λ r. has_ended r.phase)) deps.now }
 {
-    deps.as_slice()
-        .iter()
-        .all(|dep| has_outcome(journal, dep.1))
+    deps.iter().all(|dep| has_outcome(journal, dep.1))
 }
 
 // Whether the job is there and of the entity.
@@ -56,7 +53,7 @@ fn none_is_of(journal: &[JobRecord], pending: &VecDeque<FenceId>, entity: Entity
 // Whether the jobs that the entity's first queued one waits for all have outcomes, and none of the entity is pending.
 fn may_end(
     journal: &[JobRecord],
-    deps: &Deps,
+    deps: &[(EntityId, FenceId)],
     pending: &VecDeque<FenceId>,
     entity: EntityId,
 ) -> bool
@@ -81,7 +78,7 @@ impl Table {
         ensures refused { IfErr result (λ r. (cancel_refusal (state_of self.old) entity ≡ Some r) × (self.new ≡ self.old)) }
         ensures whole { IsWhole self.new }
         ensures out { self.new.memory.out ≡ self.old.memory.out }
-        ensures waits { self.new.waits.items ≡ self.old.waits.items }
+        ensures waits { self.new.waits.lists ≡ self.old.waits.lists }
     {
         if self.is_stopped(entity) {
             return Err(Refusal::AlreadyStopped);
@@ -99,7 +96,7 @@ impl Table {
         ensures refused { IfErr result (λ r. (reap_refusal (state_of self.old) entity ≡ Some r) × (self.new ≡ self.old)) }
         ensures whole { IsWhole self.new }
         ensures out { self.new.memory.out ≡ self.old.memory.out }
-        ensures waits { self.new.waits.items ≡ self.old.waits.items }
+        ensures waits { self.new.waits.lists ≡ self.old.waits.lists }
     {
         if !self.is_stopped(entity) {
             return Err(Refusal::Nothing);
@@ -108,7 +105,7 @@ impl Table {
             return Err(Refusal::Nothing);
         };
         let ring = self.journal[number as usize].ring;
-        let deps = &self.waits[number as usize];
+        let deps = self.waits.of(number as usize);
         if !may_end(
             &self.journal,
             deps,

@@ -12,7 +12,7 @@ use crate::loads::Loads;
 use drm_buffer::Store;
 use drm_entity::Entities;
 use drm_fence::Timeline;
-use drm_resv::Deps;
+use drm_resv::StoredDeps;
 use drm_ring::Credits;
 use drm_types::{DeviceSpec, FenceId, Moment, RingId, RingSpec};
 use std::collections::VecDeque;
@@ -36,8 +36,8 @@ pub struct Table {
     pub spec: DeviceSpec,
     pub memory: Store,
     pub journal: Vec<JobRecord>,
-    /// The fences that each job waits for, by number.
-    pub waits: Vec<Deps>,
+    /// The fences that each job waits for.
+    pub waits: StoredDeps,
     pub fences: Timeline,
     pub rings: Vec<RingJobs>,
     /// The queued jobs of each entity, and its marks.

@@ -153,23 +153,22 @@ fn the_latest_of_64_entities(rt: HostRuntime) {
 }
 
 #[test]
-fn dependencies_of_a_stored_job(rt: HostRuntime) -> Result<(), Fail> {
+fn dependencies_of_stored_jobs(rt: HostRuntime) -> Result<(), Fail> {
     let mut deps = Deps::new();
-    assert!(rt; StoredDeps::of(rt.alloc(), &deps, 0)?.is_empty());
+    let mut stored = StoredDeps::new(rt.alloc(), 3)?;
+    assert_eq!(rt; stored.places(), 3);
+    assert!(rt; stored.is_empty());
+    stored.push(&deps);
+    assert!(rt; !stored.is_empty());
     for (entity, fence) in [(5, 9), (63, 2), (0, 7)] {
         deps.note(entity, fence);
     }
-    let mut stored = StoredDeps::of(rt.alloc(), &deps, 2)?;
-    assert_eq!(rt; stored.places(), 5);
-    for (entity, fence) in [(63, 8), (5, 1), (6, 3)] {
-        assert!(rt; stored.len() < stored.places());
-        stored.note(entity, fence);
-    }
-    assert_eq!(rt;
-        stored.as_slice(),
-        [(5, 9), (63, 8), (0, 7), (6, 3)].as_slice()
-    );
-    assert!(rt; stored.len() > 1);
-    assert_eq!(rt; stored.at(1), (63, 8));
+    stored.push(&deps);
+    deps.note(63, 8);
+    stored.push(&deps);
+    assert_eq!(rt; stored.len(), 3);
+    assert!(rt; stored.of(0).is_empty());
+    assert_eq!(rt; stored.of(1), [(5, 9), (63, 2), (0, 7)].as_slice());
+    assert_eq!(rt; stored.of(2), [(5, 9), (63, 8), (0, 7)].as_slice());
     Ok(())
 }

@@ -1,7 +1,6 @@
 use Rattle.std.proofs.Common.{◌≡◌, ◌<◌, ◌+◌, ℕ, length, take, refl, sym, subst, ◌∙◌, slice_index_or, get_or, List}
 use Rattle.std.proofs.lemmas.Option.{slice_get-get_or}
 use Rattle.std.proofs.lemmas.List.{take_all}
-use Rattle.drm_resv.specs.Latest.{IsPerEntity}
 use Rattle.drm_sched.specs.Heads.{AreWatched}
 use Rattle.drm_sched.specs.Watching.{unmet_pairs}
 use Rattle.drm_sched.proofs.Watching.{IsWatching, no_pair, watching_more, watching_met}
@@ -13,14 +12,14 @@ loop-dep-init c = record { watched = c.requires.none; others = λ e pairs apart 
 
 pub watch-requires-clause-new : goal.watch-requires-clause-new
 watch-requires-clause-new c =
-    let deps = c.entries-entries.result.now in
+    let deps = c.args.deps.now in
     no_pair c.loop-dep.waiters.pairs c.args.journal.now c.args.entity c.args.ring c.loop-dep.dep-index (slice_index_or deps c.loop-dep.dep-index (0, 0)) deps
-    c.loop-dep.invariant.watched (subst IsPerEntity (sym c.entries-entries.ensures.list) c.entries-entries.ensures.once)
+    c.loop-dep.invariant.watched c.requires.once
     (slice_get-get_or deps c.loop-dep.dep-index (0, 0) c.loop-dep-test.true)
 
 pub loop-dep-preserved : goal.loop-dep-preserved
 loop-dep-preserved c =
-    let deps = c.entries-entries.result.now in
+    let deps = c.args.deps.now in
     let i = c.loop-dep.dep-index in
     let d = slice_index_or deps i (0, 0) in
     elim c.if-not-is_met.branch [
@@ -40,6 +39,6 @@ loop-dep-preserved c =
 
 pub returns-clause-watched : goal.returns-clause-watched
 returns-clause-watched c =
-    let deps = c.entries-entries.result.now in
+    let deps = c.args.deps.now in
     subst (λ ds. AreWatched c.loop-dep.waiters.pairs c.args.entity (unmet_pairs c.args.journal.now c.args.entity c.args.ring ds))
-    (take_all c.loop-dep.dep-index deps c.loop-dep-test.false ∙ c.entries-entries.ensures.list) c.loop-dep.invariant.watched
+    (take_all c.loop-dep.dep-index deps c.loop-dep-test.false) c.loop-dep.invariant.watched

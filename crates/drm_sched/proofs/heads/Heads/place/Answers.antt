@@ -1,6 +1,6 @@
 use Rattle.std.proofs.Common.{◌≡◌, ◌<◌, ◌∙◌, ℕ, cond, [], length, Some, refl, sym, ap, subst, arith, slice_get, get_or, List}
 use Rattle.std.proofs.lemmas.Bool.{eq-eqb}
-use Rattle.std.proofs.lemmas.Option.{slice_get-get_or}
+use Rattle.std.proofs.lemmas.Option.{slice_get-get_or, slice_get_within}
 use Rattle.drm_types.specs.declared.spec.EntitySpec.{EntitySpec}
 use Rattle.drm_sched.specs.declared.journal.JobRecord.{JobRecord}
 use Rattle.drm_sched.specs.declared.heads.Heads.{Heads}
@@ -22,15 +22,15 @@ pub returns-then-is_stopped : goal.returns-then-is_stopped
 returns-then-is_stopped c =
     let t = c.args.table.now in
     let stopped = sym c.is_stopped.ensures ∙ c.if-is_stopped.true in
-    no_head_stands (state_of t) t.waits.items c.args.entity c.args.self.now c.requires.others
-    (λ ring. stopped_key (state_of t) c.args.entity ring stopped) (stopped_watched (state_of t) t.waits.items c.args.entity stopped)
+    no_head_stands (state_of t) t.waits.lists c.args.entity c.args.self.now c.requires.others
+    (λ ring. stopped_key (state_of t) c.args.entity ring stopped) (stopped_watched (state_of t) t.waits.lists c.args.entity stopped)
 
 pub returns-in_default : goal.returns-in_default
 returns-in_default c =
     let t = c.args.table.now in
     let none = no_front t c.args.entity c.requires.whole c.requires.there (sym c.head.ensures ∙ c.in_default.is) in
-    no_head_stands (state_of t) t.waits.items c.args.entity c.args.self.now c.requires.others
-    (λ ring. empty_key (state_of t) c.args.entity ring none) (empty_watched (state_of t) t.waits.items c.args.entity none)
+    no_head_stands (state_of t) t.waits.lists c.args.entity c.args.self.now c.requires.others
+    (λ ring. empty_key (state_of t) c.args.entity ring none) (empty_watched (state_of t) t.waits.lists c.args.entity none)
 
 pub index-requires : goal.index-requires
 index-requires c =
@@ -51,20 +51,20 @@ insert-requires c =
     let here = c.requires.there in
     record { ring = ring; entity = omega (arith, here, count) }
 
-pub index-deps-requires : goal.index-deps-requires
-index-deps-requires c =
+pub of-deps-requires : goal.of-deps-requires
+of-deps-requires c =
     let t = c.args.table.now in
     let front = front_found t c.args.entity c.in-Some.number c.requires.whole c.requires.there (sym c.head.ensures ∙ c.in-Some.is) in
     let deps = deps_of t c.in-Some.number front.0 c.requires.whole front.1.at in
-    vec_holds t.waits c.in-Some.number deps.0 deps.1
+    slice_get_within t.waits.lists c.in-Some.number deps.0 deps.1
 
 pub watch_unmet-requires-clause-there : goal.watch_unmet-requires-clause-there
 watch_unmet-requires-clause-there c =
     let t = c.args.table.now in
     let front = front_found t c.args.entity c.in-Some.number c.requires.whole c.requires.there (sym c.head.ensures ∙ c.in-Some.is) in
     let deps = deps_of t c.in-Some.number front.0 c.requires.whole front.1.at in
-    let same : c.index-deps.result.now ≡ deps.0 = read_deps t.waits.items c.in-Some.number c.index-deps.result.now deps.0 c.index-deps.ensures deps.1 in
-    deps_there t c.in-Some.number front.0 c.index-deps.result.now c.insert.new.self.waiters c.requires.whole front.1.at (queued_goes_on front.0.phase front.1.queued)
+    let same : c.of-deps.result.now ≡ deps.0 = read_deps t.waits.lists c.in-Some.number c.of-deps.result.now deps.0 c.of-deps.ensures.list deps.1 in
+    deps_there t c.in-Some.number front.0 c.of-deps.result.now c.insert.new.self.waiters c.requires.whole front.1.at (queued_goes_on front.0.phase front.1.queued)
     (deps.1 ∙ ap (λ x. Some x) (sym same))
     (ap (λ (w : Waiting). w.entities) c.insert.ensures.waiters ∙ c.requires.others.waiting) (ap (λ (w : Waiting). w.fences) c.insert.ensures.waiters ∙ c.requires.others.fences)
 
@@ -72,7 +72,7 @@ pub watch_unmet-requires-clause-none : goal.watch_unmet-requires-clause-none
 watch_unmet-requires-clause-none c =
     subst (λ (w : Waiting). AreWatched w.pairs c.args.entity []) (sym c.insert.ensures.waiters)
     (subst (AreWatched c.args.self.now.waiters.pairs c.args.entity)
-    (ap (λ b. cond b [] (watched_of (state_of c.args.table.now) c.args.table.now.waits.items c.args.entity)) (eq-eqb c.args.entity c.args.entity refl))
+    (ap (λ b. cond b [] (watched_of (state_of c.args.table.now) c.args.table.now.waits.lists c.args.entity)) (eq-eqb c.args.entity c.args.entity refl))
     (c.requires.others.watches c.args.entity))
 
 pub returns : goal.returns
@@ -82,9 +82,9 @@ returns c =
     let deps = deps_of t c.in-Some.number front.0 c.requires.whole front.1.at in
     let r = c.index.result.now in
     let same : r ≡ front.0 = its_record t.journal.items c.in-Some.number r front.0 c.index.ensures front.1.at in
-    let same_deps : c.index-deps.result.now ≡ deps.0 = read_deps t.waits.items c.in-Some.number c.index-deps.result.now deps.0 c.index-deps.ensures deps.1 in
+    let same_deps : c.of-deps.result.now ≡ deps.0 = read_deps t.waits.lists c.in-Some.number c.of-deps.result.now deps.0 c.of-deps.ensures.list deps.1 in
     let n : Heads = record { queues = c.insert.new.self.queues; waiters = c.watch_unmet.new.waiters } in
-    head_placed (state_of t) t.waits.items c.args.entity c.in-Some.number r c.index-deps.result.now (get_or c.as_slice.result.now c.args.entity c.index-as_slice-entity.result) c.args.self.now n c.requires.others
+    head_placed (state_of t) t.waits.lists c.args.entity c.in-Some.number r c.of-deps.result.now (get_or c.as_slice.result.now c.args.entity c.index-as_slice-entity.result) c.args.self.now n c.requires.others
     (sym c.is_stopped.ensures ∙ c.if-is_stopped.false)
     (front.1.first ∙ ap (λ (x : JobRecord). let p : ℕ × JobRecord = (c.in-Some.number, x) in Some p) (sym same))
     (deps.1 ∙ ap (λ x. Some x) (sym same_deps))
@@ -92,7 +92,10 @@ returns c =
     (slice_get-get_or c.as_slice.result.now c.args.entity c.index-as_slice-entity.result (subst (λ (es : List EntitySpec). c.args.entity < length es) (sym c.as_slice.ensures) c.requires.there)))
     (subst (λ (x : JobRecord). x.ring < length t.spec.rings) (sym same) (job_ring_there t c.in-Some.number front.0 c.requires.whole front.1.at)) c.requires.there
     c.insert.ensures.queues
-    (subst (λ js. AreWatched c.watch_unmet.new.waiters.pairs c.args.entity (unmet_pairs js c.args.entity r.ring c.index-deps.result.now)) c.deref.ensures.value c.watch_unmet.ensures.watched)
+    (subst (λ js. AreWatched c.watch_unmet.new.waiters.pairs c.args.entity (unmet_pairs js c.args.entity r.ring c.of-deps.result.now)) c.deref.ensures.value c.watch_unmet.ensures.watched)
     (λ e pairs apart are. c.watch_unmet.ensures.others e pairs apart (subst (λ (w : Waiting). AreWatched w.pairs e pairs) (sym c.insert.ensures.waiters) are))
     (c.watch_unmet.ensures.entities ∙ ap (λ (w : Waiting). w.entities) c.insert.ensures.waiters)
     (c.watch_unmet.ensures.fences ∙ ap (λ (w : Waiting). w.fences) c.insert.ensures.waiters)
+
+pub watch_unmet-requires-clause-once : goal.watch_unmet-requires-clause-once
+watch_unmet-requires-clause-once c = c.of-deps.ensures.once

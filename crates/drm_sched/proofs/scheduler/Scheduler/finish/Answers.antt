@@ -6,5 +6,5 @@ pub returns-in-Ok-clause-heads : goal.returns-in-Ok-clause-heads
 returns-in-Ok-clause-heads c =
     let d = c.args.self.now.marked in
     let n = c.finish.new.self in
-    finish_heads (state_of d.table) (state_of n.table) d.table.waits.items n.table.waits.items c.args.self.now.heads c.ended.new.self c.args.ring c.args.now c.in-Ok.finished.fence c.in-Ok.finished.outcome
+    finish_heads (state_of d.table) (state_of n.table) d.table.waits.lists n.table.waits.lists c.args.self.now.heads c.ended.new.self c.args.ring c.args.now c.in-Ok.finished.fence c.in-Ok.finished.outcome
     c.requires.whole.steady.state c.requires.there c.in-Ok.ensures.finished.1 c.finish.ensures.waits c.requires.heads c.ended.ensures.queues c.ended.ensures.waiters

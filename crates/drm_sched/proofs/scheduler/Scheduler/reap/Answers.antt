@@ -6,5 +6,5 @@ pub returns-in-Ok-clause-heads : goal.returns-in-Ok-clause-heads
 returns-in-Ok-clause-heads c =
     let d = c.args.self.now.marked in
     let n = c.reap.new.self in
-    reap_heads (state_of d.table) (state_of n.table) d.table.waits.items n.table.waits.items c.args.self.now.heads c.ended.new.self c.args.entity c.in-Ok.fence
+    reap_heads (state_of d.table) (state_of n.table) d.table.waits.lists n.table.waits.lists c.args.self.now.heads c.ended.new.self c.args.entity c.in-Ok.fence
     c.in-Ok.ensures.reaped.0 c.in-Ok.ensures.reaped.1 c.reap.ensures.waits c.requires.heads c.ended.ensures.queues c.ended.ensures.waiters

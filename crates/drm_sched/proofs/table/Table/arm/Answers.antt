@@ -56,8 +56,8 @@ returns-clause-armed c =
     let last : c.add.new.self.last.items ≡ set t.loads.last.items job.entity (Some (length t.journal.items)) =
     c.add.ensures.last
     ∙ (ap (λ e. set t.loads.last.items e (Some c.len-number.result)) c.entity-entity.ensures ∙ ap (λ n. set t.loads.last.items job.entity (Some n)) (c.len-number.ensures ∙ t.journal.ok.0)) in
-    let done = arm_done t job c.args.plan.deps _ c.push_reserved-2.new.self c.push_reserved.new.self c.arm.new.self c.push.new.self c.add.new.self w c.requires.job c.requires.covers may ring
-    (c.push_reserved-2.ensures.items ∙ ap (λ (k : Counts). t.journal.items ++ record (new_record d job) { ring = c.arming_ring-ring.result; karma = k } ∷ []) c.zero.ensures) (c.push_reserved.ensures.items ∙ ap (λ ds. t.waits.items ++ ds ∷ []) deps) c.arm.ensures.armed c.push_reserved-2.ensures.capacity c.push_reserved.ensures.capacity c.arm.ensures.places queued c.add.ensures.live last c.add.ensures.ended in
+    let done = arm_done t job c.args.plan.deps _ c.push_reserved.new.self c.push-2.new.self c.arm.new.self c.push.new.self c.add.new.self w c.requires.job c.requires.covers may ring
+    (c.push_reserved.ensures.items ∙ ap (λ (k : Counts). t.journal.items ++ record (new_record d job) { ring = c.arming_ring-ring.result; karma = k } ∷ []) c.zero.ensures) (c.push-2.ensures.lists ∙ ap (λ ds. t.waits.lists ++ ds ∷ []) deps) c.arm.ensures.armed c.push_reserved.ensures.capacity c.push-2.ensures.places c.arm.ensures.places queued c.add.ensures.live last c.add.ensures.ended in
     done.0
 
 pub returns-clause-number : goal.returns-clause-number
@@ -80,6 +80,6 @@ returns-clause-whole c =
     let last : c.add.new.self.last.items ≡ set t.loads.last.items job.entity (Some (length t.journal.items)) =
     c.add.ensures.last
     ∙ (ap (λ e. set t.loads.last.items e (Some c.len-number.result)) c.entity-entity.ensures ∙ ap (λ n. set t.loads.last.items job.entity (Some n)) (c.len-number.ensures ∙ t.journal.ok.0)) in
-    let done = arm_done t job c.args.plan.deps _ c.push_reserved-2.new.self c.push_reserved.new.self c.arm.new.self c.push.new.self c.add.new.self w c.requires.job c.requires.covers may ring
-    (c.push_reserved-2.ensures.items ∙ ap (λ (k : Counts). t.journal.items ++ record (new_record d job) { ring = c.arming_ring-ring.result; karma = k } ∷ []) c.zero.ensures) (c.push_reserved.ensures.items ∙ ap (λ ds. t.waits.items ++ ds ∷ []) deps) c.arm.ensures.armed c.push_reserved-2.ensures.capacity c.push_reserved.ensures.capacity c.arm.ensures.places queued c.add.ensures.live last c.add.ensures.ended in
+    let done = arm_done t job c.args.plan.deps _ c.push_reserved.new.self c.push-2.new.self c.arm.new.self c.push.new.self c.add.new.self w c.requires.job c.requires.covers may ring
+    (c.push_reserved.ensures.items ∙ ap (λ (k : Counts). t.journal.items ++ record (new_record d job) { ring = c.arming_ring-ring.result; karma = k } ∷ []) c.zero.ensures) (c.push-2.ensures.lists ∙ ap (λ ds. t.waits.lists ++ ds ∷ []) deps) c.arm.ensures.armed c.push_reserved.ensures.capacity c.push-2.ensures.places c.arm.ensures.places queued c.add.ensures.live last c.add.ensures.ended in
     done.1

@@ -1,6 +1,7 @@
 use Rattle.std.proofs.Common.{ap, ◌∙◌, subst, map, replicate, None, [], arith}
 use Rattle.drm_types.specs.declared.spec.RingSpec.{RingSpec}
 use Rattle.drm_entity.specs.Rows.{EntityRows}
+use Rattle.drm_resv.specs.Stored.{ListsWithPlaces}
 use Rattle.drm_sched.specs.declared.table.Table.{Table}
 use Rattle.drm_sched.specs.Building.{HaveRoomFor, AreBlank}
 use Rattle.drm_sched.proofs.Blanks.{blank_device, blank_whole}
@@ -20,10 +21,10 @@ returns-clause-whole c =
     let opened = blank_device t c.in_ok-memory.ensures c.in_ok-journal.ensures.items
     (c.in_ok-rings.ensures.rows ∙ ap (map (λ (ring : RingSpec). record { pending = []; since = 0 })) c.as_slice.ensures)
     c.in_ok-entities.ensures in
-    blank_whole t opened (subst (λ specs. AreBlank specs c.in_ok-rings.rings.items) c.as_slice.ensures c.in_ok-rings.ensures.blank) c.requires.limits c.in_ok-fences.ensures.1 c.in_ok-waits.ensures.items c.in_ok-entities.ensures
+    blank_whole t opened (subst (λ specs. AreBlank specs c.in_ok-rings.rings.items) c.as_slice.ensures c.in_ok-rings.ensures.blank) c.requires.limits c.in_ok-fences.ensures.1 (ap (λ (s : ListsWithPlaces). s.lists) c.in_ok-waits.ensures) c.in_ok-entities.ensures
     (c.in_ok-loads.ensures.live ∙ ap (λ n. replicate n 0) c.len.ensures) (c.in_ok-loads.ensures.last ∙ ap (λ n. replicate n None) c.len-2.ensures) c.in_ok-loads.ensures.ended (record {
       jobs = omega (arith, c.in_ok-journal.ensures.exact);
-      waits = omega (arith, c.in_ok-waits.ensures.exact);
+      waits = omega (arith, ap (λ (s : ListsWithPlaces). s.places) c.in_ok-waits.ensures);
       places = c.in_ok-fences.ensures.0;
       queues = ap (λ (e : EntityRows). e.places) c.in_ok-entities.ensures;
       pending = subst (λ specs. HaveRoomFor specs c.in_ok-rings.rings.items) c.as_slice.ensures c.in_ok-rings.ensures.room;
