@@ -64,6 +64,7 @@ pub mod HeadEvents
 pub mod HeadsArmed
 pub mod SchedulerKept
 pub mod SchedulerSame
+pub mod Boxed
 pub mod Alike
 pub mod EventsKept
 pub mod TurnsAlike

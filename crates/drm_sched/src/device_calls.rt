@@ -43,7 +43,8 @@ use std::alloc::{AllocError, Global};
 use std::marker::Model;
 
 /// A device: its memory, its armed jobs, its rings and its entities (`drm_gpu_scheduler`, without the reservations
-/// that tell a job what to wait for).
+/// that tell a job what to wait for). All that it has stands in a place of memory of its own, so a device is handed over as
+/// one word.
 ///
 /// A ring runs its packets one at a time, by `step`, or beside the device: `begin_step` sends a packet out with its
 /// buffers, and `report` takes it back. Contracts see a device as its state, in which a buffer that is out has the bytes
@@ -51,7 +52,7 @@ use std::marker::Model;
 /// `build` takes memory.
 #[derive(Drop)]
 pub struct Device {
-    parts: Scheduler,
+    parts: Box<Scheduler>,
 }
 
 impl Model for Device {
@@ -61,9 +62,9 @@ impl Model for Device {
 
     ghost Value = { MarkedDevice };
 
-    ghost view = { λ d. marked_of d.parts.marked };
+    ghost view = { λ d. marked_of d.parts.value.marked };
 
-    ghost invariant = { λ d. IsWholeMarked d.parts.marked × HasHeads d.parts };
+    ghost invariant = { λ d. IsWholeMarked d.parts.value.marked × HasHeads d.parts.value };
 }
 
 impl Device {
@@ -266,8 +267,9 @@ impl Device {
             return Err((plan, refusal));
         }
         let fence = self.armed();
-        uses::add_held_uses(held, &plan.job, fence, &self.parts.marked.table.fences);
-        Ok(self.parts.arm(plan))
+        let parts = &mut *self.parts;
+        uses::add_held_uses(held, &plan.job, fence, &parts.marked.table.fences);
+        Ok(parts.arm(plan))
     }
 
     /// Why the device does not take the job: its entity is stopped, the device is full, or the job names a fence that is
@@ -310,10 +312,11 @@ impl Device {
         ensures busy { IfErr result (λ r. (out_or (is_out self.now buffer) (option_map refusal.Busy (busy_fence self.now.state.journal resv.now.kept)) ≡ Some r) × (out.new ≡ out.old)) }
         ensures writing { IfErr result (λ r. is_out self.now buffer ≡ false → HaveEnded buffer self.now.state.journal → ⊥) }
     {
-        if self.parts.marked.table.memory.is_out(buffer) {
+        let table = &self.parts.marked.table;
+        if table.memory.is_out(buffer) {
             return Err(Refusal::PacketOut);
         }
-        match self.parts.marked.table.busy_fence(resv) {
+        match table.busy_fence(resv) {
             Some(fence) => Err(Refusal::Busy { fence }),
             None => {
                 out.copy_from_slice(self.bytes(buffer));
@@ -344,7 +347,8 @@ impl Device {
     pub fn status(&self, fence: FenceId) -> Option<i32>
         ensures { MatchOption result (slice_get self.now.state.journal fence ≡ None) (λ s. option_map (λ r. status_of r.phase) (slice_get self.now.state.journal fence) ≡ Some s) }
     {
-        match self.parts.marked.table.journal.get(fence as usize) {
+        let table = &self.parts.marked.table;
+        match table.journal.get(fence as usize) {
             Some(record) => Some(record.phase.status()),
             None => None,
         }
@@ -414,7 +418,7 @@ impl Device {
         ensures sizes { sizes_of self.state.memory ≡ sizes_of self.state.spec.buffers }
     {
         let Device { parts } = self;
-        let Scheduler { marked, .. } = parts;
+        let Scheduler { marked, .. } = Box::into_inner(parts);
         let MarkedTable { table, .. } = marked;
         let Table {
             spec,

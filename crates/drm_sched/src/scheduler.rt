@@ -197,14 +197,14 @@ impl Scheduler {
     }
 
     /// The tables and the heads of a device on which no job was armed, and of which nothing is out.
-    pub(crate) fn open(alloc: Global, spec: DeviceSpec) -> Result<Scheduler, AllocError>
+    pub(crate) fn open(alloc: Global, spec: DeviceSpec) -> Result<Box<Scheduler>, AllocError>
         requires limits { spec_fault spec ≡ None }
-        ensures opened { IfOk result (λ d. marked_of d.marked ≡ unmarked (opened_device spec)) }
-        ensures whole { IfOk result (λ d. IsWholeMarked d.marked) }
-        ensures heads { IfOk result (λ d. HasHeads d) }
+        ensures opened { IfOk result (λ d. marked_of d.value.marked ≡ unmarked (opened_device spec)) }
+        ensures whole { IfOk result (λ d. IsWholeMarked d.value.marked) }
+        ensures heads { IfOk result (λ d. HasHeads d.value) }
     {
         let heads = Heads::new(alloc, &spec)?;
         let marked = MarkedTable::open(alloc, spec)?;
-        Ok(Scheduler { marked, heads })
+        Ok(Box::new(alloc, Scheduler { marked, heads })?)
     }
 }
