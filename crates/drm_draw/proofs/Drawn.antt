@@ -6,18 +6,19 @@ use Rattle.drm_picture.specs.declared.command.Step.{Step}
 use Rattle.drm_picture.specs.declared.picture.Shape.{Shape}
 use Rattle.drm_script.specs.declared.script.Script.{Script}
 use Rattle.drm_engine.specs.Replaying.{AreAnswers}
-use Rattle.drm_draw.specs.Drawing.{AreSteps, IsDrawn, IsDrawnOf, IsTooLong, part_of, shape_of}
+use Rattle.drm_picture.specs.Pictures.{part_of}
+use Rattle.drm_draw.specs.Drawing.{AreSteps, IsDrawn, IsDrawnOf, IsTooLong, shape_of}
 
 -- the steps of a script
 abbrev pub StepsOf : Script → List Step → Type 0
 StepsOf script steps = (answers : List Answer) × AreAnswers script answers × AreSteps script.lines answers steps
 
 -- a part of them that was drawn is drawn of the script
-pub drawn_of : (script : Script) (from to : ℕ) (steps items part : List Step) (shape : Shape) (text : List ℕ) → StepsOf script steps → shape ≡ shape_of script.spec → items ≡ steps
-    → part ≡ part_of from to items → IsDrawn shape part text → IsDrawnOf script from to text
-drawn_of script from to steps items part shape text of lanes kept cut drawn =
-    let whole : IsDrawn shape (part_of from to steps) text = subst (λ (ss : List Step). IsDrawn shape (part_of from to ss) text) kept (subst (λ (ss : List Step). IsDrawn shape ss text) cut drawn) in
-    (of.0, steps, of.1, of.2, subst (λ (s : Shape). IsDrawn s (part_of from to steps) text) lanes whole)
+pub drawn_of : (script : Script) (from to : ℕ) (steps items : List Step) (shape : Shape) (text : List ℕ) → StepsOf script steps → shape ≡ shape_of script.spec → items ≡ steps
+    → IsDrawn shape from to items text → IsDrawnOf script from to text
+drawn_of script from to steps items shape text of lanes kept drawn =
+    let whole : IsDrawn shape from to steps text = subst (λ (ss : List Step). IsDrawn shape from to ss text) kept drawn in
+    (of.0, steps, of.1, of.2, subst (λ (s : Shape). IsDrawn s from to steps text) lanes whole)
 
 -- a part of them that is too long
 pub too_long : (script : Script) (from to : ℕ) (steps items part : List Step) → StepsOf script steps → items ≡ steps → part ≡ part_of from to items → 5000 < length part → IsTooLong script from to

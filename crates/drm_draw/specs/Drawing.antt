@@ -1,17 +1,19 @@
 -- Pictures of runs: what is written is the picture of what the script that is read does.
-use Rattle.std.specs.Prelude.{◌≡◌, ◌<◌, ℕ, List, Option, Ok, IfSome, length, map, min, slice_range}
+use Rattle.std.specs.Prelude.{◌≡◌, ◌<◌, ℕ, List, Option, Some, None, Ok, IfSome, length, map, min}
 use Rattle.std.specs.Io.KnownBytes.{Appends, Keeps}
 use Rattle.drm_types.specs.declared.spec.DeviceSpec.{DeviceSpec}
+use Rattle.drm_job.specs.declared.Draft.{Draft}
 use Rattle.drm_sched.specs.declared.answer.Answer.{Answer}
 use Rattle.drm_core.specs.declared.event.Event.{Event}
 use Rattle.drm_core.specs.declared.event.Event.TheVariants as event
 use Rattle.drm_picture.specs.declared.command.Command.{Command}
 use Rattle.drm_picture.specs.declared.command.Command.TheVariants as command
+use Rattle.drm_picture.specs.declared.command.Request.{Request}
 use Rattle.drm_picture.specs.declared.command.Step.{Step}
 use Rattle.drm_picture.specs.declared.picture.Picture.{Picture}
 use Rattle.drm_picture.specs.declared.picture.Shape.{Shape}
-use Rattle.drm_picture.specs.Pictures.{IsPicture}
-use Rattle.drm_picture.specs.Svg.{svg_of}
+use Rattle.drm_picture.specs.Pictures.{IsPicture, part_of}
+use Rattle.drm_svg.specs.Svg.{IsSvg}
 use Rattle.drm_script.specs.declared.script.Script.{Script}
 use Rattle.drm_script.specs.Script.{judge_script}
 use Rattle.drm_script.specs.Transfer.{AppendsFront}
@@ -22,7 +24,7 @@ use Rattle.drm_draw.specs.declared.drawing.Drawing.TheVariants as drawing
 use Rattle.drm_engine.specs.declared.ending.Ending.{Ending}
 use Rattle.drm_engine.specs.declared.ending.Ending.TheVariants as ending
 
--- what a command does, without the packets of its job
+-- what a command does, without the job that it brings
 abbrev pub command_of : Event → Command
 command_of (event.Submit draft) = command.Submit draft.entity
 command_of (event.Begin ctx) = command.Begin ctx
@@ -42,26 +44,39 @@ command_of (event.Read ctx buffer) = command.Read ctx buffer
 command_of (event.Status fence) = command.Status fence
 command_of (event.Dump buffer) = command.Dump buffer
 
+-- a job, without its packets
+abbrev pub request_of : Draft → Request
+request_of draft = record { entity = draft.entity; declared = draft.declared; after = draft.after }
+
+-- the job that a command brings: a submission and a plan bring one
+abbrev pub request_in : Event → Option Request
+request_in (event.Submit draft) = Some (request_of draft)
+request_in (event.Plan ctx draft) = Some (request_of draft)
+request_in _ = None
+
 -- the lanes of a device, which has at most 64 of each
 abbrev pub shape_of : DeviceSpec → Shape
 shape_of spec = record { rings = min (length spec.rings) 64; entities = min (length spec.entities) 64; buffers = min (length spec.buffers) 64 }
 
+-- what a step and an event ask for: a command, and the job that it brings
+abbrev pub asked : Step → Command × Option Request
+asked step = (step.command, step.request)
+
+abbrev pub asked_by : Event → Command × Option Request
+asked_by event = (command_of event, request_in event)
+
 -- each event with the answer to it
 abbrev pub AreSteps : List Event → List Answer → List Step → Type 0
-AreSteps events answers steps = (map (λ step. step.command) steps ≡ map command_of events) × (map (λ step. step.answer) steps ≡ answers)
+AreSteps events answers steps = (map asked steps ≡ map asked_by events) × (map (λ step. step.answer) steps ≡ answers)
 
--- the steps from one place to before another
-abbrev pub part_of : ℕ → ℕ → List Step → List Step
-part_of from to steps = slice_range steps (min from (min to (length steps))) (min to (length steps))
-
--- the text of the picture of these steps
-abbrev pub IsDrawn : Shape → List Step → List ℕ → Type 0
-IsDrawn shape steps text = (picture : Picture) × IsPicture shape steps picture × (text ≡ svg_of picture)
+-- the text of the picture of the part of these steps from one place to before another
+abbrev pub IsDrawn : Shape → ℕ → ℕ → List Step → List ℕ → Type 0
+IsDrawn shape from to steps text = (picture : Picture) × IsPicture shape from to steps picture × IsSvg picture text
 
 -- the text of the picture of a part of what the script does
 abbrev pub IsDrawnOf : Script → ℕ → ℕ → List ℕ → Type 0
 IsDrawnOf script from to text =
-    (answers : List Answer) × (steps : List Step) × AreAnswers script answers × AreSteps script.lines answers steps × IsDrawn (shape_of script.spec) (part_of from to steps) text
+    (answers : List Answer) × (steps : List Step) × AreAnswers script answers × AreSteps script.lines answers steps × IsDrawn (shape_of script.spec) from to steps text
 
 -- how many commands of the script are in the part
 abbrev pub IsTooLong : Script → ℕ → ℕ → Type 0

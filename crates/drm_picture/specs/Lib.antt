@@ -1,7 +1,5 @@
 pub mod Commands
 pub mod Bars
 pub mod Marks
+pub mod Waits
 pub mod Pictures
-pub mod Escape
-pub mod Layout
-pub mod Svg

@@ -2,12 +2,13 @@
 
 ghost use Rattle.std.specs.List.{cons_option};
 ghost use Rattle.std.specs.Option.{option_copied};
-ghost use Rattle.std.specs.Prelude.{◌≡◌, ◌<◌, ◌++◌, [], find, length, option_map, position, IfOk, OnOk};
-ghost use Rattle.drm_picture.specs.Bars.{armed, bar_from, bars_of, begins_in, ends, ends_fence, ends_job, leaves_queue, locked, look_of, opening_of, picked, same_lane, shown_by, span_of, submitted, turn_of, unlocks};
+ghost use Rattle.std.specs.Prelude.{◌≡◌, ◌+◌, ◌<◌, ◌≤◌, ◌^◌, ◌++◌, [], find, length, option_and_then, position, reverse, IfOk, OnOk};
+ghost use Rattle.drm_picture.specs.Bars.{armed, armed_job as armed_job_of, bar_at, bar_from, bars_of, cancelled_by, endless_look, ends, ends_fence, ends_job, kept_beyond, last_planned as last_planned_by, lasts_beyond, leaves_queue, locked, look_of, opening_of, packets_of, picked, plans, queued, runs, shown_by, steps_between, stopped_by, unlocks_in};
+ghost use Rattle.drm_picture.specs.Commands.{moment_of};
 
-use crate::command::{Command, Step};
+use crate::command::{Command, Request, Step};
 use drm_sched::Answer;
-use drm_types::Outcome;
+use drm_types::{Moment, Outcome};
 use std::alloc::{AllocError, Global};
 
 /// Where a bar or a mark is drawn.
@@ -24,8 +25,11 @@ pub enum Lane {
 pub enum Kind {
     /// A job on its ring, from its pick to its finish.
     Job,
-    /// A job in the queue of its entity, from its submission to its pick or its reaping.
+    /// A job in the queue of its entity, from its submission or its arming to its pick or its reaping.
     Queued,
+    /// A stopped entity, from its cancel, or from where it is found guilty, to the end of the run. It can be both, and
+    /// then has two.
+    Stopped,
     /// A buffer that a context holds, from its lock to its drop.
     Lock,
     /// A fence, from the arming of its job to its outcome.
@@ -43,8 +47,10 @@ pub enum Look {
     Good,
     /// Its job was skipped, or its queue was stopped.
     Cancelled,
-    /// Its job was reaped.
+    /// Its job was reaped, or its entity was cancelled.
     Stopped,
+    /// Its entity is guilty of a hang.
+    Guilty,
 }
 
 /// What begins at a command.
@@ -52,7 +58,7 @@ pub enum Look {
 pub struct Opening {
     /// Where it is drawn.
     pub lane: Lane,
-    /// The fence, or of a lock the context.
+    /// The fence, of a lock the context, of a stopped entity the entity.
     pub number: u32,
     /// Its job is to be skipped.
     pub skipped: bool,
@@ -69,8 +75,60 @@ pub struct Bar {
     pub span: usize,
     /// How it ended.
     pub look: Look,
-    /// How many bars of its kind began in its lane before it.
-    pub turn: usize,
+    /// How many packets of a job on its ring ran meanwhile.
+    pub packets: usize,
+    /// The moment that the command tells which begins it, if it tells one.
+    pub began: Option<Moment>,
+    /// The moment that the command tells which ends it, if there is one and it tells one.
+    pub ended: Option<Moment>,
+}
+
+impl Bar {
+    // Whether it ends behind this place, or not in the run.
+    fn is_beyond(&self, place: usize) -> bool
+        requires { self.now.from + self.now.span < 2 ^ 64 }
+        ensures { result ≡ lasts_beyond place self.now }
+    {
+        place < self.from + self.span
+    }
+}
+
+// Whether the context plans a job by this step.
+fn is_plan(ctx: u32, step: &Step) -> bool
+    ensures { result ≡ plans ctx step.now }
+{
+    match (step.command, &step.answer) {
+        (Command::Plan { ctx: by, .. }, Answer::Planned) => by == ctx,
+        _ => false,
+    }
+}
+
+// The last of these steps by which the context plans a job.
+fn last_plan(ctx: u32, before: &[Step]) -> Option<&Step>
+    ensures { option_copied result ≡ find (plans ctx) (reverse before.now) }
+{
+    before.iter().rev().find(|step| is_plan(ctx, step))
+}
+
+// The job that the context has planned last in these steps.
+fn last_planned(ctx: u32, before: &[Step]) -> Option<&Request>
+    ensures { option_copied result ≡ last_planned_by ctx before.now }
+{
+    match last_plan(ctx, before) {
+        Some(step) => step.request.as_ref(),
+        None => None,
+    }
+}
+
+/// The job that a step behind these arms, if it arms one.
+pub(crate) fn armed_job<'a>(before: &'a [Step], step: &'a Step) -> Option<&'a Request>
+    ensures { option_copied result ≡ armed_job_of before.now step.now }
+{
+    match step.command {
+        Command::Submit { .. } => step.request.as_ref(),
+        Command::Arm { ctx } => last_planned(ctx, before),
+        _ => None,
+    }
 }
 
 // What begins on a ring by an answer to a pick.
@@ -87,16 +145,48 @@ fn picked_at(ring: u32, answer: &Answer) -> Option<Opening>
     }
 }
 
-// What begins in the queue of an entity by an answer to a submission.
-fn submitted_at(entity: u32, answer: &Answer) -> Option<Opening>
-    ensures { result ≡ submitted entity answer.now }
+// What begins in the queue of an entity by a step behind these.
+fn queued_at(before: &[Step], step: &Step) -> Option<Opening>
+    ensures { result ≡ queued (armed_job_of before.now step.now) step.now.answer }
 {
-    match answer {
-        Answer::Armed { fence } => Some(Opening {
+    match &step.answer {
+        Answer::Armed { fence } => match armed_job(before, step) {
+            Some(request) => Some(Opening {
+                lane: Lane::Entity(request.entity),
+                number: *fence,
+                skipped: false,
+            }),
+            None => None,
+        },
+        _ => None,
+    }
+}
+
+// The entity that a command cancels, as it is stopped from there.
+fn cancelled_at(command: Command) -> Option<Opening>
+    ensures { result ≡ cancelled_by command }
+{
+    match command {
+        Command::Cancel { entity } => Some(Opening {
             lane: Lane::Entity(entity),
-            number: *fence,
+            number: entity,
             skipped: false,
         }),
+        _ => None,
+    }
+}
+
+// The entity that is stopped from a step on.
+fn stopped_at(step: &Step) -> Option<Opening>
+    ensures { result ≡ stopped_by step.now.command step.now.answer }
+{
+    match &step.answer {
+        Answer::Guilty { entity } => Some(Opening {
+            lane: Lane::Entity(*entity),
+            number: *entity,
+            skipped: false,
+        }),
+        Answer::Ok => cancelled_at(step.command),
         _ => None,
     }
 }
@@ -129,19 +219,17 @@ fn armed_at(answer: &Answer) -> Option<Opening>
     }
 }
 
-// What a step begins of a kind.
-fn opening_at(kind: Kind, step: &Step) -> Option<Opening>
-    ensures { result ≡ opening_of kind step.now }
+// What a step behind these begins of a kind.
+fn opening_at(kind: Kind, before: &[Step], step: &Step) -> Option<Opening>
+    ensures { result ≡ opening_of kind before.now step.now }
 {
     match kind {
         Kind::Job => match step.command {
             Command::Pick { ring, .. } => picked_at(ring, &step.answer),
             _ => None,
         },
-        Kind::Queued => match step.command {
-            Command::Submit { entity } => submitted_at(entity, &step.answer),
-            _ => None,
-        },
+        Kind::Queued => queued_at(before, step),
+        Kind::Stopped => stopped_at(step),
         Kind::Lock => match step.command {
             Command::Try { ctx, buffer } => locked_at(buffer, ctx, &step.answer),
             _ => None,
@@ -182,12 +270,13 @@ fn is_end_of_fence(fence: u32, answer: &Answer) -> bool
     }
 }
 
-// Whether the context lets go of the buffer by this step.
-fn is_unlock(buffer: u32, ctx: u32, step: &Step) -> bool
-    ensures { result ≡ unlocks buffer ctx step.now }
+// Whether the context lets go of the buffer in whose lane it is by this step.
+fn is_unlock(lane: Lane, ctx: u32, step: &Step) -> bool
+    ensures { result ≡ unlocks_in lane ctx step.now }
 {
-    match (step.command, &step.answer) {
+    match (lane, step.command, &step.answer) {
         (
+            Lane::Buffer(buffer),
             Command::Drop {
                 ctx: by,
                 buffer: at,
@@ -199,14 +288,15 @@ fn is_unlock(buffer: u32, ctx: u32, step: &Step) -> bool
 }
 
 // Whether what began ends by this step.
-fn is_end(opening: Opening, step: &Step) -> bool
-    ensures { result ≡ ends opening step.now }
+fn is_end(kind: Kind, opening: Opening, step: &Step) -> bool
+    ensures { result ≡ ends kind opening step.now }
 {
-    match opening.lane {
-        Lane::Ring(_) => is_end_of_job(opening.number, &step.answer),
-        Lane::Entity(_) => is_end_of_wait(opening.number, &step.answer),
-        Lane::Buffer(buffer) => is_unlock(buffer, opening.number, step),
-        Lane::Fence(_) => is_end_of_fence(opening.number, &step.answer),
+    match kind {
+        Kind::Job => is_end_of_job(opening.number, &step.answer),
+        Kind::Queued => is_end_of_wait(opening.number, &step.answer),
+        Kind::Stopped => false,
+        Kind::Lock => is_unlock(opening.lane, opening.number, step),
+        Kind::Fence => is_end_of_fence(opening.number, &step.answer),
     }
 }
 
@@ -225,100 +315,112 @@ fn look_at(answer: &Answer) -> Look
     }
 }
 
-impl Lane {
-    // Whether it is the same lane.
-    fn is(self, other: Lane) -> bool
-        ensures { result ≡ same_lane self other }
-    {
-        match (self, other) {
-            (Lane::Ring(a), Lane::Ring(b)) => a == b,
-            (Lane::Entity(a), Lane::Entity(b)) => a == b,
-            (Lane::Buffer(a), Lane::Buffer(b)) => a == b,
-            (Lane::Fence(a), Lane::Fence(b)) => a == b,
-            _ => false,
-        }
+// How a bar looks that has no end and began by this answer.
+fn endless(kind: Kind, answer: &Answer) -> Look
+    ensures { result ≡ endless_look kind answer.now }
+{
+    match (kind, answer) {
+        (Kind::Stopped, Answer::Guilty { .. }) => Look::Guilty,
+        (Kind::Stopped, _) => Look::Stopped,
+        _ => Look::Open,
+    }
+}
+
+// How a bar looks that began by this answer and ends by this step, if by one.
+fn shown_look(kind: Kind, answer: &Answer, last: Option<&Step>) -> Look
+    ensures { result ≡ look_of kind answer.now (option_copied last.entry) }
+{
+    match last {
+        Some(step) => look_at(&step.answer),
+        None => endless(kind, answer),
+    }
+}
+
+// The moment that the step tells by which a bar ends, if there is one and it tells one.
+fn ended(last: Option<&Step>) -> Option<Moment>
+    ensures { result ≡ option_and_then (λ last. moment_of last.command) (option_copied last.entry) }
+{
+    match last {
+        Some(step) => step.command.moment(),
+        None => None,
+    }
+}
+
+// Whether a packet of the job of the fence ran, by this answer.
+fn is_run(fence: u32, answer: &Answer) -> bool
+    ensures { result ≡ runs fence answer.now }
+{
+    match answer {
+        Answer::Ran { fence: ran, .. } => *ran == fence,
+        _ => false,
+    }
+}
+
+// How many packets of a job ran in these steps.
+fn packets(kind: Kind, fence: u32, during: &[Step]) -> usize
+    ensures { result ≡ packets_of kind fence during.now }
+{
+    match kind {
+        Kind::Job => during
+            .iter()
+            .filter(|step| is_run(fence, &step.answer))
+            .count(),
+        _ => 0,
     }
 }
 
 // The place of the first of these steps by which what began ends.
-fn end_place(opening: Opening, behind: &[Step]) -> Option<usize>
-    ensures { result ≡ position (λ step. ends opening step) behind.now }
+fn end_place(kind: Kind, opening: Opening, behind: &[Step]) -> Option<usize>
+    ensures { result ≡ position (ends kind opening) behind.now }
 {
-    behind.iter().position(|step| is_end(opening, step))
+    behind.iter().position(|step| is_end(kind, opening, step))
 }
 
-// The first of these steps by which what began ends.
-fn end_step<'a>(opening: Opening, behind: &'a [Step]) -> Option<&'a Step>
-    ensures { option_copied result ≡ find (λ step. ends opening step) behind.now }
+// How many steps are between the one by which something began and the one that ends it, or the end of the run.
+fn between(kind: Kind, opening: Opening, behind: &[Step]) -> usize
+    ensures value { result ≡ steps_between kind opening behind.now }
+    ensures within { result ≤ length behind.now }
 {
-    behind.iter().find(|step| is_end(opening, step))
-}
-
-// How many steps later what began ends, of the steps behind its first.
-fn span_behind(opening: Opening, behind: &[Step]) -> usize
-    ensures { result ≡ span_of opening behind.now }
-{
-    match end_place(opening, behind) {
-        Some(more) => more + 1,
-        None => behind.len() + 1,
+    match end_place(kind, opening, behind) {
+        Some(more) => more,
+        None => behind.len(),
     }
 }
 
-// How what began looks.
-fn look_behind(opening: Opening, behind: &[Step]) -> Look
-    ensures { result ≡ look_of opening behind.now }
+// The first of these steps by which what began ends, with so many before it.
+fn end_step(kind: Kind, opening: Opening, behind: &[Step], more: usize) -> Option<&Step>
+    requires { more ≡ steps_between kind opening behind.now }
+    ensures { option_copied result ≡ find (ends kind opening) behind.now }
 {
-    match end_step(opening, behind) {
-        Some(step) => look_at(&step.answer),
-        None => Look::Open,
-    }
+    behind.get(more)
 }
 
-// Whether something of the kind begins in the lane.
-fn is_begun(kind: Kind, lane: Lane, step: &Step) -> bool
-    ensures { result ≡ begins_in kind lane step.now }
+// The bar of what begins by the step at a place, before these.
+fn bar_of(kind: Kind, place: usize, step: &Step, behind: &[Step], opening: Opening) -> Bar
+    ensures value { result ≡ bar_from kind place step.now behind.now opening }
+    ensures within { result.from + result.span ≤ place + length behind.now + 1 }
 {
-    match opening_at(kind, step) {
-        Some(opening) => lane.is(opening.lane),
-        None => false,
-    }
-}
-
-// How many of the kind began in the lane.
-fn turns(kind: Kind, lane: Lane, before: &[Step]) -> usize
-    ensures { result ≡ turn_of kind lane before.now }
-{
-    before
-        .iter()
-        .filter(|step| is_begun(kind, lane, step))
-        .count()
-}
-
-// The bar of what begins at a place.
-fn bar_at(kind: Kind, steps: &[Step], place: usize, opening: Opening) -> Bar
-    requires { place < length steps.now }
-    ensures { result ≡ bar_from kind steps.now place opening }
-{
-    let before = &steps[..place];
-    let behind = &steps[place + 1..];
+    let more = between(kind, opening, behind);
+    let last = end_step(kind, opening, behind, more);
     Bar {
         opening,
         from: place,
-        span: span_behind(opening, behind),
-        look: look_behind(opening, behind),
-        turn: turns(kind, opening.lane, before),
+        span: more + 1,
+        look: shown_look(kind, &step.answer, last),
+        packets: packets(kind, opening.number, &behind[..more]),
+        began: step.command.moment(),
+        ended: ended(last),
     }
 }
 
-// The bar of a kind that begins at a place, if one does.
-fn bar_of(kind: Kind, steps: &[Step], place: usize, step: &Step) -> Option<Bar>
-    requires { place < length steps.now }
-    ensures { result ≡ option_map (bar_from kind steps.now place) (opening_of kind step.now) }
+// The bar of a kind that begins by the step at a place of a run, if one does and lasts beyond another place.
+fn bar_beyond(kind: Kind, from: usize, run: &[Step], place: usize, step: &Step) -> Option<Bar>
+    requires { place < length run.now }
+    ensures { result ≡ kept_beyond from (bar_at kind run.now (place, step.now)) }
 {
-    match opening_at(kind, step) {
-        Some(opening) => Some(bar_at(kind, steps, place, opening)),
-        None => None,
-    }
+    let opening = opening_at(kind, &run[..place], step)?;
+    let bar = bar_of(kind, place, step, &run[place + 1..], opening);
+    if bar.is_beyond(from) { Some(bar) } else { None }
 }
 
 // Adds what there is.
@@ -334,13 +436,18 @@ fn push_bar(bars: &mut Vec<Bar>, found: Option<Bar>) -> Result<(), AllocError>
     }
 }
 
-/// The bars of a kind.
-pub(crate) fn bars(alloc: Global, kind: Kind, steps: &[Step]) -> Result<Vec<Bar>, AllocError>
-    ensures { IfOk result (λ bars. bars.items ≡ bars_of kind steps.now) }
+/// The bars of a kind that last beyond a place of the run.
+pub(crate) fn bars(
+    alloc: Global,
+    kind: Kind,
+    from: usize,
+    run: &[Step],
+) -> Result<Vec<Bar>, AllocError>
+    ensures { IfOk result (λ bars. bars.items ≡ bars_of kind from run.now) }
 {
     let mut bars = Vec::new(alloc);
-    for (place, step) in steps.iter().enumerate() {
-        push_bar(&mut bars, bar_of(kind, steps, place, step))?;
+    for (place, step) in run.iter().enumerate() {
+        push_bar(&mut bars, bar_beyond(kind, from, run, place, step))?;
     }
     Ok(bars)
 }

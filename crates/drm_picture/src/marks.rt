@@ -1,12 +1,13 @@
 //! Marks: what happened at one command.
 
 ghost use Rattle.std.specs.List.{cons_option};
-ghost use Rattle.std.specs.Prelude.{◌≡◌, ◌++◌, [], IfOk, OnOk, map};
-ghost use Rattle.drm_picture.specs.Marks.{mark_from, marks_of, sign_of};
+ghost use Rattle.std.specs.Prelude.{◌≡◌, ◌++◌, [], IfOk, OnOk};
+ghost use Rattle.drm_picture.specs.Marks.{mark_of, marks_at, marks_of, marks_of_plan, sign_of};
 
 use crate::bars::Lane;
-use crate::command::{Command, Step};
+use crate::command::Step;
 use drm_sched::Answer;
+use drm_types::{Access, BufferId};
 use std::alloc::{AllocError, Global};
 
 /// What a mark says.
@@ -28,6 +29,8 @@ pub enum Sign {
     Contended,
     /// An entity was stopped, or a lock let go.
     Granted,
+    /// The buffer is one that a planned job declares.
+    Planned,
 }
 
 /// A mark.
@@ -41,7 +44,7 @@ pub struct Mark {
     pub sign: Sign,
 }
 
-// What a mark says of an answer, if it says something.
+// What a mark says of an answer, if it says something in the lane of what the command names.
 fn sign_at(answer: &Answer) -> Option<Sign>
     ensures { result ≡ sign_of answer.now }
 {
@@ -61,7 +64,7 @@ fn sign_at(answer: &Answer) -> Option<Sign>
 
 // The mark of a step in the lane of what its command names, if it names something and the answer has a sign.
 fn mark_at(place: usize, step: &Step) -> Option<Mark>
-    ensures { result ≡ mark_from place step.now }
+    ensures { result ≡ mark_of place step.now }
 {
     match step.command.lane() {
         Some(lane) => match sign_at(&step.answer) {
@@ -85,20 +88,51 @@ fn push_mark(marks: &mut Vec<Mark>, found: Option<Mark>) -> Result<(), AllocErro
     }
 }
 
-/// The marks of a run.
-pub(crate) fn marks(alloc: Global, steps: &[Step]) -> Result<Vec<Mark>, AllocError>
-    ensures { IfOk result (λ marks. marks.items ≡ marks_of steps.now) }
+// Adds a mark for each buffer that a planned job declares.
+fn push_planned(
+    marks: &mut Vec<Mark>,
+    place: usize,
+    declared: &[(BufferId, Access)],
+) -> Result<(), AllocError>
+    ensures { OnOk result (marks.new.items ≡ marks.old.items ++ marks_of_plan place declared.now) }
 {
-    let mut marks = Vec::new(alloc);
-    for (place, step) in steps.iter().enumerate() {
-        push_mark(&mut marks, mark_at(place, step))?;
+    for declaration in declared {
+        marks.push(Mark {
+            lane: Lane::Buffer(declaration.0.number()),
+            place,
+            sign: Sign::Planned,
+        })?;
     }
-    Ok(marks)
+    Ok(())
 }
 
-/// The commands of a run.
-pub(crate) fn commands(alloc: Global, steps: &[Step]) -> Result<Vec<Command>, AllocError>
-    ensures { IfOk result (λ commands. commands.items ≡ map (λ step. step.command) steps.now) }
+// Adds the marks of a step, if it is at the begin of the part or behind it.
+fn push_marks(
+    marks: &mut Vec<Mark>,
+    from: usize,
+    place: usize,
+    step: &Step,
+) -> Result<(), AllocError>
+    ensures { OnOk result (marks.new.items ≡ marks.old.items ++ marks_at from place step.now) }
 {
-    steps.iter().map(|step| step.command).collect(alloc)
+    if place < from {
+        return Ok(());
+    }
+    match (&step.answer, &step.request) {
+        (Answer::Planned, Some(request)) => {
+            push_planned(marks, place, request.declared.as_slice())
+        }
+        _ => push_mark(marks, mark_at(place, step)),
+    }
+}
+
+/// The marks of the steps of a run from a place on.
+pub(crate) fn marks(alloc: Global, from: usize, run: &[Step]) -> Result<Vec<Mark>, AllocError>
+    ensures { IfOk result (λ marks. marks.items ≡ marks_of from run.now) }
+{
+    let mut marks = Vec::new(alloc);
+    for (place, step) in run.iter().enumerate() {
+        push_marks(&mut marks, from, place, step)?;
+    }
+    Ok(marks)
 }

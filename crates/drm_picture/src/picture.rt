@@ -1,11 +1,12 @@
 //! A picture, and how it comes of a run.
 
-ghost use Rattle.std.specs.Prelude.{IfOk};
-ghost use Rattle.drm_picture.specs.Pictures.{IsPicture};
+ghost use Rattle.std.specs.Prelude.{◌≡◌, IfOk, take};
+ghost use Rattle.drm_picture.specs.Pictures.{IsPicture, part_of};
 
 use crate::bars::{Bar, Kind, bars};
-use crate::command::{Command, Step};
-use crate::marks::{Mark, commands, marks};
+use crate::command::{Command, Step, commands, run_before};
+use crate::marks::{Mark, marks};
+use crate::waits::{Wait, waits};
 use std::alloc::{AllocError, Global};
 
 /// How many rings, entities and buffers a device has.
@@ -16,36 +17,62 @@ pub struct Shape {
     pub buffers: u32,
 }
 
-/// A picture of a run.
+/// A picture of a part of a run.
 #[derive(Drop)]
 pub struct Picture {
     /// How many lanes there are.
     pub shape: Shape,
-    /// A column for each command.
+    /// The place of the first command of the part.
+    pub first: usize,
+    /// A column for each command of the part.
     pub columns: Vec<Command>,
     /// The jobs on their rings.
     pub jobs: Vec<Bar>,
     /// The jobs in the queues of their entities.
     pub queued: Vec<Bar>,
+    /// The entities that are stopped.
+    pub stopped: Vec<Bar>,
     /// The buffers that contexts hold.
     pub locks: Vec<Bar>,
-    /// The fences.
+    /// The fences. Those of each wait are among them.
     pub fences: Vec<Bar>,
     /// What happened at one command.
     pub marks: Vec<Mark>,
+    /// Which job waits for which.
+    pub waits: Vec<Wait>,
 }
 
-/// The picture of a run of a device of this shape.
-pub fn picture_of(alloc: Global, shape: Shape, steps: &[Step]) -> Result<Picture, AllocError>
-    ensures { IfOk result (λ picture. IsPicture shape steps.now picture) }
+/// The steps of a run from one place to before another.
+pub fn part(steps: &[Step], from: usize, to: usize) -> &[Step]
+    ensures { result.now ≡ part_of from to steps.now }
 {
+    let run = run_before(steps, to);
+    &run[from.min(run.len())..]
+}
+
+/// The picture of a run of a device of this shape, from one place to before another.
+pub fn picture_of(
+    alloc: Global,
+    shape: Shape,
+    steps: &[Step],
+    from: usize,
+    to: usize,
+) -> Result<Picture, AllocError>
+    ensures { IfOk result (λ picture. IsPicture shape from to steps.now picture) }
+{
+    let run = run_before(steps, to);
+    let fences = bars(alloc, Kind::Fence, from, run)?;
+    let waits = waits(alloc, from, run, &fences)?;
     Ok(Picture {
         shape,
-        columns: commands(alloc, steps)?,
-        jobs: bars(alloc, Kind::Job, steps)?,
-        queued: bars(alloc, Kind::Queued, steps)?,
-        locks: bars(alloc, Kind::Lock, steps)?,
-        fences: bars(alloc, Kind::Fence, steps)?,
-        marks: marks(alloc, steps)?,
+        first: from,
+        columns: commands(alloc, part(steps, from, to))?,
+        jobs: bars(alloc, Kind::Job, from, run)?,
+        queued: bars(alloc, Kind::Queued, from, run)?,
+        stopped: bars(alloc, Kind::Stopped, from, run)?,
+        locks: bars(alloc, Kind::Lock, from, run)?,
+        fences,
+        marks: marks(alloc, from, run)?,
+        waits,
     })
 }

@@ -4,11 +4,11 @@ use Rattle.drm_draw.specs.Drawing.{AreSteps}
 use Rattle.drm_draw.proofs.Drawn.{drawn_of, too_long, untouched}
 use Rattle.drm_draw.proofs.drawing.draw_script.Goals as goal
 
-pub returns-then-drawn-gt-MOST_DRAWN : goal.returns-then-drawn-gt-MOST_DRAWN
-returns-then-drawn-gt-MOST_DRAWN g c =
+pub returns-then-part-gt-MOST_DRAWN : goal.returns-then-part-gt-MOST_DRAWN
+returns-then-part-gt-MOST_DRAWN g c =
     let of = played c.args.script c.in-Ok.core c.take_steps.new.core c.args.script.lines (λ answers. AreSteps c.args.script.lines answers c.in-Ok-take_steps.steps.items)
     c.every_run_is_lawful.ensures c.headline.ensures c.in-Ok.ensures.ok.0 refl c.requires.exist c.in-Ok-take_steps.ensures in (
-      too_long c.args.script c.args.from c.args.to c.in-Ok-take_steps.steps.items c.deref.result.now c.part-drawn.result.now of c.deref.ensures.value c.part-drawn.ensures c.if-drawn-gt-MOST_DRAWN.true,
+      too_long c.args.script c.args.from c.args.to c.in-Ok-take_steps.steps.items c.deref.result.now c.part.result.now of c.deref.ensures.value c.part.ensures c.if-part-gt-MOST_DRAWN.true,
       untouched _,
     )
 
@@ -17,8 +17,8 @@ returns-in-Ok-put_all g c =
     let of = played c.args.script c.in-Ok.core c.take_steps.new.core c.args.script.lines (λ answers. AreSteps c.args.script.lines answers c.in-Ok-take_steps.steps.items)
     c.every_run_is_lawful.ensures c.headline.ensures c.in-Ok.ensures.ok.0 refl c.requires.exist c.in-Ok-take_steps.ensures in (
       c.in-Ok-text_of.text.items,
-      drawn_of c.args.script c.args.from c.args.to c.in-Ok-take_steps.steps.items c.deref.result.now c.part-drawn.result.now c.shape-shape.result c.in-Ok-text_of.text.items of c.shape-shape.ensures c.deref.ensures.value c.part-drawn.ensures c.in-Ok-text_of.ensures,
-      rw c.deref-2.ensures.value at c.in-Ok-put_all.ensures.ok,
+      drawn_of c.args.script c.args.from c.args.to c.in-Ok-take_steps.steps.items c.deref-2.result.now c.shape-shape.result c.in-Ok-text_of.text.items of c.shape-shape.ensures c.deref-2.ensures.value c.in-Ok-text_of.ensures,
+      rw c.deref-3.ensures.value at c.in-Ok-put_all.ensures.ok,
     )
 
 pub returns : goal.returns
@@ -26,6 +26,6 @@ returns g c =
     let of = played c.args.script c.in-Ok.core c.take_steps.new.core c.args.script.lines (λ answers. AreSteps c.args.script.lines answers c.in-Ok-take_steps.steps.items)
     c.every_run_is_lawful.ensures c.headline.ensures c.in-Ok.ensures.ok.0 refl c.requires.exist c.in-Ok-take_steps.ensures in (
       c.in-Ok-text_of.text.items,
-      drawn_of c.args.script c.args.from c.args.to c.in-Ok-take_steps.steps.items c.deref.result.now c.part-drawn.result.now c.shape-shape.result c.in-Ok-text_of.text.items of c.shape-shape.ensures c.deref.ensures.value c.part-drawn.ensures c.in-Ok-text_of.ensures,
-      rw c.deref-2.ensures.value at c.in-Err.ensures.err,
+      drawn_of c.args.script c.args.from c.args.to c.in-Ok-take_steps.steps.items c.deref-2.result.now c.shape-shape.result c.in-Ok-text_of.text.items of c.shape-shape.ensures c.deref-2.ensures.value c.in-Ok-text_of.ensures,
+      rw c.deref-3.ensures.value at c.in-Err.ensures.err,
     )

@@ -3,4 +3,4 @@ use Rattle.drm_picture.specs.Marks.{marks_of}
 use Rattle.drm_picture.proofs.marks.marks.Given as goal
 
 abbrev pub invariant-loop-place : goal.invariant-loop-place
-invariant-loop-place l = l.marks.items ≡ marks_of (take l.place l.steps)
+invariant-loop-place l = l.marks.items ≡ marks_of l.from (take l.place l.run)

@@ -1,0 +1,198 @@
+//! Waits: which earlier jobs a job waits for where it is armed.
+
+ghost use Rattle.std.specs.List.{cons_option, filter_map, list_any};
+ghost use Rattle.std.specs.Option.{option_copied};
+ghost use Rattle.std.specs.Prelude.{◌≡◌, ◌==◌, ◌<◌, ◌++◌, [], length, IfOk, OnOk};
+ghost use Rattle.drm_picture.specs.Bars.{bars_of};
+ghost use Rattle.drm_picture.specs.Waits.{earlier_job, earlier_of, is_open_at, job_of as job_of_bar, last_of, last_of_each, waits_at, waits_of, waits_on};
+ghost use Rattle.drm_picture.specs.declared.bars.Kind.TheVariants as kind;
+
+use crate::bars::{Bar, armed_job};
+use crate::command::{Request, Step, run_before};
+use drm_sched::Answer;
+use drm_types::{EntityId, FenceId};
+use std::alloc::{AllocError, Global};
+
+/// A job waits for an earlier one: where it was armed that one had no outcome, and it comes after it. Of several jobs of
+/// an entity the last stands for all, since they end in order.
+#[derive(Clone, Copy)]
+pub struct Wait {
+    /// The fence of the job.
+    pub fence: FenceId,
+    /// That of the earlier one.
+    pub earlier: FenceId,
+    /// The place of the command that arms the job.
+    pub place: usize,
+}
+
+/// A job that a later one comes after.
+#[derive(Clone, Copy)]
+pub(crate) struct Earlier {
+    /// Its fence.
+    pub(crate) fence: FenceId,
+    /// Its entity.
+    pub(crate) entity: EntityId,
+}
+
+// Whether the fence of a bar is armed before a place, and has no outcome there.
+fn is_open(bar: &Bar, place: usize) -> bool
+    ensures { result ≡ is_open_at place bar.now }
+{
+    bar.from < place && place - bar.from < bar.span
+}
+
+// The job of the fence of a bar.
+fn job_of<'a>(run: &'a [Step], bar: &Bar) -> Option<&'a Request>
+    ensures { option_copied result ≡ job_of_bar run.now bar.now }
+{
+    match run.get(bar.from) {
+        Some(step) => armed_job(run_before(run, bar.from), step),
+        None => None,
+    }
+}
+
+// The earlier job, if the later one comes after it.
+fn earlier_by(later: &Request, fence: FenceId, job: Option<&Request>) -> Option<Earlier>
+    ensures { result ≡ earlier_job later.now fence (option_copied job.entry) }
+{
+    match job {
+        Some(request) => {
+            if later.is_after(fence, request) {
+                Some(Earlier {
+                    fence,
+                    entity: request.entity,
+                })
+            } else {
+                None
+            }
+        }
+        None => None,
+    }
+}
+
+// The job of a bar, if its fence has no outcome at this place and the later job comes after it.
+fn earlier_at(run: &[Step], place: usize, later: &Request, bar: &Bar) -> Option<Earlier>
+    ensures { result ≡ earlier_of run.now place later.now bar.now }
+{
+    if is_open(bar, place) {
+        earlier_by(later, bar.opening.number, job_of(run, bar))
+    } else {
+        None
+    }
+}
+
+// The jobs that the later one comes after, of those whose fences have no outcome at this place.
+fn earlier_jobs(
+    alloc: Global,
+    run: &[Step],
+    fences: &[Bar],
+    place: usize,
+    later: &Request,
+) -> Result<Vec<Earlier>, AllocError>
+    ensures { IfOk result (λ jobs. jobs.items ≡ filter_map (earlier_of run.now place later.now) fences.now) }
+{
+    fences
+        .iter()
+        .filter_map(|bar| earlier_at(run, place, later, bar))
+        .collect(alloc)
+}
+
+// Whether one of these jobs is of the entity.
+fn is_any_of(entity: EntityId, jobs: &[Earlier]) -> bool
+    ensures { result ≡ list_any (λ other. other.entity == entity) jobs.now }
+{
+    jobs.iter().any(|other| other.entity == entity)
+}
+
+// The job at this place, if it is the last of its entity.
+fn last_at(jobs: &[Earlier], place: usize, job: Earlier) -> Option<Earlier>
+    requires { place < length jobs.now }
+    ensures { result ≡ last_of jobs.now (place, job) }
+{
+    if is_any_of(job.entity, &jobs[place + 1..]) {
+        None
+    } else {
+        Some(job)
+    }
+}
+
+// Adds a wait for the job, if there is one.
+fn push_wait(
+    waits: &mut Vec<Wait>,
+    fence: FenceId,
+    place: usize,
+    found: Option<Earlier>,
+) -> Result<(), AllocError>
+    ensures { OnOk result (waits.new.items ≡ waits.old.items ++ waits_on place fence (cons_option found [])) }
+{
+    match found {
+        Some(job) => {
+            waits.push(Wait {
+                fence,
+                earlier: job.fence,
+                place,
+            })?;
+            Ok(())
+        }
+        None => Ok(()),
+    }
+}
+
+// Adds a wait for each of these jobs that is the last of its entity.
+fn push_waits(
+    waits: &mut Vec<Wait>,
+    fence: FenceId,
+    place: usize,
+    jobs: &[Earlier],
+) -> Result<(), AllocError>
+    ensures { OnOk result (waits.new.items ≡ waits.old.items ++ waits_on place fence (last_of_each jobs.now)) }
+{
+    for (index, job) in jobs.iter().enumerate() {
+        push_wait(waits, fence, place, last_at(jobs, index, *job))?;
+    }
+    Ok(())
+}
+
+// Adds the waits of the step at a place, if it arms a job in the part.
+fn push_waits_at(
+    alloc: Global,
+    waits: &mut Vec<Wait>,
+    from: usize,
+    run: &[Step],
+    fences: &[Bar],
+    place: usize,
+    step: &Step,
+) -> Result<(), AllocError>
+    ensures { OnOk result (waits.new.items ≡ waits.old.items ++ waits_at from run.now fences.now (place, step.now)) }
+{
+    if place < from {
+        return Ok(());
+    }
+    match &step.answer {
+        Answer::Armed { fence } => match armed_job(run_before(run, place), step) {
+            Some(later) => {
+                let jobs = earlier_jobs(alloc, run, fences, place, later)?;
+                push_waits(waits, *fence, place, &jobs)
+            }
+            None => Ok(()),
+        },
+        _ => Ok(()),
+    }
+}
+
+/// The waits of the steps of a run from a place on. The fences are those that last beyond it.
+pub(crate) fn waits(
+    alloc: Global,
+    from: usize,
+    run: &[Step],
+    fences: &[Bar],
+) -> Result<Vec<Wait>, AllocError>
+    requires { fences.now ≡ bars_of kind.Fence from run.now }
+    ensures { IfOk result (λ waits. waits.items ≡ waits_of from run.now) }
+{
+    let mut waits = Vec::new(alloc);
+    for (place, step) in run.iter().enumerate() {
+        push_waits_at(alloc, &mut waits, from, run, fences, place, step)?;
+    }
+    Ok(waits)
+}

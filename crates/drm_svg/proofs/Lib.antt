@@ -1,0 +1,4 @@
+pub mod Places
+pub mod Columns
+pub mod Rows
+pub mod Lanes

@@ -1,0 +1,66 @@
+-- Lists with their places, one element more.
+use Rattle.std.proofs.Common.{◌≡◌, ◌∙◌, ℕ, suc, List, [], ◌∷◌, ◌++◌, ◌+◌, ◌<◌, ◌≤◌, ap, append-nil, refl, sym, subst, arith, below_more, flat_map, length, map, take, get_or}
+use Rattle.std.specs.List.{enumerate_from}
+use Rattle.std.proofs.Math.Seq.{take-suc}
+use Rattle.std.proofs.lemmas.Grind.{flat_map-append}
+use Rattle.std.proofs.lemmas.List.{get_or_append_left, get_or_at, get_or_default, length-append, length-take-le, map-append, take-append-le, take_at}
+
+pub enumerate_from-snoc : {X : Type 0} (n : ℕ) (xs : List X) (x : X) → enumerate_from n (xs ++ x ∷ []) ≡ enumerate_from n xs ++ (n + length xs, x) ∷ []
+enumerate_from-snoc n [] x = let e : n + 0 ≡ n = omega arith in rw e refl
+enumerate_from-snoc n (y ∷ ys) x =
+    let e : n + 1 + length ys ≡ n + length (y ∷ ys) = omega arith in
+    ap (λ l. (n, y) ∷ l) (enumerate_from-snoc (n + 1) ys x ∙ ap (λ (m : ℕ). enumerate_from (n + 1) ys ++ (m, x) ∷ []) e)
+
+-- what is taken, and one element more
+pub take-more : {X : Type 0} (xs : List X) (place : ℕ) (x : X) → place < length xs → x ≡ get_or xs place x → take (place + 1) xs ≡ take place xs ++ x ∷ []
+take-more xs place x within found =
+    let one : place + 1 ≡ suc place = omega arith in
+    ap (λ n. take n xs) one ∙ take-suc xs place x within ∙ ap (λ y. take place xs ++ y ∷ []) (sym found)
+
+-- one element more, with its place
+pub placed_more : {X : Type 0} (xs : List X) (place : ℕ) (x : X) → place < length xs → x ≡ get_or xs place x
+    → enumerate_from 0 (take (place + 1) xs) ≡ enumerate_from 0 (take place xs) ++ (place, x) ∷ []
+placed_more xs place x within found =
+    let le : place ≤ length xs = omega arith in
+    let same : length (take place xs) ≡ place = length-take-le place xs le in
+    let few : 0 + length (take place xs) ≡ place = omega (arith, same) in
+    ap (enumerate_from 0) (take-more xs place x within found)
+    ∙ enumerate_from-snoc 0 (take place xs) x
+    ∙ ap (λ (n : ℕ). enumerate_from 0 (take place xs) ++ (n, x) ∷ []) few
+
+-- the next element, of which something is made
+pub made_next : {X Y : Type 0} (h : ℕ × X → Y) (xs : List X) (place : ℕ) (d : X) (ys : List Y) → place < length xs
+    → ys ≡ map h (enumerate_from 0 (take place xs)) → ys ++ h (place, get_or xs place d) ∷ [] ≡ map h (enumerate_from 0 (take (place + 1) xs))
+made_next h xs place d ys within so =
+    let x = get_or xs place d in
+    let found : x ≡ get_or xs place x = get_or_default xs place d x within in
+    ap (λ l. l ++ h (place, x) ∷ []) so
+    ∙ sym (map-append h (enumerate_from 0 (take place xs)) ((place, x) ∷ []))
+    ∙ ap (map h) (sym (placed_more xs place x within found))
+
+-- one element more, of which a text is told
+pub told_more : {X : Type 0} (h : ℕ × X → List ℕ) (xs : List X) (place : ℕ) (d : X) → place < length xs
+    → flat_map h (enumerate_from 0 (take (place + 1) xs)) ≡ flat_map h (enumerate_from 0 (take place xs)) ++ h (place, get_or xs place d)
+told_more h xs place d within =
+    let x = get_or xs place d in
+    let found : x ≡ get_or xs place x = get_or_default xs place d x within in
+    ap (flat_map h) (placed_more xs place x within found)
+    ∙ flat_map-append h (enumerate_from 0 (take place xs)) ((place, x) ∷ [])
+    ∙ ap (λ l. flat_map h (enumerate_from 0 (take place xs)) ++ l) (append-nil (h (place, x)))
+
+-- what holds of each element and of those before it, of one element more
+pub each_more : {X : Type 0} (P : List X → X → Type 0) (xs : List X) (x : X)
+    → ((k : ℕ) (d : X) → k < length xs → P (take k xs) (get_or xs k d)) → P xs x
+    → (k : ℕ) (d : X) → k < length (xs ++ x ∷ []) → P (take k (xs ++ x ∷ [])) (get_or (xs ++ x ∷ []) k d)
+each_more {X} P xs x old new k d within =
+    let long : length (xs ++ x ∷ []) ≡ length xs + 1 = length-append xs (x ∷ []) in
+    let Q : ℕ → Type 0 = λ (n : ℕ). P (take n (xs ++ x ∷ [])) (get_or (xs ++ x ∷ []) n d) in
+    let below : (n : ℕ) → n < length xs → Q n =
+    λ n lt.
+    let le : n ≤ length xs = omega arith in
+    subst (λ (l : List X). P l (get_or (xs ++ x ∷ []) n d)) (sym (take-append-le n xs (x ∷ []) le))
+    (subst (λ (y : X). P (take n xs) y) (sym (get_or_append_left xs (x ∷ []) d n lt)) (old n d lt)) in
+    let here : Q (length xs) =
+    subst (λ (l : List X). P l (get_or (xs ++ x ∷ []) (length xs) d)) (sym (take_at xs (x ∷ []) (length xs) refl))
+    (subst (λ (y : X). P xs y) (sym (get_or_at xs x [] d (length xs) refl)) new) in
+    below_more Q (length xs) below here k (omega arith)

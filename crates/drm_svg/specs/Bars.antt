@@ -1,0 +1,70 @@
+-- The text of bars.
+use Rattle.std.specs.Prelude.{ℕ, Bool, List, [], ◌++◌, ◌+◌, ◌/◌, codes, decimal, flat_map, if◌then◌else◌, length, nat_le}
+use Rattle.drm_picture.specs.declared.bars.Bar.{Bar}
+use Rattle.drm_picture.specs.declared.bars.Look.{Look}
+use Rattle.drm_picture.specs.declared.bars.Look.TheVariants as look
+use Rattle.drm_picture.specs.declared.picture.Picture.{Picture}
+use Rattle.drm_svg.specs.Escape.{escaped}
+use Rattle.drm_svg.specs.Layout.{placed_at, row_of_lane}
+use Rattle.drm_svg.specs.Signs.{class_of_lane, sign_of_look, word_of_look}
+use Rattle.drm_svg.specs.Titles.{halt_title_of, title_of}
+use Rattle.drm_svg.specs.declared.bars.TheConstants.{COLOUR, GROUP_END, HALT, HALT_HEIGHT, HEIGHT, TITLE}
+use Rattle.drm_svg.specs.declared.layout.Layout.{Layout}
+use Rattle.drm_svg.specs.declared.placing.Placed.{Placed}
+
+-- the number of its fence or context, and the sign of its outcome
+abbrev pub label_of : Bar → List ℕ
+label_of bar = decimal bar.opening.number ++ sign_of_look bar.look
+
+-- a label fits into so many columns, three characters to each
+abbrev pub fits : List ℕ → ℕ → Bool
+fits label width = nat_le ((length label + 2) / 3) width
+
+-- the label of a bar, where it fits
+unfoldable pub label_text : Placed → List ℕ
+label_text bar =
+    if fits (label_of bar.bar) bar.width
+    then codes "<text x='" ++ decimal bar.left ++ codes "1' y='" ++ decimal bar.row ++ codes "7'>" ++ label_of bar.bar ++ codes "</text>"
+    else []
+
+-- a job that is to be skipped is dashed
+abbrev pub class_of : Bar → List ℕ
+class_of bar = if bar.opening.skipped then codes " skipped" else codes ""
+
+-- what a bar tells
+unfoldable pub title_text : Bar → List ℕ
+title_text bar = codes "<g class='" ++ class_of_lane bar.opening.lane ++ TITLE.now ++ escaped (title_of bar)
+
+-- its place and its size
+unfoldable pub place_text : Placed → List ℕ
+place_text bar = codes "' x='" ++ decimal bar.left ++ codes "0' y='" ++ decimal bar.row ++ codes "1' width='" ++ decimal bar.width ++ HEIGHT.now
+
+-- its colour
+abbrev pub colour_text : Bar → List ℕ
+colour_text bar = COLOUR.now ++ word_of_look bar.look ++ class_of bar
+
+-- a bar
+unfoldable pub bar_text : Placed → List ℕ
+bar_text bar = title_text bar.bar ++ colour_text bar.bar ++ place_text bar ++ label_text bar ++ GROUP_END.now
+
+-- the line of a header in which the bar of a stopped entity lies: one that is guilty and cancelled has two
+abbrev pub line_of : Look → List ℕ
+line_of look.Guilty = codes "8"
+line_of _ = codes "9"
+
+-- its place and its size
+unfoldable pub halt_place_text : Placed → List ℕ
+halt_place_text bar =
+    codes "' x='" ++ decimal bar.left ++ codes "0' y='" ++ decimal bar.row ++ line_of bar.bar.look ++ codes "' width='" ++ decimal bar.width ++ HALT_HEIGHT.now
+
+-- what the bar of an entity tells that was stopped
+unfoldable pub halt_title_text : Bar → List ℕ
+halt_title_text bar = HALT.now ++ escaped (halt_title_of bar)
+
+-- such a bar, below the marks
+unfoldable pub halt_text : Placed → List ℕ
+halt_text bar = halt_title_text bar.bar ++ colour_text bar.bar ++ halt_place_text bar
+
+-- the bars of the entities that were stopped, each in the header of its lane
+abbrev pub halts_text : Picture → Layout → List ℕ
+halts_text picture layout = flat_map (λ bar. halt_text (placed_at picture (row_of_lane layout bar.opening.lane) bar)) picture.stopped.items

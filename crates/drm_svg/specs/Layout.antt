@@ -1,0 +1,114 @@
+-- Where everything of a picture is drawn: rows of ten pixels, and columns of ten.
+use Rattle.std.specs.Prelude.{◌≡◌, ℕ, zero, suc, Bool, false, ◌+◌, ◌-◌, ◌<◌, ◌≤◌, ◌==◌, List, [], ◌∷◌, ◌++◌, All, AllPairs, Any, filter, find, length, map, min, slice_index_or, take}
+use Rattle.std.specs.List.{enumerate_from}
+use Rattle.std.specs.Option.{option_map_or}
+use Rattle.drm_picture.specs.declared.bars.Bar.{Bar}
+use Rattle.drm_picture.specs.declared.bars.Lane.{Lane}
+use Rattle.drm_picture.specs.declared.bars.Lane.TheVariants as lane
+use Rattle.drm_picture.specs.declared.picture.Picture.{Picture}
+use Rattle.drm_picture.specs.declared.picture.Shape.{Shape}
+use Rattle.drm_svg.specs.declared.layout.LaneRows.{LaneRows}
+use Rattle.drm_svg.specs.declared.layout.Layout.{Layout}
+use Rattle.drm_svg.specs.declared.placing.Placed.{Placed}
+
+abbrev pub same_lane : Lane → Lane → Bool
+same_lane (lane.Ring a) (lane.Ring b) = a == b
+same_lane (lane.Entity a) (lane.Entity b) = a == b
+same_lane (lane.Buffer a) (lane.Buffer b) = a == b
+same_lane (lane.Fence a) (lane.Fence b) = a == b
+same_lane _ _ = false
+
+-- the column where a bar begins: that of its command, or the first that is drawn
+abbrev pub left_of : Picture → Bar → ℕ
+left_of picture bar = bar.from - picture.first
+
+-- how many columns it lasts, of those that are drawn
+abbrev pub width_of : Picture → Bar → ℕ
+width_of picture bar = min (bar.span - (picture.first - bar.from)) (length picture.columns.items - left_of picture bar)
+
+-- a bar in a row, cut where the drawn part begins and ends
+abbrev pub placed_at : Picture → ℕ → Bar → Placed
+placed_at picture row bar = record { bar = bar; left = left_of picture bar; width = width_of picture bar; row = row }
+
+-- the column behind the last of a bar
+abbrev pub end_of : Placed → ℕ
+end_of placed = placed.left + placed.width
+
+-- the bars of which some are in a lane
+abbrev pub bars_of_kind : Picture → Lane → List Bar
+bars_of_kind picture (lane.Ring ring) = picture.jobs.items
+bars_of_kind picture (lane.Entity entity) = picture.queued.items
+bars_of_kind picture (lane.Buffer buffer) = picture.locks.items
+bars_of_kind picture (lane.Fence fence) = picture.fences.items
+
+-- the bar is in the lane
+abbrev pub is_in : Lane → Bar → Bool
+is_in lane bar = same_lane bar.opening.lane lane
+
+-- the bars of a lane
+abbrev pub bars_in : Picture → Lane → List Bar
+bars_in picture lane = filter (is_in lane) (bars_of_kind picture lane)
+
+-- of two bars in one row the later begins where the earlier has ended, or behind
+abbrev pub AreApart : Placed → Placed → Type 0
+AreApart earlier later = earlier.row ≡ later.row → end_of earlier ≤ later.left
+
+-- one of the bars is in the row, and ends behind the column
+abbrev pub IsTaken : ℕ → ℕ → List Placed → Type 0
+IsTaken row column bars = Any (λ bar. (bar.row ≡ row) × (column < end_of bar)) bars
+
+-- each row from the first on that is above a bar is taken where it begins, by a bar before it in the list
+abbrev pub EachRowAboveIsTaken : ℕ → List Placed → Type 0
+EachRowAboveIsTaken first bars =
+    (k : ℕ) (d : Placed) → k < length bars → (row : ℕ) → first ≤ row → row < (slice_index_or bars k d).row → IsTaken row (slice_index_or bars k d).left (take k bars)
+
+-- the rows of a lane: a header, and below it those of the bars of the lane, as many as they need
+pub record IsLaneRows (picture : Picture) (rows : LaneRows) : Type 0 where
+  pub drawn : map (λ placed. placed.bar) rows.bars.items ≡ bars_in picture rows.lane
+  pub cut : All (λ placed. placed ≡ placed_at picture placed.row placed.bar) rows.bars.items
+  pub apart : AllPairs AreApart rows.bars.items
+  pub first_free : EachRowAboveIsTaken (rows.top + 1) rows.bars.items
+  pub within : All (λ placed. (rows.top < placed.row) × (placed.row < rows.bottom)) rows.bars.items
+  pub needed : (row : ℕ) → rows.top < row → row < rows.bottom → Any (λ placed. placed.row ≡ row) rows.bars.items
+
+-- what a function gives of each number below this one
+abbrev pub below : (ℕ → Lane) → ℕ → List Lane
+below lane zero = []
+below lane (suc n) = below lane n ++ lane n ∷ []
+
+-- the lanes from the top: the rings, the entities and the buffers
+abbrev pub lanes_of : Shape → List Lane
+lanes_of shape = below lane.Ring shape.rings ++ below lane.Entity shape.entities ++ below lane.Buffer shape.buffers
+
+-- lanes one below another, from a row to before another
+abbrev pub AreStacked : ℕ → List LaneRows → ℕ → Type 0
+AreStacked top [] bottom = top ≡ bottom
+AreStacked top (rows ∷ below) bottom = (rows.top ≡ top) × AreStacked rows.bottom below bottom
+
+-- the rows of these lanes, in this order, one below another from the top of the picture
+pub record AreLanes (picture : Picture) (lanes : List Lane) (rows : List LaneRows) (bottom : ℕ) : Type 0 where
+  pub named : map (λ rows. rows.lane) rows ≡ lanes
+  pub stacked : AreStacked 0 rows bottom
+  pub each : All (IsLaneRows picture) rows
+
+-- fences below a header, each in the row below that of the one before
+abbrev pub fences_below : Picture → ℕ → List Bar → List Placed
+fences_below picture header fences = map (λ p. placed_at picture (header + 1 + p.0) p.1) (enumerate_from 0 fences)
+
+-- the lanes, and below them the fences
+pub record IsLayout (picture : Picture) (layout : Layout) : Type 0 where
+  pub lanes : AreLanes picture (lanes_of picture.shape) layout.lanes.items layout.header
+  pub fences : layout.fences.items ≡ fences_below picture layout.header picture.fences.items
+
+-- the row of a fence, or the header's where it is not drawn
+abbrev pub row_of_fence : Layout → ℕ → ℕ
+row_of_fence layout fence = option_map_or (λ placed. placed.row) (find (λ placed. placed.bar.opening.number == fence) layout.fences.items) layout.header
+
+-- the header's row of a lane, or of the fences where it is not drawn
+abbrev pub header_of : Layout → Lane → ℕ
+header_of layout lane = option_map_or (λ rows. rows.top) (find (λ rows. same_lane rows.lane lane) layout.lanes.items) layout.header
+
+-- where the marks of a lane are
+abbrev pub row_of_lane : Layout → Lane → ℕ
+row_of_lane layout (lane.Fence fence) = row_of_fence layout fence
+row_of_lane layout lane = header_of layout lane

@@ -1,0 +1,191 @@
+//! The text of bars.
+
+ghost use Rattle.std.specs.Prelude.{◌≡◌, ◌++◌, IfOk, OnOk, flat_map};
+ghost use Rattle.drm_svg.specs.Bars.{bar_text, class_of, colour_text, fits, halt_place_text, halt_text, halt_title_text, halts_text, label_of, label_text, line_of, place_text, title_text};
+
+use crate::escape::put_escaped;
+use crate::layout::Layout;
+use crate::placing::{Placed, bar_in_row};
+use crate::signs::{lane_class, look_sign, look_word};
+use crate::text::{put_number, put_text};
+use crate::titles::{halt_title, title};
+use drm_picture::{Bar, Look, Picture};
+use std::alloc::{AllocError, Global};
+
+/// What a bar tells.
+const TITLE: &str = "'><title>";
+
+/// The colour of a bar.
+const COLOUR: &str = "</title><rect class='";
+
+/// The height of a bar.
+const HEIGHT: &str = "0' height='8'/>";
+
+/// Where the bar of an entity lies that was stopped.
+const HALT: &str = "<g class='halt'><title>";
+
+/// The height of such a bar, which leaves room for marks.
+const HALT_HEIGHT: &str = "0' height='1'/></g>\n";
+
+/// The end of a bar.
+const GROUP_END: &str = "</g>\n";
+
+// The number of a bar and the sign of its outcome.
+fn label(alloc: Global, bar: &Bar) -> Result<Vec<u8>, AllocError>
+    ensures { IfOk result (λ label. label.items ≡ label_of bar.now) }
+{
+    let mut label = Vec::new(alloc);
+    put_number(&mut label, u64::from(bar.opening.number))?;
+    put_text(&mut label, look_sign(bar.look))?;
+    Ok(label)
+}
+
+// Whether a label fits into so many columns.
+fn is_fitting(label: &[u8], width: usize) -> bool
+    ensures { result ≡ fits label.now width }
+{
+    (label.len() + 2) / 3 <= width
+}
+
+// Puts the label of a bar on it, where it fits.
+#[tactic(auto, unfolding(crate::specs::Bars::label_text))]
+fn put_label(alloc: Global, out: &mut Vec<u8>, bar: &Placed) -> Result<(), AllocError>
+    ensures { OnOk result (out.new.items ≡ out.old.items ++ label_text bar.now) }
+{
+    let label = label(alloc, &bar.bar)?;
+    if !is_fitting(&label, bar.width) {
+        return Ok(());
+    }
+    put_text(out, "<text x='")?;
+    put_number(out, bar.left as u64)?;
+    put_text(out, "1' y='")?;
+    put_number(out, bar.row as u64)?;
+    put_text(out, "7'>")?;
+    out.extend_from_slice(&label)?;
+    put_text(out, "</text>")
+}
+
+// The class of a bar whose job is to be skipped, on top of the one that shows its outcome.
+fn skipped(bar: &Bar) -> &'static str
+    ensures { result.now ≡ class_of bar.now }
+{
+    if bar.opening.skipped { " skipped" } else { "" }
+}
+
+// Puts what a bar tells, as its title.
+#[tactic(auto, unfolding(crate::specs::Bars::title_text))]
+fn put_title(alloc: Global, out: &mut Vec<u8>, bar: &Bar) -> Result<(), AllocError>
+    ensures { OnOk result (out.new.items ≡ out.old.items ++ title_text bar.now) }
+{
+    let told = title(alloc, bar)?;
+    put_text(out, "<g class='")?;
+    put_text(out, lane_class(bar.opening.lane))?;
+    put_text(out, TITLE)?;
+    put_escaped(out, &told)
+}
+
+// Puts the place and the size of a bar.
+#[tactic(auto, unfolding(crate::specs::Bars::place_text))]
+fn put_place(out: &mut Vec<u8>, bar: &Placed) -> Result<(), AllocError>
+    ensures { OnOk result (out.new.items ≡ out.old.items ++ place_text bar.now) }
+{
+    put_text(out, "' x='")?;
+    put_number(out, bar.left as u64)?;
+    put_text(out, "0' y='")?;
+    put_number(out, bar.row as u64)?;
+    put_text(out, "1' width='")?;
+    put_number(out, bar.width as u64)?;
+    put_text(out, HEIGHT)
+}
+
+// Puts the colour of a bar.
+fn put_colour(out: &mut Vec<u8>, bar: &Bar) -> Result<(), AllocError>
+    ensures { OnOk result (out.new.items ≡ out.old.items ++ colour_text bar.now) }
+{
+    put_text(out, COLOUR)?;
+    put_text(out, look_word(bar.look))?;
+    put_text(out, skipped(bar))
+}
+
+// Puts a bar.
+#[tactic(auto, unfolding(crate::specs::Bars::bar_text))]
+fn put_bar(alloc: Global, out: &mut Vec<u8>, bar: &Placed) -> Result<(), AllocError>
+    ensures { OnOk result (out.new.items ≡ out.old.items ++ bar_text bar.now) }
+{
+    put_title(alloc, out, &bar.bar)?;
+    put_colour(out, &bar.bar)?;
+    put_place(out, bar)?;
+    put_label(alloc, out, bar)?;
+    put_text(out, GROUP_END)
+}
+
+/// Puts bars.
+pub(crate) fn put_bars(alloc: Global, out: &mut Vec<u8>, bars: &[Placed]) -> Result<(), AllocError>
+    ensures { OnOk result (out.new.items ≡ out.old.items ++ flat_map bar_text bars.now) }
+{
+    for bar in bars {
+        put_bar(alloc, out, bar)?;
+    }
+    Ok(())
+}
+
+// The line of a header in which the bar of a stopped entity lies, so that one that is guilty and cancelled has two.
+fn line(look: Look) -> &'static str
+    ensures { result.now ≡ line_of look }
+{
+    match look {
+        Look::Guilty => "8",
+        _ => "9",
+    }
+}
+
+// Puts the place and the size of such a bar.
+#[tactic(auto, unfolding(crate::specs::Bars::halt_place_text))]
+fn put_halt_place(out: &mut Vec<u8>, bar: &Placed) -> Result<(), AllocError>
+    ensures { OnOk result (out.new.items ≡ out.old.items ++ halt_place_text bar.now) }
+{
+    put_text(out, "' x='")?;
+    put_number(out, bar.left as u64)?;
+    put_text(out, "0' y='")?;
+    put_number(out, bar.row as u64)?;
+    put_text(out, line(bar.bar.look))?;
+    put_text(out, "' width='")?;
+    put_number(out, bar.width as u64)?;
+    put_text(out, HALT_HEIGHT)
+}
+
+// Puts what such a bar tells, as its title.
+#[tactic(auto, unfolding(crate::specs::Bars::halt_title_text))]
+fn put_halt_title(alloc: Global, out: &mut Vec<u8>, bar: &Bar) -> Result<(), AllocError>
+    ensures { OnOk result (out.new.items ≡ out.old.items ++ halt_title_text bar.now) }
+{
+    let title = halt_title(alloc, bar)?;
+    put_text(out, HALT)?;
+    put_escaped(out, &title)
+}
+
+// Puts the bar of an entity that was stopped.
+#[tactic(auto, unfolding(crate::specs::Bars::halt_text))]
+fn put_halt(alloc: Global, out: &mut Vec<u8>, bar: &Placed) -> Result<(), AllocError>
+    ensures { OnOk result (out.new.items ≡ out.old.items ++ halt_text bar.now) }
+{
+    put_halt_title(alloc, out, &bar.bar)?;
+    put_colour(out, &bar.bar)?;
+    put_halt_place(out, bar)
+}
+
+/// Puts the bars of the entities that were stopped, each in the header of its lane.
+pub(crate) fn put_halts(
+    alloc: Global,
+    out: &mut Vec<u8>,
+    picture: &Picture,
+    layout: &Layout,
+) -> Result<(), AllocError>
+    ensures { OnOk result (out.new.items ≡ out.old.items ++ halts_text picture.now layout.now) }
+{
+    for bar in &picture.stopped {
+        let row = layout.row(bar.opening.lane);
+        put_halt(alloc, out, &bar_in_row(picture, row, bar))?;
+    }
+    Ok(())
+}

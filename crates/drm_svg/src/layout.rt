@@ -1,0 +1,171 @@
+//! Where lanes and bars are drawn: rows of ten pixels, and columns of ten.
+
+ghost use Rattle.std.specs.Prelude.{◌≡◌, ◌==◌, ◌<◌, ◌^◌, [], IfOk, find, length};
+ghost use Rattle.std.specs.Option.{option_copied};
+ghost use Rattle.drm_svg.specs.Layout.{AreLanes, IsLaneRows, IsLayout, fences_below, header_of, lanes_of, row_of_fence, row_of_lane, same_lane};
+
+use crate::placing::{Placed, bar_in_row, is_same, place_bars};
+use drm_picture::{Bar, Lane, Picture, Shape};
+use std::alloc::{AllocError, Global};
+
+/// The rows of a lane: a header for marks, and below it those of its bars.
+#[derive(Drop)]
+pub struct LaneRows {
+    pub lane: Lane,
+    /// The header's row, counted from the top of the picture.
+    pub top: usize,
+    pub bars: Vec<Placed>,
+    /// The row below the last.
+    pub bottom: usize,
+}
+
+/// Where everything of a picture is drawn.
+#[derive(Drop)]
+pub struct Layout {
+    /// The lanes of the rings, the entities and the buffers.
+    pub lanes: Vec<LaneRows>,
+    /// The header's row of the fences.
+    pub header: usize,
+    /// The fences, each in a row of its own.
+    pub fences: Vec<Placed>,
+}
+
+// All lanes but those of the fences, from the top.
+fn lanes(alloc: Global, shape: Shape) -> Result<Vec<Lane>, AllocError>
+    ensures { IfOk result (λ lanes. lanes.items ≡ lanes_of shape) }
+{
+    let mut lanes = Vec::new(alloc);
+    for ring in 0..shape.rings {
+        lanes.push(Lane::Ring(ring))?;
+    }
+    for entity in 0..shape.entities {
+        lanes.push(Lane::Entity(entity))?;
+    }
+    for buffer in 0..shape.buffers {
+        lanes.push(Lane::Buffer(buffer))?;
+    }
+    Ok(lanes)
+}
+
+// The rows of a lane, below those that there are. Of each row is kept where it ends.
+fn lane_rows(
+    alloc: Global,
+    picture: &Picture,
+    lane: Lane,
+    ends: &mut Vec<usize>,
+) -> Result<LaneRows, AllocError>
+    ensures lane { IfOk result (λ rows. rows.lane ≡ lane) }
+    ensures top { IfOk result (λ rows. rows.top ≡ length ends.old.items) }
+    ensures bottom { IfOk result (λ rows. rows.bottom ≡ length ends.new.items) }
+    ensures rows { IfOk result (IsLaneRows picture.now) }
+{
+    let top = ends.len();
+    ends.push(0)?;
+    let bars = place_bars(alloc, picture, lane, ends)?;
+    Ok(LaneRows {
+        lane,
+        top,
+        bars,
+        bottom: ends.len(),
+    })
+}
+
+// The rows of these lanes from the top, one below another. Of each row is kept where it ends.
+fn stack(
+    alloc: Global,
+    picture: &Picture,
+    lanes: &[Lane],
+    ends: &mut Vec<usize>,
+) -> Result<Vec<LaneRows>, AllocError>
+    requires { ends.old.items ≡ [] }
+    ensures { IfOk result (λ rows. AreLanes picture.now lanes.now rows.items (length ends.new.items)) }
+{
+    let mut rows = Vec::new(alloc);
+    for lane in lanes {
+        rows.push(lane_rows(alloc, picture, *lane, ends)?)?;
+    }
+    Ok(rows)
+}
+
+// These fences, each in the row below that of the one before.
+fn place_fences(
+    alloc: Global,
+    picture: &Picture,
+    fences: &[Bar],
+    header: usize,
+) -> Result<Vec<Placed>, AllocError>
+    requires { header < 2 ^ 63 }
+    ensures { IfOk result (λ placed. placed.items ≡ fences_below picture.now header fences.now) }
+{
+    let mut placed = Vec::new(alloc);
+    for (place, bar) in fences.iter().enumerate() {
+        placed.push(bar_in_row(picture, header + 1 + place, bar))?;
+    }
+    Ok(placed)
+}
+
+/// Where everything of the picture is drawn.
+pub fn lay_out(alloc: Global, picture: &Picture) -> Result<Layout, AllocError>
+    ensures { IfOk result (IsLayout picture.now) }
+{
+    let mut ends = Vec::new(alloc);
+    let lanes = lanes(alloc, picture.shape)?;
+    let lanes = stack(alloc, picture, &lanes, &mut ends)?;
+    let header = ends.len();
+    let fences = place_fences(alloc, picture, &picture.fences, header)?;
+    Ok(Layout {
+        lanes,
+        header,
+        fences,
+    })
+}
+
+// The first of these lanes that is this one.
+fn find_lane(lanes: &[LaneRows], lane: Lane) -> Option<&LaneRows>
+    ensures { option_copied result ≡ find (λ rows. same_lane rows.lane lane) lanes.now }
+{
+    lanes.iter().find(|rows| is_same(rows.lane, lane))
+}
+
+// The first of these bars that is of this fence.
+fn find_fence(fences: &[Placed], fence: u32) -> Option<&Placed>
+    ensures { option_copied result ≡ find (λ placed. placed.bar.opening.number == fence) fences.now }
+{
+    fences
+        .iter()
+        .find(|placed| placed.bar.opening.number == fence)
+}
+
+impl Layout {
+    // The row of a fence, or the header's where it is not drawn.
+    pub(crate) fn fence_row(&self, fence: u32) -> usize
+        ensures { result ≡ row_of_fence self.now fence }
+    {
+        match find_fence(&self.fences, fence) {
+            Some(placed) => placed.row,
+            None => self.header,
+        }
+    }
+
+    // The header's row of a lane, or that of the fences where it is not drawn.
+    fn header_row(&self, lane: Lane) -> usize
+        ensures { result ≡ header_of self.now lane }
+    {
+        match find_lane(&self.lanes, lane) {
+            Some(rows) => rows.top,
+            None => self.header,
+        }
+    }
+
+    // Where the marks of a lane are.
+    pub(crate) fn row(&self, lane: Lane) -> usize
+        ensures { result ≡ row_of_lane self.now lane }
+    {
+        match lane {
+            Lane::Ring(_) => self.header_row(lane),
+            Lane::Entity(_) => self.header_row(lane),
+            Lane::Buffer(_) => self.header_row(lane),
+            Lane::Fence(fence) => self.fence_row(fence),
+        }
+    }
+}

@@ -1,0 +1,157 @@
+//! The rows of one lane: each bar in the first that is free where it begins.
+
+ghost use Rattle.std.specs.Prelude.{◌≡◌, ℕ, ◌+◌, ◌-◌, ◌<◌, ◌≤◌, ◌^◌, OnOk, IfOk, length, slice_index};
+ghost use Rattle.drm_svg.specs.Layout.{bars_of_kind, left_of, placed_at, same_lane, width_of};
+ghost use Rattle.drm_svg.specs.Placing.{ArePlaced, PlacesBar, PlacesIn, TakesRow};
+
+use drm_picture::{Bar, Lane, Picture};
+use std::alloc::{AllocError, Global};
+
+/// A bar where it is drawn.
+#[derive(Clone, Copy)]
+pub struct Placed {
+    pub bar: Bar,
+    /// The column where it begins, counted from the first that is drawn.
+    pub left: usize,
+    /// How many columns it lasts.
+    pub width: usize,
+    /// Its row, counted from the top of the picture.
+    pub row: usize,
+}
+
+// Whether two lanes are the same.
+pub(crate) fn is_same(a: Lane, b: Lane) -> bool
+    ensures { result ≡ same_lane a b }
+{
+    match (a, b) {
+        (Lane::Ring(a), Lane::Ring(b)) => a == b,
+        (Lane::Entity(a), Lane::Entity(b)) => a == b,
+        (Lane::Buffer(a), Lane::Buffer(b)) => a == b,
+        (Lane::Fence(a), Lane::Fence(b)) => a == b,
+        _ => false,
+    }
+}
+
+// The bars of which some are in the lane.
+fn bars_for(picture: &Picture, lane: Lane) -> &[Bar]
+    ensures { result.now ≡ bars_of_kind picture.now lane }
+{
+    match lane {
+        Lane::Ring(_) => &picture.jobs,
+        Lane::Entity(_) => &picture.queued,
+        Lane::Buffer(_) => &picture.locks,
+        Lane::Fence(_) => &picture.fences,
+    }
+}
+
+// The column where a bar begins.
+fn left(picture: &Picture, bar: &Bar) -> usize
+    ensures { result ≡ left_of picture.now bar.now }
+{
+    bar.from.saturating_sub(picture.first)
+}
+
+// How many columns a bar lasts, of those that are drawn.
+fn width(picture: &Picture, bar: &Bar) -> usize
+    ensures value { result ≡ width_of picture.now bar.now }
+    ensures fits { left_of picture.now bar.now + result < 2 ^ 64 }
+{
+    let before = picture.first.saturating_sub(bar.from);
+    let columns = picture.columns.len().saturating_sub(left(picture, bar));
+    bar.span.saturating_sub(before).min(columns)
+}
+
+/// A bar in a row.
+pub(crate) fn bar_in_row(picture: &Picture, row: usize, bar: &Bar) -> Placed
+    ensures { result ≡ placed_at picture.now row bar.now }
+{
+    Placed {
+        bar: *bar,
+        left: left(picture, bar),
+        width: width(picture, bar),
+        row,
+    }
+}
+
+// The first row from one on that is free from a column on, or the row below the last.
+fn first_free(ends: &[usize], first: usize, left: usize) -> usize
+    requires { first ≤ length ends.now }
+    ensures behind { first ≤ result }
+    ensures within { result ≤ length ends.now }
+    ensures taken { (row : ℕ) → first ≤ row → row < result → left < slice_index ends.now row }
+    ensures free { result < length ends.now → slice_index ends.now result ≤ left }
+{
+    for row in first..ends.len() {
+        if ends[row] <= left {
+            return row;
+        }
+    }
+    ends.len()
+}
+
+// Notes where a row ends now.
+fn take_row(ends: &mut Vec<usize>, row: usize, end: usize) -> Result<(), AllocError>
+    requires { row ≤ length ends.old.items }
+    ensures { OnOk result (TakesRow ends.old.items row end ends.new.items) }
+{
+    if row < ends.len() {
+        ends[row] = end;
+        return Ok(());
+    }
+    ends.push(end)?;
+    Ok(())
+}
+
+// Puts a bar into the first row that is free where it begins.
+fn place_bar(
+    picture: &Picture,
+    first: usize,
+    bar: &Bar,
+    ends: &mut Vec<usize>,
+    bars: &mut Vec<Placed>,
+) -> Result<(), AllocError>
+    requires { first ≤ length ends.old.items }
+    ensures { OnOk result (PlacesBar picture.now first bar.now ends.old.items ends.new.items bars.old.items bars.new.items) }
+{
+    let row = first_free(ends, first, left(picture, bar));
+    let end = left(picture, bar) + width(picture, bar);
+    take_row(ends, row, end)?;
+    bars.push(bar_in_row(picture, row, bar))?;
+    Ok(())
+}
+
+// Puts a bar into a row of the lane, if it is one of the lane's.
+fn place_in(
+    picture: &Picture,
+    lane: Lane,
+    first: usize,
+    bar: &Bar,
+    ends: &mut Vec<usize>,
+    bars: &mut Vec<Placed>,
+) -> Result<(), AllocError>
+    requires { first ≤ length ends.old.items }
+    ensures { OnOk result (PlacesIn picture.now lane first bar.now ends.old.items ends.new.items bars.old.items bars.new.items) }
+{
+    if is_same(bar.opening.lane, lane) {
+        return place_bar(picture, first, bar, ends, bars);
+    }
+    Ok(())
+}
+
+/// Puts the bars of a lane into rows below those that there are.
+pub(crate) fn place_bars(
+    alloc: Global,
+    picture: &Picture,
+    lane: Lane,
+    ends: &mut Vec<usize>,
+) -> Result<Vec<Placed>, AllocError>
+    ensures { IfOk result (λ bars. ArePlaced picture.now lane (length ends.old.items) (bars_of_kind picture.now lane) bars.items ends.new.items) }
+{
+    let first = ends.len();
+    let all = bars_for(picture, lane);
+    let mut bars = Vec::new(alloc);
+    for bar in all {
+        place_in(picture, lane, first, bar, ends, &mut bars)?;
+    }
+    Ok(bars)
+}

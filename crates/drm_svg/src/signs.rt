@@ -1,0 +1,80 @@
+//! The words, colours and shapes of what is drawn.
+
+ghost use Rattle.std.specs.Prelude.{◌≡◌};
+ghost use Rattle.drm_svg.specs.Signs.{class_of_lane, shape_of, sign_of_look, word_of_look, word_of_sign};
+
+use drm_picture::{Lane, Look, Sign};
+
+// The word of a look, which is also the name of its colour.
+pub(crate) fn look_word(look: Look) -> &'static str
+    ensures { result.now ≡ word_of_look look }
+{
+    match look {
+        Look::Open => "open",
+        Look::Ended => "ended",
+        Look::Good => "good",
+        Look::Cancelled => "cancelled",
+        Look::Stopped => "stopped",
+        Look::Guilty => "guilty",
+    }
+}
+
+// The sign of an outcome, behind the number of its fence.
+pub(crate) fn look_sign(look: Look) -> &'static str
+    ensures { result.now ≡ sign_of_look look }
+{
+    match look {
+        Look::Open => "?",
+        Look::Ended => "",
+        Look::Good => "+",
+        Look::Cancelled => "-",
+        Look::Stopped => "x",
+        Look::Guilty => "x",
+    }
+}
+
+// The class of the bars of a lane.
+pub(crate) fn lane_class(lane: Lane) -> &'static str
+    ensures { result.now ≡ class_of_lane lane }
+{
+    match lane {
+        Lane::Ring(_) => "job",
+        Lane::Entity(_) => "queued",
+        Lane::Buffer(_) => "lock",
+        Lane::Fence(_) => "fence",
+    }
+}
+
+// What a mark says.
+pub(crate) fn sign_word(sign: Sign) -> &'static str
+    ensures { result.now ≡ word_of_sign sign }
+{
+    match sign {
+        Sign::Ran => "a packet ran",
+        Sign::Stalled => "stalled",
+        Sign::Hang => "a hang and a reset",
+        Sign::Guilty => "guilty",
+        Sign::Refused => "refused",
+        Sign::Given => "bytes given",
+        Sign::Contended => "held by another",
+        Sign::Granted => "ok",
+        Sign::Planned => "planned",
+    }
+}
+
+// How a mark is drawn, ten pixels wide and seven high.
+pub(crate) fn sign_shape(sign: Sign) -> &'static str
+    ensures { result.now ≡ shape_of sign }
+{
+    match sign {
+        Sign::Ran => "<path d='M5 1v6'/>",
+        Sign::Stalled => "<circle cx='5' cy='4' r='2.5'/>",
+        Sign::Hang => "<path d='M6 0l-3 4h4l-3 4'/>",
+        Sign::Guilty => "<path class='guilty' d='M5 1l3 6h-6z'/>",
+        Sign::Refused => "<path class='refused' d='M2 1l6 6m0 -6l-6 6'/>",
+        Sign::Given => "<path class='given' d='M2 4l2 3l4 -6'/>",
+        Sign::Contended => "<path d='M5 1l3 3l-3 3l-3 -3z'/>",
+        Sign::Granted => "<path d='M2 4h6'/>",
+        Sign::Planned => "<path d='M2 2h6v4h-6z'/>",
+    }
+}

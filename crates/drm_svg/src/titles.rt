@@ -1,0 +1,131 @@
+//! What the browser tells of a bar where the mouse rests on it.
+
+ghost use Rattle.std.specs.Prelude.{◌≡◌, ◌++◌, IfOk, OnOk, decimal};
+ghost use Rattle.drm_svg.specs.Signs.{name_of};
+ghost use Rattle.drm_svg.specs.Titles.{begins_of, end_text, ends_of, halt_title_of, moment_text, packets_text, subject_text, title_of};
+
+use crate::signs::look_word;
+use crate::text::{put_later, put_name, put_number, put_text};
+use drm_picture::{Bar, Lane, Look};
+use drm_types::Moment;
+use std::alloc::{AllocError, Global};
+
+/// How many packets ran.
+const PACKETS: &str = ", packets run: ";
+
+// Puts the name of a lane and what the number of a bar in it is that of.
+fn put_numbered(out: &mut Vec<u8>, lane: Lane, what: &str, number: u32) -> Result<(), AllocError>
+    ensures { OnOk result (out.new.items ≡ out.old.items ++ name_of lane ++ what.now ++ decimal number) }
+{
+    put_name(out, lane)?;
+    put_text(out, what)?;
+    put_number(out, u64::from(number))
+}
+
+// Puts what a bar is of.
+fn put_subject(out: &mut Vec<u8>, lane: Lane, number: u32) -> Result<(), AllocError>
+    ensures { OnOk result (out.new.items ≡ out.old.items ++ subject_text lane number) }
+{
+    match lane {
+        Lane::Ring(_) => put_numbered(out, lane, ": fence ", number),
+        Lane::Entity(_) => put_numbered(out, lane, ": fence ", number),
+        Lane::Buffer(_) => put_numbered(out, lane, ": context ", number),
+        Lane::Fence(_) => put_name(out, lane),
+    }
+}
+
+// What the command does that begins a bar in the lane.
+fn begins(lane: Lane) -> &'static str
+    ensures { result.now ≡ begins_of lane }
+{
+    match lane {
+        Lane::Ring(_) => ", picked by command ",
+        Lane::Entity(_) => ", queued by command ",
+        Lane::Buffer(_) => ", locked by command ",
+        Lane::Fence(_) => ", armed by command ",
+    }
+}
+
+// What the command does that ends a bar in the lane.
+fn ends(lane: Lane) -> &'static str
+    ensures { result.now ≡ ends_of lane }
+{
+    match lane {
+        Lane::Ring(_) => ", finished by command ",
+        Lane::Entity(_) => ", taken out by command ",
+        Lane::Buffer(_) => ", dropped by command ",
+        Lane::Fence(_) => ", ended by command ",
+    }
+}
+
+// Puts a moment, if there is one.
+fn put_moment(out: &mut Vec<u8>, moment: Option<Moment>) -> Result<(), AllocError>
+    ensures { OnOk result (out.new.items ≡ out.old.items ++ moment_text moment) }
+{
+    match moment {
+        Some(now) => {
+            put_text(out, " at moment ")?;
+            put_number(out, now)
+        }
+        None => Ok(()),
+    }
+}
+
+// Puts which command ends a bar, or that none does.
+fn put_end(out: &mut Vec<u8>, bar: &Bar) -> Result<(), AllocError>
+    ensures { OnOk result (out.new.items ≡ out.old.items ++ end_text bar.now.look bar.now) }
+{
+    match bar.look {
+        Look::Open => put_text(out, ", not ended"),
+        _ => {
+            put_text(out, ends(bar.opening.lane))?;
+            put_later(out, bar.from, bar.span)?;
+            put_moment(out, bar.ended)
+        }
+    }
+}
+
+// Puts how many packets ran, of a job on its ring.
+fn put_packets(out: &mut Vec<u8>, lane: Lane, packets: usize) -> Result<(), AllocError>
+    ensures { OnOk result (out.new.items ≡ out.old.items ++ packets_text lane packets) }
+{
+    match lane {
+        Lane::Ring(_) => {
+            put_text(out, PACKETS)?;
+            put_number(out, packets as u64)
+        }
+        _ => Ok(()),
+    }
+}
+
+// What a bar tells.
+#[tactic(auto, unfolding(crate::specs::Titles::title_of))]
+pub(crate) fn title(alloc: Global, bar: &Bar) -> Result<Vec<u8>, AllocError>
+    ensures { IfOk result (λ text. text.items ≡ title_of bar.now) }
+{
+    let mut text = Vec::new(alloc);
+    put_subject(&mut text, bar.opening.lane, bar.opening.number)?;
+    put_text(&mut text, begins(bar.opening.lane))?;
+    put_number(&mut text, bar.from as u64)?;
+    put_moment(&mut text, bar.began)?;
+    put_end(&mut text, bar)?;
+    put_packets(&mut text, bar.opening.lane, bar.packets)?;
+    put_text(&mut text, " -> ")?;
+    put_text(&mut text, look_word(bar.look))?;
+    Ok(text)
+}
+
+// What the bar of an entity tells that was stopped.
+#[tactic(auto, unfolding(crate::specs::Titles::halt_title_of))]
+pub(crate) fn halt_title(alloc: Global, bar: &Bar) -> Result<Vec<u8>, AllocError>
+    ensures { IfOk result (λ text. text.items ≡ halt_title_of bar.now) }
+{
+    let mut text = Vec::new(alloc);
+    put_name(&mut text, bar.opening.lane)?;
+    put_text(&mut text, ", stopped by command ")?;
+    put_number(&mut text, bar.from as u64)?;
+    put_moment(&mut text, bar.began)?;
+    put_text(&mut text, " -> ")?;
+    put_text(&mut text, look_word(bar.look))?;
+    Ok(text)
+}
