@@ -1,0 +1,4 @@
+pub mod Ends
+pub mod Fillings
+pub mod Otherwise
+pub mod Pieces

@@ -1,0 +1,6 @@
+use Rattle.drm_words.proofs.Otherwise.{stopped_otherwise}
+use Rattle.drm_words.proofs.refused.put_stopped.Goals as goal
+
+pub returns-in_default : goal.returns-in_default
+returns-in_default c =
+    rw (stopped_otherwise c.args.subject c.args.subject.command c.in_default.not-Arm, ← c.from-in_default.ensures) c.put_filled-in_default.ensures

@@ -1,0 +1,7 @@
+use Rattle.drm_engine.proofs.Pieces.{any_err}
+use Rattle.drm_words.proofs.Pieces.{nothing_told}
+use Rattle.drm_words.proofs.replaying.tell.Goals as goal
+
+pub returns-in_err-put_worded_line-clause-err : goal.returns-in_err-put_worded_line-clause-err
+returns-in_err-put_worded_line-clause-err g c =
+    any_err c.from_residual.result _ (nothing_told (g.W.Write.contents c.args.writer.now) c.args.piece.now.items c.args.subject c.args.answer.now)

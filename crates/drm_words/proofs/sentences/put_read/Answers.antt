@@ -1,0 +1,6 @@
+use Rattle.drm_words.proofs.Otherwise.{bytes_otherwise}
+use Rattle.drm_words.proofs.sentences.put_read.Goals as goal
+
+pub returns-in_default : goal.returns-in_default
+returns-in_default c =
+    rw (bytes_otherwise c.args.subject c.args.subject.command c.in_default.not-Read, ← c.from-buffer.ensures) c.put_filled-in_default.ensures

@@ -1,0 +1,16 @@
+//! Words beside answers: the engine `replay`, with a sentence behind each answer that says what it means there.
+//!
+//! A sentence is told by a command and the answer to it together: `put_sentence` writes what `sentence_of` says, with
+//! the numbers of both. `replay_with_words` answers a script as `drm_engine::replay` does, of the same core, with the
+//! same endings, and writes nothing before the whole text was judged; only its lines are longer.
+#![tactic(auto)]
+
+mod filling;
+mod refused;
+mod replaying;
+mod sentences;
+mod subject;
+
+pub use replaying::replay_with_words;
+pub use sentences::{put_sentence, put_worded_line};
+pub use subject::Subject;
