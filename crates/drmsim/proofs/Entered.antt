@@ -1,6 +1,6 @@
 -- Words that clap refuses nowhere name a command.
 use Rattle.std.proofs.Common.{◌≡◌, ◌≢◌, ◌⊎◌, inl, inr, ℕ, Bool, true, false, cond, List, [], ◌∷◌, Option, Some, None, refl, ap, ◌∙◌, sym, codes, option_map}
-use Rattle.std.specs.Prelude.{⊤, option_and_then, ◌&&◌, ◌||◌, not, is_some, if◌then◌else◌, fold, IfSome}
+use Rattle.std.specs.Prelude.{⊤, option_and_then, ◌&&◌, ◌||◌, not, is_some, if◌then◌else◌, fold, IfSome, unwrap_or}
 use Rattle.std.specs.Str.{bytes_eq}
 use Rattle.std.proofs.lemmas.Slice.Eq.{bytes_eq-Decides}
 use Rattle.clap.specs.declared.error.kind.ErrorKind.{ErrorKind}
@@ -22,9 +22,11 @@ use Rattle.drm_engine.specs.declared.engine.Engine.{Engine}
 use Rattle.drm_engine.specs.declared.engine.Engine.TheVariants as engine
 use Rattle.std.proofs.lemmas.Option.{same_Some}
 use Rattle.clap.specs.Walk.{first_of, one_of, rows_of}
-use Rattle.clap.specs.Matches.{first_value, found_of, one_text}
+use Rattle.clap.specs.Matches.{ReadsOne, first_value, found_of, one_text}
 use Rattle.clap.proofs.WalkLemmas.{first_value-rows, one_text-rows}
-use Rattle.drmsim.specs.CommandLine.{number_entered, option_entered, program_app, word_entered, word_given}
+use Rattle.std.specs.Option.{option_map_or}
+use Rattle.std.specs.Str.Parse.{ParsesBool}
+use Rattle.drmsim.specs.CommandLine.{is_replay_with_words, number_entered, option_entered, program_app, wants_words, word_entered, word_given}
 
 -- where the walk over the words has not stopped at `help`
 abbrev StopsElsewhere : Option (Text × List Text) → Type 0
@@ -240,3 +242,43 @@ option_found name a words m own is matches rows = rows_found (one_of name) a wor
 -- a parse that succeeds has no fault
 pub none_refused : (a : App) (words : List Text) → a ≡ program_app → (is_simple_and_free a ≡ true → fault_of a words ≡ []) → fault_of program_app words ≡ []
 none_refused a words is passed = sym (ap (λ (b : App). fault_of b words) is) ∙ passed (ap is_simple_and_free is ∙ refl)
+
+-- ---- the flag for words
+
+-- what a parse found says whether the words ask for words
+pub wants_found : (a : App) (words : List Text) (m : ArgMatches) → a ≡ program_app → HasMatchesOf a words m → is_replay_with_words (subcommand_rows (out-ArgMatches m).subcommand) ≡ wants_words words
+wants_found a words m is matches = ap is_replay_with_words ((matches (ap is_simple is ∙ refl)).1 ∙ ap (λ (b : App). subcommand_of b words) is)
+
+-- so does what is read of it
+pub wants_are : (a : App) (words : List Text) (m : ArgMatches) (wants b : Bool) → a ≡ program_app → HasMatchesOf a words m → wants ≡ is_replay_with_words (subcommand_rows (out-ArgMatches m).subcommand)
+    → wants ≡ b → wants_words words ≡ b
+wants_are a words m wants b is matches reads read = sym (wants_found a words m is matches) ∙ sym reads ∙ read
+
+-- whether a flag is on whose text is this
+abbrev pub is_on : Option Text → Bool
+is_on text = option_map_or (λ t. bytes_eq t (codes "true")) text false
+
+-- the truth that is read of a flag's text
+pub flag_read : (E : Type 0) (text : Option Text) (read : Option Bool) → (text ≡ None → read ≡ None) → ((t : Text) → text ≡ Some t → ReadsOne (ParsesBool {E = E}) t read)
+    → unwrap_or read false ≡ is_on text
+flag_read E None read none gives = ap (λ (r : Option Bool). unwrap_or r false) (none refl)
+flag_read E (Some t) (Some true) none gives = sym ((bytes_eq-Decides t (codes "true")).1 (gives t refl))
+flag_read E (Some t) (Some false) none gives = sym (ap (λ (u : Text). bytes_eq u (codes "true")) (gives t refl))
+flag_read E (Some t) None none gives = sym (not_equal t (codes "true") (λ same. (gives t refl).1.0 same))
+
+module _ {Z : Type 0} where
+  -- the command that answers scripts was entered
+  pub replay_entered : (o : Option (Box SubCommand Z)) (rows : List Row) → option_map (λ b. (out-SubCommand (box_value b)).name.now) o ≡ Some (codes "replay")
+      → option_map (λ p. p.1) (subcommand_rows o) ≡ Some rows → is_replay_with_words (subcommand_rows o) ≡ is_on (one_of (codes "words") rows)
+  replay_entered None rows name is = absurd (cc)
+  replay_entered (Some b) rows name is =
+      let named : bytes_eq (out-SubCommand (box_value b)).name.now (codes "replay") ≡ true = (bytes_eq-Decides (out-SubCommand (box_value b)).name.now (codes "replay")).1 (same_Some _ _ name) in
+      ap (λ (is_replay : Bool). is_replay && is_on (one_of (codes "words") (rows_of (found_of (out-SubCommand (box_value b)).matches)))) named
+      ∙ ap (λ (rs : List Row). is_on (one_of (codes "words") rs)) (same_Some _ _ is)
+
+  -- another was, or none
+  pub other_entered : (o : Option (Box SubCommand Z)) → (option_map (λ b. (out-SubCommand (box_value b)).name.now) o ≡ Some (codes "replay") → ⊥) → is_replay_with_words (subcommand_rows o) ≡ false
+  other_entered None never = refl
+  other_entered (Some b) never =
+      ap (λ (is_replay : Bool). is_replay && is_on (one_of (codes "words") (rows_of (found_of (out-SubCommand (box_value b)).matches))))
+      (not_equal (out-SubCommand (box_value b)).name.now (codes "replay") (λ same. never (ap Some same)))

@@ -1,12 +1,12 @@
 -- A command line of two words, the program's name and the word of an engine.
-use Rattle.std.proofs.Common.{◌≡◌, true, [], ◌∷◌, Option, Some, None, is_some, sym, codes, refl, ap, slice_index, ◌==◌}
+use Rattle.std.proofs.Common.{◌≡◌, true, false, [], ◌∷◌, Option, Some, None, is_some, sym, codes, refl, ap, slice_index, ◌==◌}
 use Rattle.std.proofs.lemmas.Bool.{true≢false}
 use Rattle.clap.specs.Words.{Text, takes, is_simple, is_simple_and_free}
 use Rattle.clap.proofs.OnLiterals.{clap_on_literals}
 use Rattle.drm_engine.specs.Engines.{NamesNone, word_of}
 use Rattle.drm_engine.specs.declared.engine.Engine.{Engine}
 use Rattle.drm_engine.specs.declared.engine.Engine.TheVariants as engine
-use Rattle.drmsim.specs.CommandLine.{program_app, word_entered}
+use Rattle.drmsim.specs.CommandLine.{program_app, wants_words, word_entered}
 
 pub is_simple_program : is_simple program_app ≡ true
 is_simple_program = refl
@@ -25,6 +25,22 @@ unfolding clap_on_literals
 is_entered name engine.Replay = refl
 is_entered name engine.Serial = refl
 is_entered name engine.Check = refl
+
+-- it asks for no words beside the answers
+pub is_bare : (name : Text) (engine : Engine) → wants_words (name ∷ word_of engine ∷ []) ≡ false
+unfolding clap_on_literals
+is_bare name engine.Replay = refl
+is_bare name engine.Serial = refl
+is_bare name engine.Check = refl
+
+-- with the flag it does
+pub is_flag_taken : (name : Text) → takes program_app (name ∷ codes "replay" ∷ codes "--words" ∷ []) ≡ true
+unfolding clap_on_literals
+is_flag_taken name = refl
+
+pub is_worded : (name : Text) → wants_words (name ∷ codes "replay" ∷ codes "--words" ∷ []) ≡ true
+unfolding clap_on_literals
+is_worded name = refl
 
 -- a word names one engine
 pub names_one : (a b : Engine) → word_of a ≡ word_of b → a ≡ b

@@ -1,14 +1,17 @@
 -- The words of the command line.
-use Rattle.std.specs.Prelude.{◌≡◌, ◌<◌, ◌≤◌, ℕ, List, [], ◌∷◌, Option, Some, Result, MatchResult, codes, option_and_then, option_map, true}
+use Rattle.std.specs.Prelude.{◌≡◌, ◌<◌, ◌≤◌, ℕ, Bool, List, [], ◌∷◌, Option, Some, Result, MatchResult, codes, option_and_then, option_map, true, false, ◌&&◌}
+use Rattle.std.specs.Option.{option_map_or}
+use Rattle.std.specs.Str.{bytes_eq}
 use Rattle.std.specs.Str.Parse.{digits_value, without_leading_plus}
-use Rattle.clap.specs.Words.{App, Rule, Text, first_of, new_app, new_rule, one_of, subcommand_of, with_rule, with_subcommand, kind_of}
+use Rattle.clap.specs.Words.{App, Row, Rule, Text, first_of, new_app, new_rule, one_of, subcommand_of, with_rule, with_subcommand, kind_of}
+use Rattle.clap.specs.declared.builder.action.ArgAction.TheVariants.{SetTrue}
 use Rattle.clap.specs.declared.builder.value_parser.ValueParser.TheVariants as vp
 use Rattle.clap.specs.declared.error.Error.{Error}
 use Rattle.clap.specs.declared.error.kind.ErrorKind.TheVariants.{OutOfMemory}
 use Rattle.drm_engine.specs.Engines.{word_of}
 use Rattle.drm_engine.specs.declared.engine.Engine.{Engine}
 use Rattle.drmsim.specs.declared.command_line.Request.{Request}
-use Rattle.drmsim.specs.declared.command_line.Request.TheVariants.{Run, Work, Explain, Draw}
+use Rattle.drmsim.specs.declared.command_line.Request.TheVariants.{Run, ReplayWithWords, Work, Explain, Draw}
 
 -- the program without its commands, as clap reads it
 abbrev pub top_app : App
@@ -16,6 +19,14 @@ top_app = record {
   top = record (new_app (codes "drmsim")).top { has_version = true; subcommand_required = true };
   subs = [];
 }
+
+-- a flag that may be there
+abbrev pub flag_rule : Text → Rule
+flag_rule name = record (new_rule name) { long = Some name; action = Some SetTrue }
+
+-- the command that answers a script, with words beside the answers or without
+abbrev pub replay_app : App
+replay_app = with_rule (new_app (codes "replay")) (flag_rule (codes "words"))
 
 -- the command that explains a number, which may follow it
 abbrev pub explain_app : App
@@ -51,7 +62,7 @@ draw_app = with_rule (with_rule (new_app (codes "draw")) (text_rule (codes "from
 
 -- the program with its commands
 abbrev pub program_app : App
-program_app = with_subcommand (with_subcommand (with_subcommand (with_subcommand (with_subcommand (with_subcommand top_app (new_app (codes "replay")).top) (new_app (codes "serial")).top) (new_app (codes "check")).top) run_app.top) explain_app.top) draw_app.top
+program_app = with_subcommand (with_subcommand (with_subcommand (with_subcommand (with_subcommand (with_subcommand top_app replay_app.top) (new_app (codes "serial")).top) (new_app (codes "check")).top) run_app.top) explain_app.top) draw_app.top
 
 -- the name of the command that clap finds in the words
 abbrev pub word_entered : List Text → Option Text
@@ -69,15 +80,26 @@ word_given name words = option_and_then (λ p. first_of name p.1) (subcommand_of
 abbrev pub option_entered : Text → List Text → Option Text
 option_entered name words = option_and_then (λ p. one_of name p.1) (subcommand_of program_app words)
 
+-- what clap finds is the command that answers a script, and its flag for words is on
+abbrev pub is_replay_with_words : Option (Text × List Row) → Bool
+is_replay_with_words found =
+    option_map_or (λ p. bytes_eq p.0 (codes "replay") && option_map_or (λ text. bytes_eq text (codes "true")) (one_of (codes "words") p.1) false) found false
+
+-- whether the words ask for answers with words beside them
+abbrev pub wants_words : List Text → Bool
+wants_words words = is_replay_with_words (subcommand_of program_app words)
+
 -- the option of this name is the number n, which is from 1 to the most
 abbrev pub IsNumber : Text → ℕ → List Text → ℕ → Type 0
 IsNumber name most words n =
     ((text : Text) × (option_entered name words ≡ Some text) × (digits_value 10 (without_leading_plus text) ≡ n)) × ((0 < n) × (n ≤ most))
 
--- clap finds in the words what is asked for: the command of the engine, that which runs a script by workers, with both its
--- numbers, that which explains, and the word behind it, or that which draws, and the words behind its options
+-- clap finds in the words what is asked for: the command of the engine, with no words beside what it writes, that which answers
+-- with words, that which runs a script by workers, with both its numbers, that which explains, and the word behind it, or that
+-- which draws, and the words behind its options
 abbrev pub IsAsked : List Text → Request → Type 0
-IsAsked words (Run engine) = word_entered words ≡ Some (word_of engine)
+IsAsked words (Run engine) = (word_entered words ≡ Some (word_of engine)) × (wants_words words ≡ false)
+IsAsked words ReplayWithWords = wants_words words ≡ true
 IsAsked words (Work submitters turns) =
     (word_entered words ≡ Some (codes "run")) × (IsNumber (codes "threads") most_submitters words submitters × IsNumber (codes "turns") most_turns words turns)
 IsAsked words (Explain word) = (word_entered words ≡ Some (codes "explain")) × (number_entered words ≡ option_map (λ w. w.now) word)
@@ -88,6 +110,10 @@ IsAsked words (Draw from to) =
 abbrev pub IsCommandLineOf : Engine → List Text → Type 0
 IsCommandLineOf engine words = (name : Text) × (words ≡ name ∷ word_of engine ∷ [])
 
--- it is to run the engine, unless memory was refused
-abbrev pub GivesAlone : Engine → Result Request Error → Type 0
-GivesAlone engine result = MatchResult result (λ found. found ≡ Run engine) (λ error. kind_of error ≡ OutOfMemory)
+-- the words are the program's name, the word of `replay` and the flag
+abbrev pub IsCommandLineForWords : List Text → Type 0
+IsCommandLineForWords words = (name : Text) × (words ≡ name ∷ codes "replay" ∷ codes "--words" ∷ [])
+
+-- this is asked for, unless memory was refused
+abbrev pub GivesAlone : Request → Result Request Error → Type 0
+GivesAlone request result = MatchResult result (λ found. found ≡ request) (λ error. kind_of error ≡ OutOfMemory)

@@ -1,5 +1,5 @@
 -- The exit status of the program.
-use Rattle.std.specs.Prelude.{◌≡◌, ◌⊎◌, ℕ, Bool, List, Option, Some, None, codes, if◌then◌else◌}
+use Rattle.std.specs.Prelude.{◌≡◌, ◌⊎◌, ℕ, Bool, true, List, Option, Some, None, codes, if◌then◌else◌}
 use Rattle.clap.specs.Words.{IsAmong, Kinds, Text}
 use Rattle.clap.specs.declared.error.kind.ErrorKind.{ErrorKind}
 use Rattle.clap.specs.declared.error.kind.ErrorKind.TheVariants as kind
@@ -11,19 +11,24 @@ use Rattle.std.specs.Option.{option_map_or}
 use Rattle.drm_engine.specs.declared.ending.Ending.{Ending}
 use Rattle.drm_engine.specs.declared.engine.Engine.{Engine}
 use Rattle.drm_engine.specs.Endings.{status_of}
-use Rattle.drm_engine.specs.Engines.{Runs, word_of}
+use Rattle.drm_engine.specs.Engines.{Runs}
 use Rattle.drm_explain.specs.Telling.{Tells}
 use Rattle.drm_explain.specs.declared.telling.Telling.{Telling}
 use Rattle.drm_explain.specs.declared.telling.Telling.TheVariants as telling
+use Rattle.drm_words.specs.Replaying.{ReplaysWithWords}
 use Rattle.drm_run.specs.Endings as run_ending
 use Rattle.drm_run.specs.Runs as run
 use Rattle.drm_run.specs.declared.ending.RunEnding.{RunEnding}
-use Rattle.drmsim.specs.CommandLine.{IsAsked, number_entered, word_entered, word_given}
-use Rattle.drmsim.specs.declared.command_line.Request.TheVariants.{Work}
+use Rattle.drmsim.specs.CommandLine.{IsAsked, number_entered, wants_words, word_entered, word_given}
+use Rattle.drmsim.specs.declared.command_line.Request.TheVariants.{Run, Work}
 
 -- the engine ran to an ending, of which this is the exit status
 abbrev pub EndsAs : Engine → Option (List ℕ) → Option (List ℕ) → Option (List ℕ) → ℕ → Type 0
 EndsAs engine input old new status = (ending : Ending) × Runs engine input old new ending × (status ≡ status_of ending)
+
+-- a script was answered with words beside the answers, to an ending of which this is the exit status
+abbrev pub EndsInWords : Option (List ℕ) → Option (List ℕ) → Option (List ℕ) → ℕ → Type 0
+EndsInWords input old new status = (ending : Ending) × ReplaysWithWords input old new ending × (status ≡ status_of ending)
 
 -- a script was run by so many submitters and by the workers of its rings, which ended as this exit status tells
 abbrev pub WorksAs : ℕ → Option (List ℕ) → Option (List ℕ) → Option (List ℕ) → ℕ → Type 0
@@ -40,9 +45,13 @@ status_of_telling telling.NoOutput = 4
 abbrev pub ToldAs : Option Text → Option (List ℕ) → Option (List ℕ) → ℕ → Type 0
 ToldAs word old new status = (how : Telling) × Tells word old new how × (status ≡ status_of_telling how)
 
--- the words name the command of an engine, which ended as this exit status tells
+-- the words ask for an engine alone, which ended as this exit status tells
 abbrev pub IsRun : List Text → Option (List ℕ) → Option (List ℕ) → Option (List ℕ) → ℕ → Type 0
-IsRun words input old new status = (engine : Engine) × (word_entered words ≡ Some (word_of engine)) × EndsAs engine input old new status
+IsRun words input old new status = (engine : Engine) × IsAsked words (Run engine) × EndsAs engine input old new status
+
+-- the words ask for answers with words beside them, and `replay` ended so
+abbrev pub IsWorded : List Text → Option (List ℕ) → Option (List ℕ) → Option (List ℕ) → ℕ → Type 0
+IsWorded words input old new status = (wants_words words ≡ true) × EndsInWords input old new status
 
 -- the words ask for a run by so many submitters, each worker of which may try so often in vain, and it ended so
 abbrev pub IsWorked : List Text → Option (List ℕ) → Option (List ℕ) → Option (List ℕ) → ℕ → Type 0
@@ -76,7 +85,9 @@ IsDrawing words input old new status =
 -- the words name a command, which ended as this exit status tells
 abbrev pub IsObeyed : List Text → Option (List ℕ) → Option (List ℕ) → Option (List ℕ) → ℕ → Type 0
 IsObeyed words input old new status =
-    IsRun words input old new status ⊎ (IsWorked words input old new status ⊎ (IsExplained words old new status ⊎ IsDrawing words input old new status))
+    IsRun words input old new status
+    ⊎ (IsWorked words input old new status
+    ⊎ (IsExplained words old new status ⊎ (IsDrawing words input old new status ⊎ IsWorded words input old new status)))
 
 -- the exit status after an error of the words, which was printed or could not be: help and the version are asked for
 abbrev pub status_of_error : ErrorKind → Bool → ℕ

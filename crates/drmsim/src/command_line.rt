@@ -2,13 +2,14 @@
 
 ghost use Rattle.std.specs.Prelude.{◌≡◌, IfOk, false, map};
 ghost use Rattle.std.specs.String.{string_bytes};
-ghost use Rattle.clap.specs.Words.{FailsBy, app_of, fault_of, new_app, rule_of};
+ghost use Rattle.clap.specs.Words.{FailsBy, app_of, fault_of, new_app, rule_of, subcommand_rows_of};
 ghost use Rattle.clap.specs.declared.builder.command.Command.TheViews.{out-Command};
 ghost use Rattle.drm_engine.specs.declared.engine.Engine.{Engine as EngineOf};
-ghost use Rattle.drmsim.specs.CommandLine.{GivesAlone, IsAsked, IsCommandLineOf, draw_app, explain_app, number_rule, program_app, run_app, text_rule, top_app};
+ghost use Rattle.drmsim.specs.CommandLine.{GivesAlone, IsAsked, IsCommandLineForWords, IsCommandLineOf, draw_app, explain_app, flag_rule, is_replay_with_words, number_rule, program_app, replay_app, run_app, text_rule, top_app};
+ghost use Rattle.drmsim.specs.declared.command_line.Request.TheVariants.{ReplayWithWords, Run};
 
 use clap::builder::ValueParser;
-use clap::{Arg, Command, Error};
+use clap::{Arg, ArgAction, ArgMatches, Command, Error};
 use drm_engine::Engine;
 use std::alloc::{AllocError, Global};
 
@@ -23,11 +24,12 @@ const MOST_TURNS: u64 = 1_000_000_000;
 
 const REPLAY_HELP: &str = "\
 Reads a script from standard input: a header that describes the device, and one command on each further line. \
-Writes one answer line for each command.
+Writes one answer line for each command. With '--words' each line also says what the answer means there.
 
 Example:
   printf 'buffer 00000000\\nring 4 10 0\\nentity 0 normal\\njobs 8\\ngo\\ndump 0\\n' | drmsim replay
-writes 'bytes 00000000'.";
+writes 'bytes 00000000', and with '--words'
+'bytes 00000000  # what buffer 0 holds now, read with no lock'.";
 
 const SERIAL_HELP: &str = "\
 Reads a journal from standard input: a header that describes the device, the jobs that it armed, the last bytes of \
@@ -99,6 +101,36 @@ fn command<'a>(alloc: Global, name: &'a str, about: &'a str, help: &'a str) -> C
     ensures local { (out-Command result).has_globals ≡ false }
 {
     Command::new(alloc, name).about(about).long_about(help)
+}
+
+/// A flag that may be there.
+fn flag<'a>(alloc: Global, name: &'a str, help: &'a str) -> Arg<'a>
+    ensures rule { rule_of result ≡ flag_rule name.entry.now }
+    ensures local { result.global ≡ false }
+{
+    Arg::new(alloc, name)
+        .long(name)
+        .action(ArgAction::SetTrue)
+        .help(help)
+}
+
+/// The command that answers a script.
+fn replay_command<'a>(alloc: Global) -> Result<Command<'a>, AllocError>
+    ensures app { IfOk result (λ command. app_of command ≡ replay_app) }
+    ensures local { IfOk result (λ command. (out-Command command).has_globals ≡ false) }
+{
+    let words = flag(
+        alloc,
+        "words",
+        "Says behind each answer what it means there",
+    );
+    command(
+        alloc,
+        "replay",
+        "Answers the commands of a script",
+        REPLAY_HELP,
+    )
+    .arg(words)
 }
 
 /// The command that explains a number.
@@ -211,12 +243,7 @@ fn bare_program<'a>(alloc: Global) -> Command<'a>
 fn program<'a>(alloc: Global) -> Result<Command<'a>, AllocError>
     ensures { IfOk result (λ command. app_of command ≡ program_app) }
 {
-    let replay = command(
-        alloc,
-        "replay",
-        "Answers the commands of a script",
-        REPLAY_HELP,
-    );
+    let replay = replay_command(alloc)?;
     let serial = command(
         alloc,
         "serial",
@@ -246,6 +273,8 @@ fn program<'a>(alloc: Global) -> Result<Command<'a>, AllocError>
 pub enum Request<'a> {
     /// To run an engine.
     Run(Engine),
+    /// To answer a script, with words beside the answers.
+    ReplayWithWords,
     /// To run a script by workers in threads.
     Work {
         /// How many submitters arm its jobs.
@@ -264,14 +293,28 @@ pub enum Request<'a> {
     },
 }
 
+/// Whether the command that was found answers a script, and its flag for words is on.
+fn wants_words(matches: &ArgMatches) -> bool
+    ensures { result ≡ is_replay_with_words (subcommand_rows_of matches.now) }
+{
+    match matches.subcommand_matches("replay") {
+        Some(replay) => replay.get_one("words").unwrap_or(false),
+        None => false,
+    }
+}
+
 /// What the words ask for, the program's name first. An error is what `clap` says of words that ask for nothing
 /// known, of a request for help or the version, and of refused memory.
 pub fn read_words<'a>(alloc: Global, words: &'a [String]) -> Result<Request<'a>, Error>
     ensures named { IfOk result (λ request. IsAsked (map string_bytes words.now) request) }
-    ensures command { (engine : EngineOf) → IsCommandLineOf engine (map string_bytes words.now) → GivesAlone engine result }
+    ensures command { (engine : EngineOf) → IsCommandLineOf engine (map string_bytes words.now) → GivesAlone (Run engine) result }
+    ensures worded { IsCommandLineForWords (map string_bytes words.now) → GivesAlone ReplayWithWords result }
     ensures kinds { FailsBy (fault_of program_app (map string_bytes words.now)) result }
 {
     let matches = program(alloc)?.try_get_matches_from(words)?;
+    if wants_words(&matches) {
+        return Ok(Request::ReplayWithWords);
+    }
     if let Some(explain) = matches.subcommand_matches("explain") {
         return Ok(Request::Explain(explain.get_str("number")));
     }

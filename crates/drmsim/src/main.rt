@@ -16,8 +16,8 @@ ghost use Rattle.drm_draw.specs.Drawing.{status_of_drawing};
 ghost use Rattle.drm_engine.specs.Endings.{status_of};
 ghost use Rattle.drm_run.specs.Endings.{status_of as status_of_run};
 ghost use Rattle.drm_engine.specs.declared.engine.Engine.{Engine as EngineOf};
-ghost use Rattle.drmsim.specs.CommandLine.{IsCommandLineOf, program_app};
-ghost use Rattle.drmsim.specs.Statuses.{DrawnAs, EndsAs, IsObeyed, IsRefusal, ToldAs, WorksAs, number_of_word, status_of_error, status_of_telling};
+ghost use Rattle.drmsim.specs.CommandLine.{IsCommandLineForWords, IsCommandLineOf, program_app};
+ghost use Rattle.drmsim.specs.Statuses.{DrawnAs, EndsAs, EndsInWords, IsObeyed, IsRefusal, ToldAs, WorksAs, number_of_word, status_of_error, status_of_telling};
 
 mod command_line;
 mod progress;
@@ -31,6 +31,7 @@ use drm_engine::Ending;
 use drm_explain::{Telling, tell_word};
 use drm_run::{RunEnding, run};
 use drm_text::read_number;
+use drm_words::replay_with_words;
 use progress::ProgressLine;
 use std::env;
 use std::io::{self, ErrorKind, Read, Write};
@@ -203,6 +204,8 @@ fn obey<H: Threads + Wait + Sync, R: Read, W: Write>(
 ) -> ExitCode
     ensures commands { (engine : EngineOf) → IsCommandLineOf engine (map string_bytes words.now)
         → EndsAs engine (R.remaining reader.old) (W.contents writer.old) (W.contents writer.new) (exit_status result) }
+    ensures worded { IsCommandLineForWords (map string_bytes words.now)
+        → EndsInWords (R.remaining reader.old) (W.contents writer.old) (W.contents writer.new) (exit_status result) }
     ensures accepted { fault_of program_app (map string_bytes words.now) ≡ []
         → IsObeyed (map string_bytes words.now) (R.remaining reader.old) (W.contents writer.old) (W.contents writer.new) (exit_status result) }
     ensures untouched { fault_of program_app (map string_bytes words.now) ≢ []
@@ -212,6 +215,9 @@ fn obey<H: Threads + Wait + Sync, R: Read, W: Write>(
 {
     match read_words(rt.alloc(), words) {
         Ok(Request::Run(engine)) => tell_ended(rt, engine.run(rt.alloc(), reader, writer)),
+        Ok(Request::ReplayWithWords) => {
+            tell_ended(rt, replay_with_words(rt.alloc(), reader, writer))
+        }
         Ok(Request::Work { submitters, turns }) => {
             work(rt, threads, submitters, turns, reader, writer)
         }

@@ -24,6 +24,8 @@ fn command_lines(rt: HostRuntime) -> Result<(), Fail> {
         let given = words(&rt, &["drmsim", name])?;
         assert_eq!(rt; read_words(rt.alloc(), &given)?, Request::Run(engine));
     }
+    let worded = words(&rt, &["drmsim", "replay", "--words"])?;
+    assert_eq!(rt; read_words(rt.alloc(), &worded)?, Request::ReplayWithWords);
     let runs = words(
         &rt,
         &["drmsim", "run", "--turns=1000000000", "--threads", "16"],
@@ -42,11 +44,26 @@ fn command_lines(rt: HostRuntime) -> Result<(), Fail> {
 
 #[test]
 fn refused_command_lines(rt: HostRuntime) -> Result<(), Fail> {
-    let refused: [(&[&str], WordsError, i32); 15] = [
+    let refused: [(&[&str], WordsError, i32); 18] = [
         (&["drmsim"], WordsError::MissingSubcommand, 2),
         (&["drmsim", "runs"], WordsError::InvalidSubcommand, 2),
         (&["drmsim", "Check"], WordsError::InvalidSubcommand, 2),
         (&["drmsim", "replay", "now"], WordsError::UnknownArgument, 2),
+        (
+            &["drmsim", "replay", "--words", "--words"],
+            WordsError::ArgumentConflict,
+            2,
+        ),
+        (
+            &["drmsim", "replay", "--words=1"],
+            WordsError::TooManyValues,
+            2,
+        ),
+        (
+            &["drmsim", "check", "--words"],
+            WordsError::UnknownArgument,
+            2,
+        ),
         (&["drmsim", "check", "-v"], WordsError::UnknownArgument, 2),
         (
             &["drmsim", "serial", "check"],

@@ -1,14 +1,14 @@
-use Rattle.std.proofs.Common.{◌≡◌, ◌∙◌, ap, inl, inr, map, subst}
+use Rattle.std.proofs.Common.{◌≡◌, ◌∙◌, ap, inl, inr, map, refl, subst}
 use Rattle.std.specs.String.{string_bytes}
 use Rattle.drm_engine.specs.declared.engine.Engine.{Engine}
 use Rattle.drm_engine.specs.declared.ending.Ending.TheVariants.{NoMemory}
 use Rattle.drm_explain.specs.declared.telling.Telling.TheVariants as telling
-use Rattle.drmsim.specs.CommandLine.{IsAsked}
+use Rattle.drmsim.specs.CommandLine.{IsAsked, wants_words}
 use Rattle.drmsim.specs.Statuses.{EndsAs, status_of_error}
 use Rattle.drmsim.proofs.Entered.{command_entered}
 use Rattle.drm_run.specs.declared.ending.RunEnding.TheVariants.{Ended}
 use Rattle.drmsim.proofs.Numbers.{run_is_asked}
-use Rattle.drmsim.proofs.Statuses.{drawn_without_memory, memory_alone, runs_without_memory, untouched}
+use Rattle.drmsim.proofs.Statuses.{drawn_without_memory, engine_without_memory, memory_alone, runs_without_memory, untouched}
 use Rattle.drmsim.proofs.obey.Goals as goal
 
 pub returns-in-Ok-Run-clause-commands : goal.returns-in-Ok-Run-clause-commands
@@ -17,8 +17,31 @@ returns-in-Ok-Run-clause-commands g c = λ engine line.
     subst (λ (e : Engine). EndsAs e (g.R.Read.remaining c.args.reader.now) (g.W.Write.contents c.args.writer.now) (g.W.Write.contents c.run.new.writer) c.tell_ended.result.status)
     found (c.run.result, c.run.ensures, c.tell_ended.ensures)
 
+pub returns-in-Ok-Run-clause-worded : goal.returns-in-Ok-Run-clause-worded
+returns-in-Ok-Run-clause-worded g c = λ line. absurd (cc (c.in-Ok-Run.ensures.worded line))
+
+pub returns-in-Ok-Run-clause-accepted : goal.returns-in-Ok-Run-clause-accepted
+returns-in-Ok-Run-clause-accepted g c = λ passed.
+    inl (c.in-Ok-Run.engine, subst (IsAsked (map string_bytes c.args.words.now)) c.in-Ok-Run.field-0-is c.in-Ok-Run.ensures.named, (c.run.result, c.run.ensures, c.tell_ended.ensures))
+
+pub returns-in-Ok-ReplayWithWords-clause-commands : goal.returns-in-Ok-ReplayWithWords-clause-commands
+returns-in-Ok-ReplayWithWords-clause-commands g c = λ engine line. absurd (cc (c.in-Ok-ReplayWithWords.ensures.command engine line))
+
+pub returns-in-Ok-ReplayWithWords-clause-worded : goal.returns-in-Ok-ReplayWithWords-clause-worded
+returns-in-Ok-ReplayWithWords-clause-worded g c = λ line. (c.replay_with_words.result, c.replay_with_words.ensures, c.tell_ended-in-Ok-ReplayWithWords.ensures)
+
+pub returns-in-Ok-ReplayWithWords-clause-accepted : goal.returns-in-Ok-ReplayWithWords-clause-accepted
+returns-in-Ok-ReplayWithWords-clause-accepted g c = λ passed.
+    inr (inr (inr (inr (
+      subst (IsAsked (map string_bytes c.args.words.now)) c.in-Ok-ReplayWithWords.field-0-is c.in-Ok-ReplayWithWords.ensures.named,
+      (c.replay_with_words.result, c.replay_with_words.ensures, c.tell_ended-in-Ok-ReplayWithWords.ensures),
+    ))))
+
 pub returns-in-Ok-Work-clause-commands : goal.returns-in-Ok-Work-clause-commands
 returns-in-Ok-Work-clause-commands g c = λ engine line. absurd (cc (c.in-Ok-Work.ensures.command engine line))
+
+pub returns-in-Ok-Work-clause-worded : goal.returns-in-Ok-Work-clause-worded
+returns-in-Ok-Work-clause-worded g c = λ line. absurd (cc (c.in-Ok-Work.ensures.worded line))
 
 pub returns-in-Ok-Work-clause-accepted : goal.returns-in-Ok-Work-clause-accepted
 returns-in-Ok-Work-clause-accepted g c = λ passed.
@@ -27,24 +50,39 @@ returns-in-Ok-Work-clause-accepted g c = λ passed.
 pub returns-in-Ok-Explain-clause-commands : goal.returns-in-Ok-Explain-clause-commands
 returns-in-Ok-Explain-clause-commands g c = λ engine line. absurd (cc (c.in-Ok-Explain.ensures.command engine line))
 
+pub returns-in-Ok-Explain-clause-worded : goal.returns-in-Ok-Explain-clause-worded
+returns-in-Ok-Explain-clause-worded g c = λ line. absurd (cc (c.in-Ok-Explain.ensures.worded line))
+
+pub returns-in-Ok-Explain-clause-accepted : goal.returns-in-Ok-Explain-clause-accepted
+returns-in-Ok-Explain-clause-accepted g c = λ passed.
+    let asked = subst (IsAsked (map string_bytes c.args.words.now)) c.in-Ok-Explain.field-0-is c.in-Ok-Explain.ensures.named in
+    inr (inr (inl (asked.0, rw asked.1 c.explain_number.ensures)))
+
 pub returns-in-Ok-Draw-clause-commands : goal.returns-in-Ok-Draw-clause-commands
 returns-in-Ok-Draw-clause-commands g c = λ engine line. absurd (cc (c.in-Ok-Draw.ensures.command engine line))
+
+pub returns-in-Ok-Draw-clause-worded : goal.returns-in-Ok-Draw-clause-worded
+returns-in-Ok-Draw-clause-worded g c = λ line. absurd (cc (c.in-Ok-Draw.ensures.worded line))
 
 pub returns-in-Ok-Draw-clause-accepted : goal.returns-in-Ok-Draw-clause-accepted
 returns-in-Ok-Draw-clause-accepted g c = λ passed.
     let asked = subst (IsAsked (map string_bytes c.args.words.now)) c.in-Ok-Draw.field-0-is c.in-Ok-Draw.ensures.named in
-    inr (inr (inr (asked.0, rw (asked.1.0, asked.1.1) c.draw_part.ensures)))
+    inr (inr (inr (inl (asked.0, rw (asked.1.0, asked.1.1) c.draw_part.ensures))))
 
 pub returns-in-Err-clause-commands : goal.returns-in-Err-clause-commands
 returns-in-Err-clause-commands g c = λ engine line.
     (NoMemory, runs_without_memory engine _ _, c.explain.ensures.1 ∙ ap (λ kind. status_of_error kind c.explain.ensures.0) (c.in-Err.ensures.command engine line))
 
+pub returns-in-Err-clause-worded : goal.returns-in-Err-clause-worded
+returns-in-Err-clause-worded g c = λ line.
+    (NoMemory, untouched _, c.explain.ensures.1 ∙ ap (λ kind. status_of_error kind c.explain.ensures.0) (c.in-Err.ensures.worded line))
+
 pub returns-in-Err-clause-accepted : goal.returns-in-Err-clause-accepted
 returns-in-Err-clause-accepted g c = λ passed.
     let ended = c.explain.ensures.1 ∙ ap (λ kind. status_of_error kind c.explain.ensures.0) (memory_alone _ _ passed c.in-Err.ensures.kinds) in
     elim (command_entered (map string_bytes c.args.words.now) passed) [
-      | inl named ↦ inl (named.0, named.1, (NoMemory, runs_without_memory named.0 _ _, ended))
+      | inl named ↦ engine_without_memory (map string_bytes c.args.words.now) _ _ _ (wants_words (map string_bytes c.args.words.now)) named refl ended
       | inr (inl named) ↦ let asked = run_is_asked (map string_bytes c.args.words.now) passed named in inr (inl (asked.0, asked.1, asked.2, (Ended NoMemory, untouched _, ended)))
       | inr (inr (inl named)) ↦ inr (inr (inl (named, (telling.NoMemory, untouched _, ended))))
-      | inr (inr (inr named)) ↦ inr (inr (inr (named, drawn_without_memory _ _ _ _ _ ended)))
+      | inr (inr (inr named)) ↦ inr (inr (inr (inl (named, drawn_without_memory _ _ _ _ _ ended))))
     ]

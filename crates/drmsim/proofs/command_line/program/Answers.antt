@@ -3,7 +3,7 @@ use Rattle.drmsim.proofs.command_line.program.Goals as goal
 
 pub returns : goal.returns
 returns c =
-    let replay = added _ _ _ _ _ c.bare_program.ensures.app c.command-replay.ensures.app c.command-replay.ensures.local c.in_ok-subcommand.ensures in
+    let replay = added _ _ _ _ _ c.bare_program.ensures.app c.in_ok-replay.ensures.app c.in_ok-replay.ensures.local c.in_ok-subcommand.ensures in
     let serial = added _ _ _ _ _ replay c.command-serial.ensures.app c.command-serial.ensures.local c.in_ok-subcommand-2.ensures in
     let check = added _ _ _ _ _ serial c.command-check.ensures.app c.command-check.ensures.local c.in_ok-subcommand-3.ensures in
     let run = added _ _ _ _ _ check c.in_ok-run.ensures.app c.in_ok-run.ensures.local c.in_ok-subcommand-4.ensures in

@@ -1,14 +1,14 @@
 use Rattle.std.specs.String.{string_bytes}
-use Rattle.std.proofs.Common.{rules, map, ◌∙◌, ap, ap₂, sym, refl, inl, inr, codes, subst, arith, is_some}
+use Rattle.std.proofs.Common.{rules, map, ◌∙◌, ap, ap₂, sym, refl, inl, inr, codes, subst, arith, is_some, Some, true≢false}
 use Rattle.std.proofs.lemmas.Option.{same_Some}
 use Rattle.clap.specs.Words.{takes}
 use Rattle.std.specs.Str.Parse.{ExplainsUnsignedError, HasUnsignedDigitsIfOk, ParsesUnsigned}
 use Rattle.drmsim.specs.declared.command_line.Request.TheVariants.{Run}
-use Rattle.drmsim.specs.CommandLine.{IsNumber, most_submitters, most_turns, word_entered}
+use Rattle.drmsim.specs.CommandLine.{IsNumber, most_submitters, most_turns, wants_words, word_entered}
 use Rattle.drmsim.proofs.Numbers.{number_read}
 use Rattle.drmsim.proofs.Options.{options_are_read}
-use Rattle.drmsim.proofs.Taken.{is_taken, is_entered, names_one, names_some, none_is_not, not_draw, not_explain, not_run}
-use Rattle.drmsim.proofs.Entered.{command_entered, given_found, none_entered, none_refused, number_found, word_found}
+use Rattle.drmsim.proofs.Taken.{is_bare, is_entered, is_flag_taken, is_taken, is_worded, names_one, names_some, none_is_not, not_draw, not_explain, not_run}
+use Rattle.drmsim.proofs.Entered.{command_entered, given_found, none_entered, none_refused, number_found, wants_are, word_found}
 use Rattle.drmsim.proofs.command_line.read_words.Goals.{in_default-2-via-in-Some+in_default, in_default-2-via-in_default}
 use Rattle.drmsim.proofs.command_line.read_words.Goals as goal
 
@@ -17,6 +17,27 @@ returns-in_err-matches-clause-command c = λ engine line.
     let app = c.in_ok-program.ensures in
     let memory = c.in_err-matches.ensures.passes (ap₂ takes app line.1 ∙ is_taken line.0 engine) in
     search (rules, memory)
+
+pub returns-in_err-matches-clause-worded : goal.returns-in_err-matches-clause-worded
+returns-in_err-matches-clause-worded c = λ line.
+    let app = c.in_ok-program.ensures in
+    let memory = c.in_err-matches.ensures.passes (ap₂ takes app line.1 ∙ is_flag_taken line.0) in
+    search (rules, memory)
+
+pub returns-then-wants_words-clause-named : goal.returns-then-wants_words-clause-named
+returns-then-wants_words-clause-named c = wants_are _ (map string_bytes c.args.words.now) _ _ _ c.in_ok-program.ensures c.in_ok-matches.ensures.matches c.wants_words.ensures c.if-wants_words.true
+
+pub returns-then-wants_words-clause-command : goal.returns-then-wants_words-clause-command
+returns-then-wants_words-clause-command c = λ engine line.
+    let wanted = wants_are _ (map string_bytes c.args.words.now) _ _ _ c.in_ok-program.ensures c.in_ok-matches.ensures.matches c.wants_words.ensures c.if-wants_words.true in
+    absurd (true≢false (sym wanted ∙ ap wants_words line.1 ∙ is_bare line.0 engine))
+
+pub returns-then-wants_words-clause-worded : goal.returns-then-wants_words-clause-worded
+returns-then-wants_words-clause-worded c = λ line. refl
+
+pub returns-then-wants_words-clause-kinds : goal.returns-then-wants_words-clause-kinds
+returns-then-wants_words-clause-kinds c =
+    none_refused _ _ c.in_ok-program.ensures c.in_ok-matches.ensures.kinds
 
 pub returns-in-Some-clause-named : goal.returns-in-Some-clause-named
 returns-in-Some-clause-named c =
@@ -31,13 +52,28 @@ returns-in-Some-clause-command c = λ engine line.
     let entered = ap word_entered line.1 ∙ is_entered line.0 engine in
     absurd (not_explain engine (same_Some _ _ (sym entered ∙ found)))
 
+pub returns-in-Some-clause-worded : goal.returns-in-Some-clause-worded
+returns-in-Some-clause-worded c = λ line.
+    let bare = wants_are _ (map string_bytes c.args.words.now) _ _ _ c.in_ok-program.ensures c.in_ok-matches.ensures.matches c.wants_words.ensures c.if-wants_words.false in
+    absurd (true≢false (sym (ap wants_words line.1 ∙ is_worded line.0) ∙ bare))
+
 pub returns-in-Some-clause-kinds : goal.returns-in-Some-clause-kinds
 returns-in-Some-clause-kinds c =
     none_refused _ _ c.in_ok-program.ensures c.in_ok-matches.ensures.kinds
 
+pub returns-clause-worded : goal.returns-clause-worded
+returns-clause-worded c = λ line.
+    let bare = wants_are _ (map string_bytes c.args.words.now) _ _ _ c.in_ok-program.ensures c.in_ok-matches.ensures.matches c.wants_words.ensures c.if-wants_words.false in
+    absurd (true≢false (sym (ap wants_words line.1 ∙ is_worded line.0) ∙ bare))
+
 pub returns-clause-kinds : goal.returns-clause-kinds
 returns-clause-kinds c =
     none_refused _ _ c.in_ok-program.ensures c.in_ok-matches.ensures.kinds
+
+pub returns-clause-named : goal.returns-clause-named
+returns-clause-named c =
+    let found = word_found _ _ _ _ c.in_ok-program.ensures c.in_ok-matches.ensures.matches c.in-Some-subcommand_name.ensures in
+    (found ∙ ap Some c.in-Some-of_word.ensures.some, wants_are _ (map string_bytes c.args.words.now) _ _ _ c.in_ok-program.ensures c.in_ok-matches.ensures.matches c.wants_words.ensures c.if-wants_words.false)
 
 pub returns-clause-command : goal.returns-clause-command
 returns-clause-command c = λ engine line.
@@ -84,6 +120,11 @@ returns-in-Some-subcommand_matches-clause-command c = λ engine line.
     let entered = ap word_entered line.1 ∙ is_entered line.0 engine in
     absurd (not_run engine (same_Some _ _ (sym entered ∙ found)))
 
+pub returns-in-Some-subcommand_matches-clause-worded : goal.returns-in-Some-subcommand_matches-clause-worded
+returns-in-Some-subcommand_matches-clause-worded c = λ line.
+    let bare = wants_are _ (map string_bytes c.args.words.now) _ _ _ c.in_ok-program.ensures c.in_ok-matches.ensures.matches c.wants_words.ensures c.if-wants_words.false in
+    absurd (true≢false (sym (ap wants_words line.1 ∙ is_worded line.0) ∙ bare))
+
 pub returns-in-Some-subcommand_matches-clause-kinds : goal.returns-in-Some-subcommand_matches-clause-kinds
 returns-in-Some-subcommand_matches-clause-kinds c =
     none_refused _ _ c.in_ok-program.ensures c.in_ok-matches.ensures.kinds
@@ -103,6 +144,11 @@ returns-in-Some-subcommand_matches-2-clause-command c = λ engine line.
     let found = word_found _ _ _ _ app c.in_ok-matches.ensures.matches (sym (c.in-Some-subcommand_matches-2.ensures.found.0 refl)) in
     let entered = ap word_entered line.1 ∙ is_entered line.0 engine in
     absurd (not_draw engine (same_Some _ _ (sym entered ∙ found)))
+
+pub returns-in-Some-subcommand_matches-2-clause-worded : goal.returns-in-Some-subcommand_matches-2-clause-worded
+returns-in-Some-subcommand_matches-2-clause-worded c = λ line.
+    let bare = wants_are _ (map string_bytes c.args.words.now) _ _ _ c.in_ok-program.ensures c.in_ok-matches.ensures.matches c.wants_words.ensures c.if-wants_words.false in
+    absurd (true≢false (sym (ap wants_words line.1 ∙ is_worded line.0) ∙ bare))
 
 pub returns-in-Some-subcommand_matches-2-clause-kinds : goal.returns-in-Some-subcommand_matches-2-clause-kinds
 returns-in-Some-subcommand_matches-2-clause-kinds c =
