@@ -10,6 +10,33 @@ use drm_job::{DraftList, JobFault};
 use drm_text::Command;
 use std::alloc::AllocError;
 
+// What is said of some refusals, with `%` in place of each number.
+const NO_FENCE: &[u8] = b"fence % belongs to no job that was armed yet";
+
+const FULL: &[u8] = b"the device has taken as many jobs as its header allows";
+
+const NO_CREDIT: &[u8] = b"the next job of ring % needs % credits, and the ring has %";
+
+const NOT_COMPLETE: &[u8] = b"the first job of ring % has packets to run";
+
+const WAITS: &[u8] = b"the first queued job of entity % waits for a job that has not ended";
+
+const NOTHING: &[u8] = b"entity % is not stopped, or has no queued job";
+
+const BUSY: &[u8] = b"buffer % is still written by fence %";
+
+const PACKET_OUT: &[u8] = b"a packet is out, and has to be reported first";
+
+const NOT_HELD: &[u8] = b"context % does not hold buffer %";
+
+const NOT_ALL_HELD: &[u8] = b"context % does not hold all buffers that the job declares";
+
+const SEALED: &[u8] = b"context % is sealed: it has taken its last lock";
+
+const STILL_HOLDS: &[u8] = b"context % still holds buffer %";
+
+const HELD: &[u8] = b"a context holds buffer %, which the job declares";
+
 // What a job has too many of.
 fn put_list(out: &mut Vec<u8>, list: DraftList) -> Result<(), AllocError>
     ensures { OnOk result (out.new.items ≡ out.old.items ++ sentence_of_list list) }
@@ -117,77 +144,37 @@ pub(crate) fn put_refusal(
     match refusal {
         Refusal::Faulty(fault) => put_fault(out, subject, fault),
         Refusal::Memory => put_filled(out, b"memory was refused to the command", &[]),
-        Refusal::NoFence { fence } => put_filled(
-            out,
-            b"fence % belongs to no job that was armed yet",
-            &[u64::from(fence)],
-        ),
+        Refusal::NoFence { fence } => put_filled(out, NO_FENCE, &[u64::from(fence)]),
         Refusal::Stopped => put_stopped(out, subject),
-        Refusal::Full => put_filled(
-            out,
-            b"the device has taken as many jobs as its header allows",
-            &[],
-        ),
+        Refusal::Full => put_filled(out, FULL, &[]),
         Refusal::Idle => put_idle(out, subject),
         Refusal::NoCredit { need, free } => put_filled(
             out,
-            b"the next job of ring % needs % credits, and the ring has %",
+            NO_CREDIT,
             &[ring, u64::from(need), u64::from(free)],
         ),
-        Refusal::NotComplete => put_filled(
-            out,
-            b"the first job of ring % has packets to run",
-            &[ring],
-        ),
+        Refusal::NotComplete => put_filled(out, NOT_COMPLETE, &[ring]),
         Refusal::AlreadyStopped => put_filled(out, b"entity % was cancelled before", &[entity]),
-        Refusal::Waits => put_filled(
-            out,
-            b"the first queued job of entity % waits for a job that has not ended",
-            &[entity],
-        ),
-        Refusal::Nothing => put_filled(
-            out,
-            b"entity % is not stopped, or has no queued job",
-            &[entity],
-        ),
-        Refusal::Busy { fence } => put_filled(
-            out,
-            b"buffer % is still written by fence %",
-            &[named, u64::from(fence)],
-        ),
-        Refusal::PacketOut => put_filled(
-            out,
-            b"a packet is out, and has to be reported first",
-            &[],
-        ),
+        Refusal::Waits => put_filled(out, WAITS, &[entity]),
+        Refusal::Nothing => put_filled(out, NOTHING, &[entity]),
+        Refusal::Busy { fence } => put_filled(out, BUSY, &[named, u64::from(fence)]),
+        Refusal::PacketOut => put_filled(out, PACKET_OUT, &[]),
         Refusal::CtxBusy => put_filled(out, b"context % has begun already", &[ctx]),
         Refusal::CtxIdle => put_filled(out, b"context % has not begun", &[ctx]),
         Refusal::NotHeld { buffer } => put_filled(
             out,
-            b"context % does not hold buffer %",
+            NOT_HELD,
             &[ctx, u64::from(buffer.number())],
         ),
-        Refusal::NotAllHeld => put_filled(
-            out,
-            b"context % does not hold all buffers that the job declares",
-            &[ctx],
-        ),
+        Refusal::NotAllHeld => put_filled(out, NOT_ALL_HELD, &[ctx]),
         Refusal::NotPlanned => put_filled(out, b"context % has no plan", &[ctx]),
-        Refusal::Sealed => put_filled(
-            out,
-            b"context % is sealed: it has taken its last lock",
-            &[ctx],
-        ),
+        Refusal::Sealed => put_filled(out, SEALED, &[ctx]),
         Refusal::StillHolds { buffer } => put_filled(
             out,
-            b"context % still holds buffer %",
+            STILL_HOLDS,
             &[ctx, u64::from(buffer.number())],
         ),
-        Refusal::Held { buffer } => put_filled(
-            out,
-            b"a context holds buffer %, which the job declares",
-            &[u64::from(buffer.number())],
-        ),
+        Refusal::Held { buffer } => put_filled(out, HELD, &[u64::from(buffer.number())]),
         Refusal::TicketsOut => put_filled(out, b"no tickets are left", &[]),
         Refusal::Already => put_filled(out, b"context % holds buffer % already", &[ctx, named]),
     }
