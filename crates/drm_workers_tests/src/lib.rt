@@ -11,6 +11,8 @@ ghost use Rattle.drm_gpu_tests.specs.Pairs.{pair_of};
 #[cfg(test)]
 mod gates;
 #[cfg(test)]
+mod held_up;
+#[cfg(test)]
 mod runs;
 #[cfg(test)]
 mod stopping;
