@@ -27,7 +27,7 @@ label_text bar =
     then codes "<text x='" ++ decimal bar.left ++ codes "1' y='" ++ decimal bar.row ++ codes "7'>" ++ label_of bar.bar ++ codes "</text>"
     else []
 
--- a job that is to be skipped is dashed
+-- a job that is to be skipped is hatched
 abbrev pub class_of : Bar → List ℕ
 class_of bar = if bar.opening.skipped then codes " skipped" else codes ""
 
