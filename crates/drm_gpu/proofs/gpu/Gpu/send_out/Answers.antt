@@ -1,10 +1,14 @@
-use Rattle.std.proofs.Common.{◌≡◌, sym, subst, Err}
+use Rattle.std.proofs.Common.{◌≡◌, ap, sym, subst, Err, None, Ok}
 use Rattle.ww_lock.specs.Begun.{sees}
 use Rattle.drm_sched.specs.Grows.{Grows}
 use Rattle.drm_sched.specs.State.{DeviceState}
+use Rattle.drm_sched.specs.declared.answer.Answer.TheVariants as answer
 use Rattle.drm_sched.specs.declared.answer.Refusal.TheVariants.{Idle}
-use Rattle.drm_sched.specs.Begun.{HasBegun, MayComeBack}
-use Rattle.drm_sched.specs.Marks.{IsBusy}
+use Rattle.drm_sched.specs.declared.answer.Stepped.TheVariants.{Stalled}
+use Rattle.drm_sched.specs.Begun.{HasBegun, MayComeBack, out_or}
+use Rattle.drm_sched.specs.Marks.{IsBusy, MarkedDevice}
+use Rattle.drm_sched.specs.Outcomes.{step_outcome}
+use Rattle.drm_sched.specs.Refusals.{step_refusal}
 use Rattle.drm_gpu.specs.Answers.{StepIs}
 use Rattle.drm_gpu.specs.declared.running.OutPacket.{OutPacket}
 use Rattle.drm_gpu.specs.Passes.{GrowsTo}
@@ -46,4 +50,18 @@ returns g c =
       calls_as (StepIs c.args.ring (Err Idle)) (sees c.args.seat.now) (sees c.enter_for-device.new.seat) (sees c.leave-in-Err.new.seat) d c.of-found.result.value e
           c.enter_for-device.ensures.found c.enter_for-device.ensures.same c.of-found.ensures (subst (λ x. GrowsTo x e) why.1 (grows_itself e))
           c.leave-in-Err.ensures.seat.1 c.leave-in-Err.ensures.call (c.enter_for-device.ensures.free, idle, why.1),
+    )
+
+pub returns-in-Ok-Stalled : goal.returns-in-Ok-Stalled
+returns-in-Ok-Stalled g c =
+    let s = c.in-Ok-Stalled in
+    let d = c.enter_for-device.result in
+    let e = c.begin_step.new.self in
+    let begun = subst (λ b. HasBegun d c.args.ring b e) s.field-0-is s.ensures.begun.1 in
+    let free = subst (λ b. out_or b (step_refusal d.state c.args.ring) ≡ None) c.enter_for-device.ensures.free s.ensures.begun.0 in
+    let stalls = subst (λ (x : DeviceState). step_outcome d.state c.args.ring ≡ (answer.Stalled s.fence, x)) (sym (ap (λ (m : MarkedDevice). m.state) begun.1)) begun.0 in (
+      c.leave.ensures.seat.0,
+      calls_as (StepIs c.args.ring (Ok (Stalled s.fence))) (sees c.args.seat.now) (sees c.enter_for-device.new.seat) (sees c.leave.new.seat) d c.of-found.result.value e
+          c.enter_for-device.ensures.found c.enter_for-device.ensures.same c.of-found.ensures (subst (λ x. GrowsTo x e) begun.1 (grows_itself e))
+          c.leave.ensures.seat.1 c.leave.ensures.call (c.enter_for-device.ensures.free, free, stalls, begun.1),
     )
