@@ -26,12 +26,12 @@ use Rattle.drm_resv.specs.declared.entry.Entry.{Entry}
 use Rattle.drm_resv.specs.Entries.{entries_of}
 use Rattle.drm_resv.specs.Noting.{all_noted}
 use Rattle.drm_resv.specs.Reservation.{WithRoom}
-use Rattle.drm_sched.specs.declared.journal.JobRecord.{JobRecord}
-use Rattle.drm_sched.specs.State.{DeviceState}
-use Rattle.drm_sched.specs.Steady.{IsSteady}
-use Rattle.drm_sched.specs.Reservation.{usage_at, stands_for, IsOfJob, Fits}
+use Rattle.drm_table.specs.declared.journal.JobRecord.{JobRecord}
+use Rattle.drm_table.specs.State.{DeviceState}
+use Rattle.drm_table.specs.Steady.{IsSteady}
+use Rattle.drm_table.specs.Reservation.{usage_at, stands_for, IsOfJob, Fits}
 use Rattle.drm_core.specs.Planning.{collected, all_collected}
-use Rattle.drm_sched.specs.Plans.{MeetsPlan, DepsCover}
+use Rattle.drm_table.specs.Plans.{MeetsPlan, DepsCover}
 use Rattle.drm_core.proofs.Lists.{in_filter}
 use Rattle.drm_core.proofs.Lists.{not_when}
 use Rattle.drm_core.proofs.DeviceFacts.{usage_trans}

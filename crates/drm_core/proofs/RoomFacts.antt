@@ -14,7 +14,7 @@ use Rattle.std.proofs.lemmas.List.{length-set}
 use Rattle.std.proofs.lemmas.Bool.{cases_eq}
 use Rattle.drm_resv.specs.Reservation.{WithRoom}
 use Rattle.drm_core.specs.Planning.{MoreRoom, HasRoomFor, collected}
-use Rattle.drm_sched.specs.Uses.{HasUse}
+use Rattle.drm_table.specs.Uses.{HasUse}
 use Rattle.drm_core.proofs.Lists.{get_set_same, get_set_other, get_set_cases}
 
 pub more_itself : (rs : List WithRoom) → MoreRoom rs rs

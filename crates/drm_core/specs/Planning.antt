@@ -8,8 +8,8 @@ use Rattle.drm_job.specs.declared.Draft.{Draft}
 use Rattle.drm_resv.specs.Entries.{entries_of}
 use Rattle.drm_resv.specs.Noting.{all_noted}
 use Rattle.drm_resv.specs.Reservation.{WithRoom}
-use Rattle.drm_sched.specs.Reservation.{usage_at}
-use Rattle.drm_sched.specs.Uses.{HasUse}
+use Rattle.drm_table.specs.Reservation.{usage_at}
+use Rattle.drm_table.specs.Uses.{HasUse}
 
 -- whether a context holds the buffer
 abbrev pub is_held_in : List (Option ℕ) → ℕ → Bool

@@ -1,7 +1,7 @@
 ghost use Rattle.std.specs.Prelude.{◌≡◌, ◌<◌, length};
 ghost use Rattle.drm_core.specs.declared.event.Event.TheVariants as event;
 ghost use Rattle.drm_core.specs.Step.{reply};
-ghost use Rattle.drm_sched.specs.Answers.{picked as picked_answer, stepped as stepped_answer, finished as finished_answer, timed_out as timed_out_answer};
+ghost use Rattle.drm_table.specs.Answers.{picked as picked_answer, stepped as stepped_answer, finished as finished_answer, timed_out as timed_out_answer};
 ghost use Rattle.drm_core.specs.Cores.{core_state, IsCore};
 
 use crate::cores::CoreTable;
@@ -59,7 +59,7 @@ impl CoreTable {
         device_laws();
         match self.device.pick(ring, now) {
             Ok(answer) => picked(answer),
-            Err(refusal) => Answer::Refused(refusal),
+            Err(error) => Answer::Refused(Refusal::from(error)),
         }
     }
 
@@ -73,7 +73,7 @@ impl CoreTable {
         device_laws();
         match self.device.step(ring) {
             Ok(answer) => stepped(answer),
-            Err(refusal) => Answer::Refused(refusal),
+            Err(error) => Answer::Refused(Refusal::from(error)),
         }
     }
 
@@ -87,7 +87,7 @@ impl CoreTable {
         device_laws();
         match self.device.finish(ring, now) {
             Ok(answer) => finished(answer),
-            Err(refusal) => Answer::Refused(refusal),
+            Err(error) => Answer::Refused(Refusal::from(error)),
         }
     }
 
@@ -101,7 +101,7 @@ impl CoreTable {
         device_laws();
         match self.device.timeout(ring, now) {
             Ok(answer) => timed_out(answer),
-            Err(refusal) => Answer::Refused(refusal),
+            Err(error) => Answer::Refused(Refusal::from(error)),
         }
     }
 
@@ -115,7 +115,7 @@ impl CoreTable {
         device_laws();
         match self.device.cancel(entity) {
             Ok(()) => Answer::Ok,
-            Err(refusal) => Answer::Refused(refusal),
+            Err(error) => Answer::Refused(Refusal::from(error)),
         }
     }
 
@@ -129,7 +129,7 @@ impl CoreTable {
         device_laws();
         match self.device.reap(entity) {
             Ok(fence) => Answer::Reaped { fence },
-            Err(refusal) => Answer::Refused(refusal),
+            Err(error) => Answer::Refused(Refusal::from(error)),
         }
     }
 }

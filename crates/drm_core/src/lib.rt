@@ -21,8 +21,9 @@ mod planning;
 mod submission;
 
 pub use drm_sched::{
-    Answer, Begun, BuildError, Closed, Device, Expired, Finished, Held, JobRecord, Phase, Picked,
-    Plan, Refusal, Stepped, choice_is_least,
+    Answer, ArmError, Begun, BuildError, CancelError, Closed, Device, Expired, FinishError,
+    Finished, Held, JobRecord, Phase, PickError, Picked, Plan, ReadError, ReapError, Refusal,
+    StepError, Stepped, TimeoutError, choice_is_least,
 };
 pub use event::Event;
 pub use laws::{every_run_is_lawful, headline};

@@ -42,7 +42,7 @@ impl CoreTable {
     {
         match self.contexts.get(ctx as usize) {
             Some(Some(row)) => match &row.plan {
-                Some(plan) => self.device.arm_refusal(&plan.job),
+                Some(plan) => self.arm_refusal(&plan.job),
                 None => Some(Refusal::NotPlanned),
             },
             _ => Some(Refusal::CtxIdle),

@@ -2,11 +2,11 @@ ghost use Rattle.std.specs.Prelude.{◌≡◌, ℕ, length, Some, None, OnOk};
 ghost use Rattle.drm_core.specs.declared.event.Event.TheVariants as event;
 ghost use Rattle.drm_core.specs.Step.{Step};
 ghost use Rattle.drm_job.specs.Fault.{IsJob};
-ghost use Rattle.drm_sched.specs.declared.plans.Plan.{Plan as PlanOf};
+ghost use Rattle.drm_table.specs.declared.plans.Plan.{Plan as PlanOf};
 ghost use Rattle.drm_core.specs.Outcomes.{armed_core};
-ghost use Rattle.drm_sched.specs.Refusals.{arm_refusal};
+ghost use Rattle.drm_table.specs.Refusals.{arm_refusal};
 ghost use Rattle.drm_core.specs.Cores.{core_state, planned_by, IsCore};
-ghost use Rattle.drm_sched.specs.Plans.{DepsCover};
+ghost use Rattle.drm_table.specs.Plans.{DepsCover};
 ghost use Rattle.drm_core.specs.Planning.{AreRoomy, ShareNoBuffer};
 
 use crate::cores::CoreTable;
@@ -65,6 +65,16 @@ impl CoreTable {
         planning::collect(&self.reservations, job.declared())
     }
 
+    // Why the device does not take the job: its entity is stopped, the device is full, or it names a fence not armed yet.
+    pub(crate) fn arm_refusal(&self, job: &Job) -> Option<Refusal>
+        ensures { result ≡ arm_refusal self.now.device.state job.now }
+    {
+        match self.device.arm_refusal(job) {
+            Some(error) => Some(Refusal::from(error)),
+            None => None,
+        }
+    }
+
     /// Checks the job, collects what it waits for, and arms it, all in one step and with no lock.
     pub(crate) fn submit(&mut self, draft: Draft) -> Answer
         requires core { IsCore self.old }
@@ -81,7 +91,7 @@ impl CoreTable {
         if self.make_room(&job).is_err() {
             return Answer::Refused(Refusal::Memory);
         }
-        if let Some(refusal) = self.device.arm_refusal(&job) {
+        if let Some(refusal) = self.arm_refusal(&job) {
             return Answer::Refused(refusal);
         }
         let deps = self.collect(&job);

@@ -7,12 +7,14 @@ use Rattle.ww_lock.specs.Fences.{NotBack}
 use Rattle.ww_lock.specs.Rule.{In}
 use Rattle.ww_lock.specs.Steps.{IsChain, IsLater}
 use Rattle.drm_types.specs.declared.spec.DeviceSpec.{DeviceSpec}
-use Rattle.drm_sched.specs.declared.answer.Picked.{Picked}
-use Rattle.drm_sched.specs.declared.answer.Refusal.{Refusal}
-use Rattle.drm_sched.specs.Answers.{picked}
+use Rattle.drm_table.specs.declared.answer.Picked.{Picked}
+use Rattle.drm_table.specs.declared.errors.CancelError.{CancelError}
+use Rattle.drm_table.specs.declared.errors.PickError.{PickError}
+use Rattle.drm_table.specs.Errors.{refusal_of_cancel, refusal_of_pick}
+use Rattle.drm_table.specs.Answers.{picked}
 use Rattle.drm_sched.specs.Marks.{MarkedDevice, Task, IsBusy}
-use Rattle.drm_sched.specs.Outcomes.{pick_outcome, cancelled_device}
-use Rattle.drm_sched.specs.Refusals.{pick_refusal, cancel_refusal}
+use Rattle.drm_table.specs.Outcomes.{pick_outcome, cancelled_device}
+use Rattle.drm_table.specs.Refusals.{pick_refusal, cancel_refusal}
 use Rattle.drm_gpu.specs.declared.running.OutPacket.{OutPacket}
 use Rattle.drm_gpu.specs.Answers.{PickIs, CancelIs}
 use Rattle.drm_gpu.specs.Passes.{GpuState, PassState, Seeing, DeviceSeat, Knows, KnowsWith, IsJoinedOf, IsPassSeat, IsFound, IsGood, IsSameBut, Adds, Calls, CallsAs, GrowsTo, word_shown, last_of, gpu_of, pass_of}
@@ -138,13 +140,13 @@ pub called : (does : MarkedDevice → MarkedDevice → Type 0) (gpu : GpuState) 
 called does gpu old home r s t d f e view belongs found same is on out adds holds =
     calls_of does gpu old home t.place.table_id (sees r) (sees s) (sees t) d f e view belongs found same is on (at_gpu gpu t out.0) out.1 adds holds
 
-pub pick_is : (d e : MarkedDevice) (ring now : ℕ) (r : Result Picked Refusal) → IfOk r (λ p. (pick_refusal d.state ring ≡ None) × (pick_outcome d.state ring now ≡ (picked p, e.state)))
-    → IfErr r (λ x. (pick_refusal d.state ring ≡ Some x) × (e ≡ d)) → e.marks ≡ d.marks → PickIs ring now r d e
+pub pick_is : (d e : MarkedDevice) (ring now : ℕ) (r : Result Picked PickError) → IfOk r (λ p. (pick_refusal d.state ring ≡ None) × (pick_outcome d.state ring now ≡ (picked p, e.state)))
+    → IfErr r (λ x. (pick_refusal d.state ring ≡ Some (refusal_of_pick x)) × (e ≡ d)) → e.marks ≡ d.marks → PickIs ring now r d e
 pick_is d e ring now (Ok p) ok err marks = (ok.0, ok.1, marks)
 pick_is d e ring now (Err x) ok err marks = err
 
-pub cancel_is : (d e : MarkedDevice) (entity : ℕ) (r : Result (Unit {0}) Refusal) → OnOk r ((cancel_refusal d.state entity ≡ None) × (e.state ≡ cancelled_device d.state entity))
-    → IfErr r (λ x. (cancel_refusal d.state entity ≡ Some x) × (e ≡ d)) → e.marks ≡ d.marks → CancelIs entity r d e
+pub cancel_is : (d e : MarkedDevice) (entity : ℕ) (r : Result (Unit {0}) CancelError) → OnOk r ((cancel_refusal d.state entity ≡ None) × (e.state ≡ cancelled_device d.state entity))
+    → IfErr r (λ x. (cancel_refusal d.state entity ≡ Some (refusal_of_cancel x)) × (e ≡ d)) → e.marks ≡ d.marks → CancelIs entity r d e
 cancel_is d e entity (Ok u) ok err marks = (ok.0, ok.1, marks)
 cancel_is d e entity (Err x) ok err marks = err
 

@@ -21,16 +21,16 @@ use Rattle.drm_resv.specs.declared.entry.Entry.{Entry}
 use Rattle.drm_resv.specs.Entries.{entries_of}
 use Rattle.drm_resv.specs.Noting.{all_noted}
 use Rattle.drm_resv.specs.Reservation.{Reservation, WithRoom}
-use Rattle.drm_sched.specs.Plans.{MeetsPlan, DepsCover}
-use Rattle.drm_sched.specs.Lawful.{IsLawfulDevice}
-use Rattle.drm_sched.specs.Reservation.{usage_at, stands_for, IsOfJob, Fits}
+use Rattle.drm_table.specs.Plans.{MeetsPlan, DepsCover}
+use Rattle.drm_table.specs.Lawful.{IsLawfulDevice}
+use Rattle.drm_table.specs.Reservation.{usage_at, stands_for, IsOfJob, Fits}
 use Rattle.drm_sched.specs.Marks.{MarkedDevice}
-use Rattle.drm_sched.specs.State.{DeviceState}
-use Rattle.drm_sched.proofs.ChoiceIs.{in_filter}
+use Rattle.drm_table.specs.State.{DeviceState}
+use Rattle.drm_table.proofs.ChoiceIs.{in_filter}
 use Rattle.drm_core.proofs.Collecting.{declared_adds, adds_declared, meets_at}
-use Rattle.drm_sched.proofs.FitsKept.{usage_trans}
-use Rattle.drm_sched.proofs.Notes.{Reaches, each_keeps, each_reaches, each_all}
-use Rattle.drm_sched.specs.Held.{kept_of}
+use Rattle.drm_table.proofs.FitsKept.{usage_trans}
+use Rattle.drm_table.proofs.Notes.{Reaches, each_keeps, each_reaches, each_all}
+use Rattle.drm_table.specs.Held.{kept_of}
 use Rattle.ww_lock.specs.Acquiring.{view}
 use Rattle.ww_lock.specs.Rule.{In}
 use Rattle.drm_gpu.specs.Passes.{GpuState}

@@ -3,7 +3,7 @@ use Rattle.std.proofs.Common.{◌≡◌, ◌<◌, ℕ, zero, suc, List, [], ◌�
 use Rattle.std.specs.Prelude.{fold}
 use Rattle.drm_job.specs.declared.Draft.{Draft}
 use Rattle.drm_resv.specs.Reservation.{WithRoom}
-use Rattle.drm_sched.specs.Held.{kept_of}
+use Rattle.drm_table.specs.Held.{kept_of}
 use Rattle.drm_gpu.specs.Submissions.{collected_at}
 
 abbrev pub collected_by : Draft → List (ℕ × ℕ) → ℕ × WithRoom → List (ℕ × ℕ)

@@ -2,12 +2,12 @@
 use Rattle.std.specs.Prelude.{◌≡◌, ℕ, List, [], ◌∷◌, false, Some, Result, Ok, Err}
 use Rattle.drm_buffer.specs.Memory.{bytes_of}
 use Rattle.drm_resv.specs.Reservation.{Reservation}
-use Rattle.drm_sched.specs.declared.answer.Refusal.{Refusal}
-use Rattle.drm_sched.specs.declared.answer.Refusal.TheVariants.{Busy}
-use Rattle.drm_sched.specs.Writers.{HaveEnded}
+use Rattle.drm_table.specs.declared.errors.ReadError.{ReadError}
+use Rattle.drm_table.specs.declared.errors.ReadError.TheVariants.{Busy}
+use Rattle.drm_table.specs.Writers.{HaveEnded}
 use Rattle.drm_sched.specs.Marks.{MarkedDevice, is_out}
-use Rattle.drm_sched.specs.Refusals.{busy_fence}
-use Rattle.drm_sched.specs.Reservation.{Fits}
+use Rattle.drm_table.specs.Refusals.{busy_fence}
+use Rattle.drm_table.specs.Reservation.{Fits}
 use Rattle.ww_lock.specs.Rule.{In}
 use Rattle.drm_gpu.specs.Passes.{Calls, PassState}
 
@@ -23,7 +23,7 @@ HoldsFitting s d = (x : Reservation) × (s.held ≡ (s.buffer, x) ∷ []) × Fit
 
 -- what a readback answers and writes, where it found this device: the buffer's bytes once all armed writers have ended. It is
 -- refused by the least fence of a writer that has no outcome. Either way the reservation that is held fits the device
-abbrev pub ReadIs : ReadingState → Result (Unit {0}) Refusal → List ℕ → List ℕ → MarkedDevice → MarkedDevice → Type 0
+abbrev pub ReadIs : ReadingState → Result (Unit {0}) ReadError → List ℕ → List ℕ → MarkedDevice → MarkedDevice → Type 0
 ReadIs s (Ok u) old new d e = (is_out d s.buffer ≡ false) × HaveEnded s.buffer d.state.journal × (new ≡ bytes_of d.state.memory s.buffer) × (e ≡ d) × HoldsFitting s d
 ReadIs s (Err (Busy f)) old new d e =
     (is_out d s.buffer ≡ false) × (HaveEnded s.buffer d.state.journal → ⊥)
@@ -33,5 +33,5 @@ ReadIs s (Err r) old new d e = ⊥
 -- once a readback was answered, the next of the same reading is too, with the same bytes
 abbrev pub ReadbacksAgree : Type 0
 ReadbacksAgree =
-    (s : ReadingState) (a b : PassState) (u : Unit {0}) (r : Result (Unit {0}) Refusal) (old new kept found : List ℕ)
+    (s : ReadingState) (a b : PassState) (u : Unit {0}) (r : Result (Unit {0}) ReadError) (old new kept found : List ℕ)
     → Calls (ReadIs s (Ok u) old new) s.pass a → Calls (ReadIs (record s { pass = a }) r kept found) a b → (r ≡ Ok u) × (found ≡ new)

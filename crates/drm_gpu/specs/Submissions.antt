@@ -19,12 +19,13 @@ use Rattle.drm_job.specs.Uses.{access_of}
 use Rattle.drm_resv.specs.declared.entry.Entry.{Entry}
 use Rattle.drm_resv.specs.Entries.{entries_of}
 use Rattle.drm_resv.specs.Reservation.{Reservation, WithRoom}
-use Rattle.drm_sched.specs.declared.answer.Refusal.{Refusal}
-use Rattle.drm_sched.specs.Arming.{armed_device}
-use Rattle.drm_sched.specs.Plans.{DepsCover}
-use Rattle.drm_sched.specs.Held.{kept_of, armed_held, AllFit}
-use Rattle.drm_sched.specs.Refusals.{arm_refusal}
-use Rattle.drm_sched.specs.Reservation.{Fits}
+use Rattle.drm_table.specs.declared.errors.ArmError.{ArmError}
+use Rattle.drm_table.specs.Arming.{armed_device}
+use Rattle.drm_table.specs.Plans.{DepsCover}
+use Rattle.drm_table.specs.Held.{kept_of, armed_held, AllFit}
+use Rattle.drm_table.specs.Errors.{refusal_of_arm}
+use Rattle.drm_table.specs.Refusals.{arm_refusal}
+use Rattle.drm_table.specs.Reservation.{Fits}
 use Rattle.drm_sched.specs.Marks.{MarkedDevice, Task}
 use Rattle.drm_gpu.specs.Passes.{GpuState, PassState, Knows, last_of, pass_of, word_shown}
 
@@ -140,8 +141,8 @@ pub record ArmIs (job : Draft) (deps : List (ℕ × ℕ)) (old new : List (ℕ �
   pub fit : AllFit d.state.journal old
   pub held : new ≡ armed_held d.state.journal job old
 
-abbrev pub ArmRefused : Draft → Refusal → MarkedDevice → MarkedDevice → Type 0
-ArmRefused job r d e = (arm_refusal d.state job ≡ Some r) × (e ≡ d)
+abbrev pub ArmRefused : Draft → ArmError → MarkedDevice → MarkedDevice → Type 0
+ArmRefused job r d e = (arm_refusal d.state job ≡ Some (refusal_of_arm r)) × (e ≡ d)
 
 -- a submission that knows what its job waits for
 pub record PlannedSubmission : Type 0 where

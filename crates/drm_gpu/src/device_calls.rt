@@ -2,7 +2,7 @@
 ghost use Rattle.std.specs.Prelude.{◌≡◌, ◌<◌, length, MatchResult, Some};
 ghost use Rattle.drm_sched.specs.Marks.{MarkedDevice};
 ghost use Rattle.drm_fence.specs.declared.phase.Phase.TheVariants.{Ended};
-ghost use Rattle.drm_sched.specs.Keeps.{word_of};
+ghost use Rattle.drm_table.specs.Keeps.{word_of};
 ghost use Rattle.drm_job.specs.Fault.{IsJob, job_fault};
 ghost use Rattle.drm_gpu.specs.Passes.{Calls, word_shown};
 ghost use Rattle.drm_gpu.specs.Status.{AnswersStatus, LooksAt, TellsStatus};
@@ -12,7 +12,7 @@ use crate::gpu::Gpu;
 use crate::pass::{NoFence, Pass};
 use crate::waiting::Needs;
 use drm_job::{Draft, Job, JobFault, check};
-use drm_sched::{Expired, Finished, Picked, Refusal};
+use drm_sched::{CancelError, Expired, FinishError, Finished, PickError, Picked, ReapError};
 use drm_types::{EntityId, FenceId, Moment, Outcome, RingId};
 use std::snapshot::Snapshot;
 use std::sync::Wait;
@@ -49,7 +49,7 @@ impl Gpu {
         ring: RingId,
         now: Moment,
         rt: &R,
-    ) -> Result<Picked, Refusal>
+    ) -> Result<Picked, PickError>
         requires pass { pass.old.gpu ≡ self.now }
         requires ring { ring < length self.now.spec.rings }
         ensures call { Calls (PickIs ring now result) pass.old pass.new }
@@ -72,7 +72,7 @@ impl Gpu {
         ring: RingId,
         now: Moment,
         rt: &R,
-    ) -> Result<Finished, Refusal>
+    ) -> Result<Finished, FinishError>
         requires pass { pass.old.gpu ≡ self.now }
         requires ring { ring < length self.now.spec.rings }
         ensures call { Calls (FinishIs ring now result) pass.old pass.new }
@@ -85,9 +85,9 @@ impl Gpu {
                 self.show_and_leave(&mut pass.seat, device, &found, done.fence, word);
                 Ok(done)
             }
-            Err(refusal) => {
+            Err(error) => {
                 self.leave(&mut pass.seat, device, &found);
-                Err(refusal)
+                Err(error)
             }
         }
     }
@@ -108,7 +108,12 @@ impl Gpu {
     }
 
     /// Stops the entity (`drm_sched_entity_kill`).
-    pub fn cancel<R: Wait>(&self, pass: &mut Pass, entity: EntityId, rt: &R) -> Result<(), Refusal>
+    pub fn cancel<R: Wait>(
+        &self,
+        pass: &mut Pass,
+        entity: EntityId,
+        rt: &R,
+    ) -> Result<(), CancelError>
         requires pass { pass.old.gpu ≡ self.now }
         requires entity { entity < length self.now.spec.entities }
         ensures call { Calls (CancelIs entity result) pass.old pass.new }
@@ -127,7 +132,7 @@ impl Gpu {
         pass: &mut Pass,
         entity: EntityId,
         rt: &R,
-    ) -> Result<FenceId, Refusal>
+    ) -> Result<FenceId, ReapError>
         requires pass { pass.old.gpu ≡ self.now }
         requires entity { entity < length self.now.spec.entities }
         ensures call { Calls (ReapIs entity result) pass.old pass.new }
@@ -139,9 +144,9 @@ impl Gpu {
                 self.show_and_leave(&mut pass.seat, device, &found, fence, 4);
                 Ok(fence)
             }
-            Err(refusal) => {
+            Err(error) => {
                 self.leave(&mut pass.seat, device, &found);
-                Err(refusal)
+                Err(error)
             }
         }
     }

@@ -1,7 +1,7 @@
 //! How the shared device is made and taken apart, and how its passes are split and joined.
 ghost use Rattle.std.specs.Prelude.{◌≡◌, ℕ, false, [], map, replicate, None, IfOk, IfErr};
 ghost use Rattle.drm_types.specs.Limits.{spec_fault};
-ghost use Rattle.drm_sched.specs.Building.{RefusesToBuild};
+ghost use Rattle.drm_table.specs.Building.{RefusesToBuild};
 ghost use Rattle.drm_sched.specs.Marks.{is_out};
 ghost use Rattle.ww_lock.specs.Parts.{halved};
 ghost use Rattle.drm_gpu.specs.Closing.{Leaves, GivesBack};

@@ -8,7 +8,7 @@ use crate::gpu::Gpu;
 use crate::locking::{DeviceAcquire, give_up};
 use crate::pass::Pass;
 use crate::waiting::Needs;
-use drm_sched::{Refusal, bytes_stay};
+use drm_sched::{ReadError, bytes_stay};
 use drm_types::BufferId;
 use std::marker::Model;
 use std::snapshot::Snapshot;
@@ -25,7 +25,7 @@ pub struct Reading<'g> {
 impl<'g> Model for Reading<'g> {
     ghost use Rattle.std.specs.Prelude.{◌≡◌, ◌<◌, ◌∷◌, [], false, length};
     ghost use Rattle.drm_resv.specs.Reservation.{WithRoom};
-    ghost use Rattle.drm_sched.specs.Held.{kept_of};
+    ghost use Rattle.drm_table.specs.Held.{kept_of};
     ghost use Rattle.drm_gpu.specs.Passes.{pass_of};
     ghost use Rattle.drm_gpu.specs.Submissions.{Holding};
     ghost use Rattle.drm_gpu.specs.Reading.{ReadingState};
@@ -45,7 +45,7 @@ impl<'g> Reading<'g> {
     /// # Errors
     ///
     /// `Busy`, with the least fence of the buffer's writers that has no outcome. Then nothing is copied.
-    pub fn read_into<R: Wait>(&mut self, out: &mut [u8], rt: &R) -> Result<(), Refusal>
+    pub fn read_into<R: Wait>(&mut self, out: &mut [u8], rt: &R) -> Result<(), ReadError>
         requires { length out.old ≡ length (bytes_of self.old.pass.gpu.spec.buffers self.old.buffer) }
         ensures call { Calls (ReadIs self.old result out.old out.new) self.old.pass self.new.pass }
         ensures same { self.new ≡ record self.old { pass = self.new.pass } }

@@ -2,7 +2,7 @@
 ghost use Rattle.std.specs.Prelude.{◌≡◌, ◌<◌, ℕ, List, Some, IsTrue, length, Ok, IfOk, IfErr};
 ghost use Rattle.drm_packet.specs.Parts.{fits_parts};
 ghost use Rattle.ww_lock.specs.Begun.{sees};
-ghost use Rattle.drm_sched.specs.declared.answer.Stepped.TheVariants.{Ran};
+ghost use Rattle.drm_table.specs.declared.answer.Stepped.TheVariants.{Ran};
 ghost use Rattle.drm_gpu.specs.Answers.{StepIs};
 ghost use Rattle.drm_gpu.specs.Passes.{Calls, CallsAs, IsPassSeat};
 ghost use Rattle.drm_gpu.specs.Running.{SeatHasOut, IsSent, RunsNothing, Starts, task_of, written};
@@ -13,7 +13,7 @@ use crate::pass::{DeviceSeat, Pass};
 use crate::waiting::Needs;
 use drm_buffer::Buffer;
 use drm_packet::Packet;
-use drm_sched::{Begun, Refusal, Stepped};
+use drm_sched::{Begun, StepError, Stepped};
 use drm_types::{FenceId, RingId};
 use std::marker::Model;
 use std::snapshot::Snapshot;
@@ -197,7 +197,7 @@ impl Gpu {
     /// # Errors
     ///
     /// `Idle` where no pending job of the ring has packets left.
-    pub fn step<R: Wait>(&self, pass: &mut Pass, ring: RingId, rt: &R) -> Result<Stepped, Refusal>
+    pub fn step<R: Wait>(&self, pass: &mut Pass, ring: RingId, rt: &R) -> Result<Stepped, StepError>
         requires pass { pass.old.gpu ≡ self.now }
         requires ring { ring < length self.now.spec.rings }
         ensures call { Calls (StepIs ring result) pass.old pass.new }
@@ -205,7 +205,7 @@ impl Gpu {
         match self.send_out(&mut pass.seat, ring, rt) {
             Sent::Out(out) => Ok(self.run_out(&mut pass.seat, out, rt)),
             Sent::Stalled(fence) => Ok(Stepped::Stalled { fence }),
-            Sent::Idle => Err(Refusal::Idle),
+            Sent::Idle => Err(StepError::Idle),
         }
     }
 }

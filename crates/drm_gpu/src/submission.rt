@@ -6,7 +6,7 @@ ghost use Rattle.drm_job.specs.Uses.{access_of};
 ghost use Rattle.drm_resv.specs.Entries.{entries_of};
 ghost use Rattle.drm_resv.specs.Noting.{all_noted};
 ghost use Rattle.drm_resv.specs.Reservation.{WithRoom};
-ghost use Rattle.drm_sched.specs.Held.{HaveRoom, kept_of};
+ghost use Rattle.drm_table.specs.Held.{HaveRoom, kept_of};
 ghost use Rattle.drm_gpu.specs.Passes.{Calls};
 ghost use Rattle.drm_gpu.specs.Submissions.{IsCollected, ArmIs, ArmRefused, collected_from};
 
@@ -15,7 +15,7 @@ use crate::locking::{DeviceAcquire, Locked, give_up};
 use crate::pass::Pass;
 use drm_job::Job;
 use drm_resv::{Deps, Resv};
-use drm_sched::{Held, Plan, Refusal};
+use drm_sched::{ArmError, Held, Plan};
 use drm_types::{Access, BufferId, FenceId, wanted};
 use std::alloc::{AllocError, Global};
 use std::marker::Model;
@@ -33,7 +33,7 @@ pub struct Planned<'g> {
 impl<'g> Model for Planned<'g> {
     ghost use Rattle.std.specs.Prelude.{◌≡◌, true};
     ghost use Rattle.drm_job.specs.Fault.{IsJob};
-    ghost use Rattle.drm_sched.specs.Held.{kept_of, HaveRoom};
+    ghost use Rattle.drm_table.specs.Held.{kept_of, HaveRoom};
     ghost use Rattle.drm_gpu.specs.Submissions.{PlannedSubmission, submission_of, Holding, HoldsAll, IsCollected};
 
     ghost Value = { PlannedSubmission };
@@ -54,7 +54,7 @@ pub struct Armed<'g> {
 
 impl<'g> Model for Armed<'g> {
     ghost use Rattle.std.specs.Prelude.{◌≡◌, true};
-    ghost use Rattle.drm_sched.specs.Held.{kept_of};
+    ghost use Rattle.drm_table.specs.Held.{kept_of};
     ghost use Rattle.drm_gpu.specs.Passes.{pass_of};
     ghost use Rattle.drm_gpu.specs.Submissions.{ArmedSubmission, Holding};
     ghost use Rattle.ww_lock.specs.Acquiring.{view as view_of};
@@ -143,7 +143,7 @@ impl<'g> Planned<'g> {
     /// # Errors
     ///
     /// Where the device refuses the job. The submission comes back as it was planned.
-    pub fn arm<R: Wait>(self, rt: &R) -> Result<Armed<'g>, (Planned<'g>, Refusal)>
+    pub fn arm<R: Wait>(self, rt: &R) -> Result<Armed<'g>, (Planned<'g>, ArmError)>
         ensures armed { IfOk result (λ a. Calls (ArmIs self.entry.submission.job self.entry.deps self.entry.submission.held a.held a.fence) self.entry.submission.pass a.pass) }
         ensures refused { IfErr result (λ x. Calls (ArmRefused self.entry.submission.job x.1) self.entry.submission.pass x.0.submission.pass × (x.0 ≡ record self.entry { submission = record self.entry.submission { pass = x.0.submission.pass } })) }
     {
@@ -166,9 +166,9 @@ impl<'g> Planned<'g> {
                     fence,
                 })
             }
-            Err((plan, refusal)) => {
+            Err((plan, error)) => {
                 gpu.leave_with(&mut acquire, device, &found);
-                Err((Planned { gpu, acquire, plan }, refusal))
+                Err((Planned { gpu, acquire, plan }, error))
             }
         }
     }

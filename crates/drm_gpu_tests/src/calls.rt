@@ -7,7 +7,7 @@ use crate::job_of;
 use drm_gpu::{Gpu, Locking, Pass, Planned};
 use drm_job::Job;
 use drm_packet::Packet;
-use drm_sched::{Finished, Picked, Refusal, Stepped};
+use drm_sched::{Finished, Picked, ReadError, Stepped};
 use drm_types::{Access, BufferId, EntityId, FenceId, Moment, Outcome, RingId};
 use std::alloc::Global;
 use std::process::Abort;
@@ -195,7 +195,7 @@ pub fn is_busy<R: Wait + Abort>(
     };
     let mut out = [9; 4];
     let read = reading.read_into(&mut out, rt);
-    assert!(rt; matches!(read, Err(Refusal::Busy { fence: it }) if it == fence));
+    assert!(rt; matches!(read, Err(ReadError::Busy { fence: it }) if it == fence));
     assert_eq!(rt; out, [9; 4]);
     reading.release()
 }

@@ -6,7 +6,9 @@ use crate::calls::{begun, finishes, made, picks, planned, reads, runs, steps, su
 use crate::{fill, opened};
 use drm_gpu::{Gpu, Pass, Planned};
 use drm_packet::Packet;
-use drm_sched::{Expired, Finished, Refusal, Stepped};
+use drm_sched::{
+    ArmError, CancelError, Expired, FinishError, Finished, PickError, ReapError, StepError, Stepped,
+};
 use drm_types::Access::Write;
 use drm_types::{Moment, Outcome};
 use std::process::Abort;
@@ -34,14 +36,14 @@ fn hangs<R: Wait + Abort>(gpu: &Gpu, pass: &mut Pass, rt: &R)
     steps(gpu, pass, 0, 0, 0, rt);
     let stalled = gpu.step(pass, 0, rt);
     assert!(rt; matches!(stalled, Ok(Stepped::Stalled { fence: 0 })));
-    assert!(rt; matches!(gpu.finish(pass, 0, 6, rt), Err(Refusal::NotComplete)));
+    assert!(rt; matches!(gpu.finish(pass, 0, 6, rt), Err(FinishError::NotComplete)));
     expires(gpu, pass, 14, Expired::NotYet { due_in: 1 }, rt);
     expires(gpu, pass, 15, Expired::Guilty { entity: 0 }, rt);
-    assert!(rt; matches!(gpu.step(pass, 0, rt), Err(Refusal::Idle)));
+    assert!(rt; matches!(gpu.step(pass, 0, rt), Err(StepError::Idle)));
     expires(gpu, pass, 25, Expired::Complete, rt);
     let outcome = Outcome::Cancelled;
     finishes(gpu, pass, 0, Finished { fence: 0, outcome }, 26, rt);
-    assert!(rt; matches!(gpu.finish(pass, 0, 26, rt), Err(Refusal::Idle)));
+    assert!(rt; matches!(gpu.finish(pass, 0, 26, rt), Err(FinishError::Idle)));
 }
 
 #[test]
@@ -66,22 +68,22 @@ fn stops<R: Wait + Abort>(gpu: &Gpu, pass: &mut Pass, rt: &R)
     requires pass { pass.old.gpu ≡ gpu.now }
     ensures { pass.new.gpu ≡ gpu.now }
 {
-    assert!(rt; matches!(gpu.reap(pass, 0, rt), Err(Refusal::Nothing)));
+    assert!(rt; matches!(gpu.reap(pass, 0, rt), Err(ReapError::Nothing)));
     assert!(rt; gpu.cancel(pass, 0, rt).is_ok());
-    assert!(rt; matches!(gpu.cancel(pass, 0, rt), Err(Refusal::AlreadyStopped)));
-    assert!(rt; matches!(gpu.reap(pass, 0, rt), Err(Refusal::Waits)));
-    assert!(rt; matches!(gpu.pick(pass, 0, 0, rt), Err(Refusal::Idle)));
+    assert!(rt; matches!(gpu.cancel(pass, 0, rt), Err(CancelError::AlreadyStopped)));
+    assert!(rt; matches!(gpu.reap(pass, 0, rt), Err(ReapError::Waits)));
+    assert!(rt; matches!(gpu.pick(pass, 0, 0, rt), Err(PickError::Idle)));
     runs(gpu, pass, 1, 0, (0, 1), rt);
-    assert!(rt; matches!(gpu.pick(pass, 0, 0, rt), Err(Refusal::Idle)));
+    assert!(rt; matches!(gpu.pick(pass, 0, 0, rt), Err(PickError::Idle)));
     assert!(rt; matches!(gpu.reap(pass, 0, rt), Ok(1)));
-    assert!(rt; matches!(gpu.reap(pass, 0, rt), Err(Refusal::Nothing)));
+    assert!(rt; matches!(gpu.reap(pass, 0, rt), Err(ReapError::Nothing)));
 }
 
 // A stopped entity takes no more jobs.
 fn is_stopped<R: Wait + Abort>(planned: Planned, rt: &R) -> Pass
     ensures { result.gpu ≡ planned.entry.submission.pass.gpu }
 {
-    let Err((planned, Refusal::Stopped)) = planned.arm(rt) else {
+    let Err((planned, ArmError::Stopped)) = planned.arm(rt) else {
         panic!(rt; "not stopped")
     };
     let (pass, _job) = planned.abandon();

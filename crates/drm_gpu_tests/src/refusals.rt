@@ -6,7 +6,7 @@ use crate::calls::{begun, made, planned, reads, submitted};
 use crate::{fill, opened, pair};
 use drm_gpu::{Gpu, Locking, NoFence, Pass, Planned};
 use drm_job::Job;
-use drm_sched::{BuildError, Refusal};
+use drm_sched::{ArmError, BuildError};
 use drm_types::Access::Write;
 use drm_types::{BadSpec, BufferId, FenceId};
 use std::alloc::Global;
@@ -28,10 +28,10 @@ fn no_device_without_room_for_a_job(rt: HostRuntime) -> Result<(), Fail> {
 fn is_full<R: Wait + Abort>(planned: Planned, rt: &R) -> Pass
     ensures { result.gpu ≡ planned.entry.submission.pass.gpu }
 {
-    let Err((planned, Refusal::Full)) = planned.arm(rt) else {
+    let Err((planned, ArmError::Full)) = planned.arm(rt) else {
         panic!(rt; "not full")
     };
-    let Err((planned, Refusal::Full)) = planned.arm(rt) else {
+    let Err((planned, ArmError::Full)) = planned.arm(rt) else {
         panic!(rt; "not full")
     };
     let (pass, job) = planned.abandon();

@@ -7,21 +7,25 @@ use Rattle.std.proofs.lemmas.List.{append-nil, length-set, length-map, length-ap
 use Rattle.drm_types.specs.Firsts.{first}
 use Rattle.drm_types.specs.declared.outcome.Outcome.TheVariants as outcome
 use Rattle.drm_packet.specs.declared.Packet.{Packet}
-use Rattle.drm_sched.specs.declared.answer.Answer.{Answer}
-use Rattle.drm_sched.specs.declared.answer.Answer.TheVariants as answer
-use Rattle.drm_sched.specs.declared.answer.Picked.{Picked}
-use Rattle.drm_sched.specs.declared.answer.Stepped.{Stepped}
-use Rattle.drm_sched.specs.declared.answer.Stepped.TheVariants.{Ran, Stalled}
-use Rattle.drm_sched.specs.declared.answer.Finished.{Finished}
-use Rattle.drm_sched.specs.declared.answer.Refusal.{Refusal}
-use Rattle.drm_sched.specs.declared.journal.JobRecord.{JobRecord}
-use Rattle.drm_sched.specs.Arming.{new_record}
-use Rattle.drm_sched.specs.Choice.{choice, queue_of}
-use Rattle.drm_sched.specs.Journal.{changed_at, is_at, is_complete}
+use Rattle.drm_table.specs.declared.answer.Answer.{Answer}
+use Rattle.drm_table.specs.declared.answer.Answer.TheVariants as answer
+use Rattle.drm_table.specs.declared.answer.Picked.{Picked}
+use Rattle.drm_table.specs.declared.answer.Stepped.{Stepped}
+use Rattle.drm_table.specs.declared.answer.Stepped.TheVariants.{Ran, Stalled}
+use Rattle.drm_table.specs.declared.answer.Finished.{Finished}
+use Rattle.drm_table.specs.declared.errors.CancelError.{CancelError}
+use Rattle.drm_table.specs.declared.errors.FinishError.{FinishError}
+use Rattle.drm_table.specs.declared.errors.PickError.{PickError}
+use Rattle.drm_table.specs.declared.errors.ReapError.{ReapError}
+use Rattle.drm_table.specs.declared.errors.StepError.{StepError}
+use Rattle.drm_table.specs.declared.journal.JobRecord.{JobRecord}
+use Rattle.drm_table.specs.Arming.{new_record}
+use Rattle.drm_table.specs.Choice.{choice, queue_of}
+use Rattle.drm_table.specs.Journal.{changed_at, is_at, is_complete}
 use Rattle.drm_sched.specs.Marks.{MarkedDevice}
-use Rattle.drm_sched.specs.Outcomes.{at_record, stepped_by, hang_outcome, timeout_at, is_too_much, must_stall, picked_device, finished_device, final_outcome, pick_outcome, step_outcome, finish_outcome, timeout_outcome, reap_outcome, hung, condemned, ended_at}
-use Rattle.drm_sched.specs.Ring.{current_of, head_of, age_of, limit_of, is_guilty}
-use Rattle.drm_sched.specs.State.{DeviceState}
+use Rattle.drm_table.specs.Outcomes.{at_record, stepped_by, hang_outcome, timeout_at, is_too_much, must_stall, picked_device, finished_device, final_outcome, pick_outcome, step_outcome, finish_outcome, timeout_outcome, reap_outcome, hung, condemned, ended_at}
+use Rattle.drm_table.specs.Ring.{current_of, head_of, age_of, limit_of, is_guilty}
+use Rattle.drm_table.specs.State.{DeviceState}
 use Rattle.drm_gpu.specs.Passes.{PassState, Calls}
 use Rattle.drm_gpu.specs.Answers.{PickIs, StepIs, FinishIs, TimeoutIs, CancelIs, ReapIs, CountsAre}
 use Rattle.drm_gpu.specs.Submissions.{ArmRefused}
@@ -127,24 +131,24 @@ arms_the_fence job deps held kept fence old new call =
       (new_record d.state job, ap (λ rs. slice_get rs fence) journal ∙ (ap (slice_get (d.state.journal ++ new_record d.state job ∷ [])) call.event.number ∙ last_at d.state.journal (new_record d.state job)), refl),
     )
 
-picked_same : (ring now : ℕ) (a : Result Picked Refusal) (d e : MarkedDevice) → PickIs ring now a d e → count_of e ≡ count_of d
+picked_same : (ring now : ℕ) (a : Result Picked PickError) (d e : MarkedDevice) → PickIs ring now a d e → count_of e ≡ count_of d
 picked_same ring now (Ok p) d e is = says d e _ (pick_outcome d.state ring now) is.1 (picks d.state ring now)
 picked_same ring now (Err r) d e is = ap count_of is.1
 
-stepped_same : (ring : ℕ) (a : Result Stepped Refusal) (d e : MarkedDevice) → StepIs ring a d e → count_of e ≡ count_of d
+stepped_same : (ring : ℕ) (a : Result Stepped StepError) (d e : MarkedDevice) → StepIs ring a d e → count_of e ≡ count_of d
 stepped_same ring (Ok (Ran fence packet)) d e is = says d e _ (step_outcome d.state ring) is.7 (steps d.state ring)
 stepped_same ring (Ok (Stalled fence)) d e is = ap count_of is.3
 stepped_same ring (Err r) d e is = ap count_of is.2
 
-finished_same : (ring now : ℕ) (a : Result Finished Refusal) (d e : MarkedDevice) → FinishIs ring now a d e → count_of e ≡ count_of d
+finished_same : (ring now : ℕ) (a : Result Finished FinishError) (d e : MarkedDevice) → FinishIs ring now a d e → count_of e ≡ count_of d
 finished_same ring now (Ok f) d e is = says d e _ (finish_outcome d.state ring now) is.2 (finishes d.state ring now)
 finished_same ring now (Err r) d e is = ap count_of is.2
 
-cancelled_same : (entity : ℕ) (a : Result (Unit {0}) Refusal) (d e : MarkedDevice) → CancelIs entity a d e → count_of e ≡ count_of d
+cancelled_same : (entity : ℕ) (a : Result (Unit {0}) CancelError) (d e : MarkedDevice) → CancelIs entity a d e → count_of e ≡ count_of d
 cancelled_same entity (Ok u) d e is = ap (λ (s : DeviceState). length s.journal) is.1
 cancelled_same entity (Err r) d e is = ap count_of is.1
 
-reaped_same : (entity : ℕ) (a : Result ℕ Refusal) (d e : MarkedDevice) → ReapIs entity a d e → count_of e ≡ count_of d
+reaped_same : (entity : ℕ) (a : Result ℕ ReapError) (d e : MarkedDevice) → ReapIs entity a d e → count_of e ≡ count_of d
 reaped_same entity (Ok f) d e is = says d e _ (reap_outcome d.state entity) is.1 (reaps d.state entity)
 reaped_same entity (Err r) d e is = ap count_of is.1
 

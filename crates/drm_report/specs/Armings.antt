@@ -5,11 +5,16 @@ use Rattle.ww_lock.specs.Rule.{In}
 use Rattle.ww_lock.specs.Steps.{IsChain}
 use Rattle.drm_sched.specs.Marks.{MarkedDevice}
 use Rattle.drm_resv.specs.Reservation.{Reservation}
-use Rattle.drm_sched.specs.declared.answer.Picked.{Picked}
-use Rattle.drm_sched.specs.declared.answer.Stepped.{Stepped}
-use Rattle.drm_sched.specs.declared.answer.Finished.{Finished}
-use Rattle.drm_sched.specs.declared.answer.Expired.{Expired}
-use Rattle.drm_sched.specs.declared.answer.Refusal.{Refusal}
+use Rattle.drm_table.specs.declared.answer.Picked.{Picked}
+use Rattle.drm_table.specs.declared.answer.Stepped.{Stepped}
+use Rattle.drm_table.specs.declared.answer.Finished.{Finished}
+use Rattle.drm_table.specs.declared.answer.Expired.{Expired}
+use Rattle.drm_table.specs.declared.errors.ArmError.{ArmError}
+use Rattle.drm_table.specs.declared.errors.CancelError.{CancelError}
+use Rattle.drm_table.specs.declared.errors.FinishError.{FinishError}
+use Rattle.drm_table.specs.declared.errors.PickError.{PickError}
+use Rattle.drm_table.specs.declared.errors.ReapError.{ReapError}
+use Rattle.drm_table.specs.declared.errors.StepError.{StepError}
 use Rattle.drm_gpu.specs.Passes.{PassState, Calls, GrowsTo, IsJoinedOf}
 use Rattle.drm_gpu.specs.Answers.{PickIs, StepIs, FinishIs, TimeoutIs, CancelIs, ReapIs, CountsAre}
 use Rattle.drm_gpu.specs.Submissions.{ArmIs, ArmRefused}
@@ -59,11 +64,11 @@ ArmsTheFence = (job : Draft) (deps : List (ℕ × ℕ)) (held kept : List (ℕ �
 -- of the calls by which a pass submits to the device and drives it only armings arm
 pub record OnlyArmingsArm : Type 0 where
   pub arm : ArmsTheFence
-  pub refused : (job : Draft) (r : Refusal) → ArmsNothing (ArmRefused job r)
-  pub pick : (ring now : ℕ) (answer : Result Picked Refusal) → ArmsNothing (PickIs ring now answer)
-  pub step : (ring : ℕ) (answer : Result Stepped Refusal) → ArmsNothing (StepIs ring answer)
-  pub finish : (ring now : ℕ) (answer : Result Finished Refusal) → ArmsNothing (FinishIs ring now answer)
+  pub refused : (job : Draft) (r : ArmError) → ArmsNothing (ArmRefused job r)
+  pub pick : (ring now : ℕ) (answer : Result Picked PickError) → ArmsNothing (PickIs ring now answer)
+  pub step : (ring : ℕ) (answer : Result Stepped StepError) → ArmsNothing (StepIs ring answer)
+  pub finish : (ring now : ℕ) (answer : Result Finished FinishError) → ArmsNothing (FinishIs ring now answer)
   pub timeout : (ring now : ℕ) (answer : Expired) → ArmsNothing (TimeoutIs ring now answer)
-  pub cancel : (entity : ℕ) (answer : Result (Unit {0}) Refusal) → ArmsNothing (CancelIs entity answer)
-  pub reap : (entity : ℕ) (answer : Result ℕ Refusal) → ArmsNothing (ReapIs entity answer)
+  pub cancel : (entity : ℕ) (answer : Result (Unit {0}) CancelError) → ArmsNothing (CancelIs entity answer)
+  pub reap : (entity : ℕ) (answer : Result ℕ ReapError) → ArmsNothing (ReapIs entity answer)
   pub counts : (counts : ℕ × ℕ) → ArmsNothing (CountsAre counts)

@@ -1,6 +1,6 @@
 -- The first ready head by priority and number is the ring's choice.
-use Rattle.std.proofs.Common.{◌≡◌, ℕ, zero, suc, ◌+◌, ◌<◌, Bool, true, false, ◌&&◌, ◌||◌, ◌==◌, cond, List, [], ◌∷◌, ◌++◌, map, Some, None, Option, refl, sym, ap, subst, ◌∙◌, arith, slice_get}
-use Rattle.std.specs.Prelude.{IsTrue, filter, find, nat_lt, option_map}
+use Rattle.std.proofs.Common.{◌≡◌, ℕ, ◌+◌, ◌<◌, Bool, true, false, ◌&&◌, ◌||◌, ◌==◌, List, [], ◌∷◌, ◌++◌, Some, None, Option, refl, sym, ap, subst, ◌∙◌, arith, slice_get}
+use Rattle.std.specs.Prelude.{IsTrue, filter, nat_lt, option_map}
 use Rattle.std.proofs.lemmas.Bool.{and_parts, and_from, or_right, both_ways, eq-eqb, lt-ltb}
 use Rattle.drm_types.specs.Firsts.{first}
 use Rattle.drm_types.specs.Priorities.{rank_of}
@@ -8,12 +8,13 @@ use Rattle.drm_types.specs.declared.spec.Priority.{Priority}
 use Rattle.drm_types.specs.declared.spec.Priority.TheVariants.{Kernel, High, Normal, Low}
 use Rattle.drm_runq.specs.declared.key.Key.{Key}
 use Rattle.drm_sched.specs.Candidates.{IsHeadCandidate, goes_first}
-use Rattle.drm_sched.specs.declared.journal.JobRecord.{JobRecord}
-use Rattle.drm_sched.specs.State.{DeviceState}
-use Rattle.drm_sched.specs.Journal.{numbered}
-use Rattle.drm_sched.specs.Order.{is_ready}
-use Rattle.drm_sched.specs.Choice.{is_head_of, may_begin, ready_heads, choice}
-use Rattle.drm_sched.proofs.ChoiceIs.{is_ready_head, numbered_get, get_numbered, first-filter}
+use Rattle.drm_table.specs.declared.journal.JobRecord.{JobRecord}
+use Rattle.drm_table.specs.State.{DeviceState}
+use Rattle.drm_table.specs.Journal.{numbered}
+use Rattle.drm_table.specs.Order.{is_ready}
+use Rattle.drm_table.specs.Choice.{is_head_of, may_begin, ready_heads, choice}
+use Rattle.drm_table.proofs.Found.{find_at, find_none, first_map}
+use Rattle.drm_table.proofs.ChoiceIs.{is_ready_head, numbered_get, get_numbered, first-filter}
 
 -- the entity's head was answered true, and each that comes before it false
 pub record IsFirstReady (Answers : ℕ → Bool → Type 0) (device : DeviceState) (ring entity : ℕ) : Type 0 where
@@ -25,23 +26,6 @@ pub record IsFirstReady (Answers : ℕ → Bool → Type 0) (device : DeviceStat
 -- each head was answered false
 abbrev pub NoneReady : (ℕ → Bool → Type 0) → DeviceState → ℕ → Type 0
 NoneReady Answers device ring = (other : ℕ) (k : Key) → IsHeadCandidate device ring other k → Answers other false
-
--- the first that is found, and that none is found
-pub find_at : {X : Type 0} (p : X → Bool) (xs : List X) (k : ℕ) (x : X) → slice_get xs k ≡ Some x → p x ≡ true
-    → ((i : ℕ) (y : X) → i < k → slice_get xs i ≡ Some y → p y ≡ false) → find p xs ≡ Some x
-find_at p [] k x at is before = absurd (cc (at))
-find_at p (y ∷ ys) zero x at is before =
-    let same : y ≡ x = cc (at) in ap (λ t. cond t (Some y) (find p ys)) (ap p same ∙ is) ∙ ap (λ z. Some z) same
-find_at p (y ∷ ys) (suc k) x at is before =
-    ap (λ t. cond t (Some y) (find p ys)) (before 0 y (omega arith) refl) ∙ find_at p ys k x at is (λ i z lt. before (suc i) z (omega (arith, lt)))
-
-pub find_none : {X : Type 0} (p : X → Bool) (xs : List X) → ((i : ℕ) (y : X) → slice_get xs i ≡ Some y → p y ≡ false) → find p xs ≡ None
-find_none p [] each = refl
-find_none p (y ∷ ys) each = ap (λ t. cond t (Some y) (find p ys)) (each 0 y refl) ∙ find_none p ys (λ i z. each (suc i) z)
-
-pub first_map : {X Y : Type 0} (f : X → Y) (xs : List X) → first (map f xs) ≡ option_map f (first xs)
-first_map f [] = refl
-first_map f (x ∷ xs) = refl
 
 first_append : {X : Type 0} (xs ys : List X) (o : Option X) → first xs ≡ None → first ys ≡ o → first (xs ++ ys) ≡ o
 first_append [] ys o none is = is

@@ -10,19 +10,19 @@ use Rattle.drm_packet.specs.declared.Packet.{Packet}
 use Rattle.drm_packet.specs.Laws.{PacketsFitTheirParts}
 use Rattle.drm_packet.specs.Parts.{target_of, other_bytes, fits_parts}
 use Rattle.drm_packet.specs.Touches.{touches, is_in_range}
-use Rattle.drm_sched.specs.declared.journal.JobRecord.{JobRecord}
+use Rattle.drm_table.specs.declared.journal.JobRecord.{JobRecord}
 use Rattle.drm_sched.specs.declared.marked.OutMark.{OutMark}
 use Rattle.drm_sched.specs.declared.marked.MarkedTable.{MarkedTable}
-use Rattle.drm_sched.specs.declared.table.Table.{Table}
+use Rattle.drm_table.specs.declared.table.Table.{Table}
 use Rattle.drm_sched.specs.Marks.{Mark, mark_of, mark_for, ring_out, buffer_out, is_in_way, begun_device, IsSteadyMarked}
 use Rattle.drm_sched.specs.MarkedTables.{mark_of_row, marked_of, IsWholeMarked, HasOut}
-use Rattle.drm_sched.specs.Outcomes.{must_stall}
-use Rattle.drm_sched.specs.Ring.{current_of}
-use Rattle.drm_sched.specs.Tables.{state_of, IsWhole}
+use Rattle.drm_table.specs.Outcomes.{must_stall}
+use Rattle.drm_table.specs.Ring.{current_of}
+use Rattle.drm_table.specs.Tables.{state_of, IsWhole}
 use Rattle.drm_sched.proofs.MarkedBuffers.{set_both, begun_out}
 use Rattle.drm_sched.proofs.MarkedOut.{asks_is, next_is_in}
 use Rattle.drm_sched.proofs.MarksKept.{begun_steady}
-use Rattle.drm_sched.proofs.TableFacts.{neither}
+use Rattle.drm_table.proofs.TableFacts.{neither}
 
 -- the ring's next packet, which may go out
 pub record MayGo (d : MarkedTable) (ring f : ℕ) (r : JobRecord) (p : Packet) : Type 0 where

@@ -5,27 +5,28 @@ use Rattle.std.specs.Prelude.{IfOk, IfErr, Contains}
 use Rattle.drm_types.specs.declared.spec.DeviceSpec.{DeviceSpec}
 use Rattle.drm_packet.specs.declared.Packet.{Packet}
 use Rattle.drm_packet.specs.Touches.{touches}
-use Rattle.drm_sched.specs.declared.answer.Stepped.{Stepped}
-use Rattle.drm_sched.specs.declared.answer.Answer.{Answer}
-use Rattle.drm_sched.specs.declared.answer.Answer.TheVariants as answer
-use Rattle.drm_sched.specs.declared.answer.Refusal.{Refusal}
-use Rattle.drm_sched.specs.declared.journal.JobRecord.{JobRecord}
-use Rattle.drm_sched.specs.declared.table.Table.{Table}
+use Rattle.drm_table.specs.declared.answer.Stepped.{Stepped}
+use Rattle.drm_table.specs.declared.answer.Answer.{Answer}
+use Rattle.drm_table.specs.declared.answer.Answer.TheVariants as answer
+use Rattle.drm_table.specs.declared.errors.StepError.{StepError}
+use Rattle.drm_table.specs.Errors.{refusal_of_step}
+use Rattle.drm_table.specs.declared.journal.JobRecord.{JobRecord}
+use Rattle.drm_table.specs.declared.table.Table.{Table}
 use Rattle.drm_sched.specs.declared.marked.MarkedTable.{MarkedTable}
-use Rattle.drm_sched.specs.Answers.{stepped}
-use Rattle.drm_sched.specs.Journal.{is_at}
+use Rattle.drm_table.specs.Answers.{stepped}
+use Rattle.drm_table.specs.Journal.{is_at}
 use Rattle.drm_sched.specs.Marks.{Mark, mark_of, packet_at, out_by, ring_out, buffer_out, is_in_way, IsOut}
 use Rattle.drm_sched.specs.MarkedTables.{marked_of, IsWholeMarked}
-use Rattle.drm_sched.specs.Outcomes.{must_stall, at_record, stepped_by, ran_device, step_outcome}
-use Rattle.drm_sched.specs.Refusals.{step_refusal}
-use Rattle.drm_sched.specs.Ring.{current_of}
-use Rattle.drm_sched.specs.State.{DeviceState}
-use Rattle.drm_sched.specs.Tables.{state_of, IsWhole}
-use Rattle.drm_sched.proofs.Records.{changed_is}
-use Rattle.drm_sched.proofs.RanLawful.{current_is, one_more_ran}
-use Rattle.drm_sched.proofs.DeviceSteps.{at_record_is}
+use Rattle.drm_table.specs.Outcomes.{must_stall, at_record, stepped_by, ran_device, step_outcome}
+use Rattle.drm_table.specs.Refusals.{step_refusal}
+use Rattle.drm_table.specs.Ring.{current_of}
+use Rattle.drm_table.specs.State.{DeviceState}
+use Rattle.drm_table.specs.Tables.{state_of, IsWhole}
+use Rattle.drm_table.proofs.Records.{changed_is}
+use Rattle.drm_table.proofs.RanLawful.{current_is, one_more_ran}
+use Rattle.drm_table.proofs.DeviceSteps.{at_record_is}
 use Rattle.drm_sched.proofs.DeviceGrows.{step_grown}
-use Rattle.drm_sched.proofs.TableFacts.{neither}
+use Rattle.drm_table.proofs.TableFacts.{neither}
 use Rattle.drm_sched.proofs.Marks.{ran_leaves_out}
 use Rattle.drm_sched.proofs.MarksKept.{is_out_at, next_is_free, touches_out, same_packet}
 use Rattle.drm_sched.proofs.MarkedDone.{ring_is_there, apart_from}
@@ -99,10 +100,10 @@ step_stays d ring k m w there free is = by_current (current_of device ring) refl
         at_record_is (λ q. Stays device q.1 k m) device (λ number r. option_map_or (stepped_by device number) (slice_get r.job.packets r.ran) (answer.Ok, device)) (answer.Ok, device) f c.0 c.1.at
         (by_packet f c.0 c.1.at now (slice_get c.0.job.packets c.0.ran) refl)
 
-pub step_marked : (d : MarkedTable) (n : Table) (ring : ℕ) (r : Result Stepped Refusal) → IsWholeMarked d → ring < length d.table.spec.rings → IsWhole n
+pub step_marked : (d : MarkedTable) (n : Table) (ring : ℕ) (r : Result Stepped StepError) → IsWholeMarked d → ring < length d.table.spec.rings → IsWhole n
     → n.memory.out ≡ d.table.memory.out → is_in_way (marked_of d) ring ≡ false
     → IfOk r (λ s. (step_refusal (state_of d.table) ring ≡ None) × (step_outcome (state_of d.table) ring ≡ (stepped s, state_of n)))
-    → IfErr r (λ e. (step_refusal (state_of d.table) ring ≡ Some e) × (n ≡ d.table)) → IsWholeMarked (record d { table = n })
+    → IfErr r (λ e. (step_refusal (state_of d.table) ring ≡ Some (refusal_of_step e)) × (n ≡ d.table)) → IsWholeMarked (record d { table = n })
 step_marked d n ring (Ok s) w there whole out free ok err =
     kept_by d n w whole (step_grown d.table n ring (Ok s) w.table there ok err).spec out
     (λ k m is. subst (λ (q : Answer × DeviceState). Stays (state_of d.table) q.1 k m) ok.1 (step_stays d ring k m w there free is))

@@ -3,19 +3,20 @@
 use Rattle.std.proofs.Common.{◌≡◌, ℕ, ◌<◌, ◌∙◌, length, set, Some, None, Option, Result, Ok, Err, sym, ap, subst, slice_get}
 use Rattle.std.specs.Option.{option_map_or}
 use Rattle.std.specs.Prelude.{IfOk, IfErr, option_map}
-use Rattle.drm_sched.specs.declared.answer.Refusal.{Refusal}
+use Rattle.drm_table.specs.declared.errors.StepError.{StepError}
+use Rattle.drm_table.specs.Errors.{refusal_of_step}
 use Rattle.drm_sched.specs.declared.marked.Begun.{Begun}
 use Rattle.drm_sched.specs.declared.marked.Begun.TheVariants.{Work, Stalled}
 use Rattle.drm_sched.specs.declared.marked.MarkedTable.{MarkedTable}
-use Rattle.drm_sched.specs.declared.journal.JobRecord.{JobRecord}
+use Rattle.drm_table.specs.declared.journal.JobRecord.{JobRecord}
 use Rattle.drm_sched.specs.Begun.{HasBegun, HasReported, KeepsTasks, MayComeBack, out_or}
 use Rattle.drm_packet.specs.Parts.{part_effect}
 use Rattle.drm_sched.specs.Marks.{Mark, MarkedDevice, IsBusy, is_in_way, mark_for, mark_of, packet_at}
 use Rattle.drm_sched.specs.MarkedTables.{marked_of, IsWholeMarked}
-use Rattle.drm_sched.specs.Refusals.{step_refusal}
-use Rattle.drm_sched.specs.Tables.{state_of}
-use Rattle.drm_sched.proofs.Records.{stands_within}
-use Rattle.drm_sched.proofs.Pairs.{get_set_same, get_set_other}
+use Rattle.drm_table.specs.Refusals.{step_refusal}
+use Rattle.drm_table.specs.Tables.{state_of}
+use Rattle.drm_table.proofs.Records.{stands_within}
+use Rattle.drm_table.proofs.Pairs.{get_set_same, get_set_other}
 
 -- whatever the mark of the ring becomes
 still_busy : (d new : MarkedDevice) (ring : ℕ) (change : Option Mark) → new.marks ≡ set d.marks ring change → KeepsTasks d ring new
@@ -28,9 +29,9 @@ begun_keeps d new ring (Work fence packet copy write read) (job, at, current, co
     still_busy d new ring (Some _) (ap (λ (n : MarkedDevice). n.marks) new_is)
 begun_keeps d new ring (Stalled fence) (stepped, same) = λ task other busy. subst (λ n. IsBusy n task) (sym same) busy
 
-pub begin_keeps : (d new : MarkedTable) (ring : ℕ) (r : Result Begun Refusal)
+pub begin_keeps : (d new : MarkedTable) (ring : ℕ) (r : Result Begun StepError)
     → IfOk r (λ b. (out_or (is_in_way (marked_of d) ring) (step_refusal (state_of d.table) ring) ≡ None) × HasBegun (marked_of d) ring b (marked_of new))
-    → IfErr r (λ e. (out_or (is_in_way (marked_of d) ring) (step_refusal (state_of d.table) ring) ≡ Some e) × (new ≡ d)) → KeepsTasks (marked_of d) ring (marked_of new)
+    → IfErr r (λ e. (out_or (is_in_way (marked_of d) ring) (step_refusal (state_of d.table) ring) ≡ Some (refusal_of_step e)) × (new ≡ d)) → KeepsTasks (marked_of d) ring (marked_of new)
 begin_keeps d new ring (Ok b) ok err = begun_keeps (marked_of d) (marked_of new) ring b ok.1
 begin_keeps d new ring (Err e) ok err = λ task other busy. subst (λ n. IsBusy (marked_of n) task) (sym err.1) busy
 
@@ -49,7 +50,7 @@ begun_back d new ring (Work fence packet copy write read) here (job, at, current
     (m, copy, mark, there, ran, read_is)
 begun_back d new ring (Stalled fence) here begun = tt
 
-pub begin_back : (d new : MarkedTable) (ring : ℕ) (r : Result Begun Refusal) → IsWholeMarked d → ring < length d.table.spec.rings
+pub begin_back : (d new : MarkedTable) (ring : ℕ) (r : Result Begun StepError) → IsWholeMarked d → ring < length d.table.spec.rings
     → IfOk r (λ b. (out_or (is_in_way (marked_of d) ring) (step_refusal (state_of d.table) ring) ≡ None) × HasBegun (marked_of d) ring b (marked_of new))
     → IfOk r (MayComeBack (marked_of new) ring)
 begin_back d new ring (Ok b) w there ok = begun_back (marked_of d) (marked_of new) ring b (subst (λ n. ring < n) (sym w.steady.count) there) ok.1

@@ -6,41 +6,45 @@ use Rattle.drm_types.specs.declared.spec.DeviceSpec.{DeviceSpec}
 use Rattle.drm_types.specs.Firsts.{first, is_nil, when}
 use Rattle.drm_fence.specs.declared.pair.Pair.{Pair}
 use Rattle.drm_fence.specs.Waiting.{Waiting}
-use Rattle.drm_sched.specs.declared.answer.Refusal.TheVariants.{AlreadyStopped}
+use Rattle.drm_table.specs.declared.answer.Refusal.TheVariants.{AlreadyStopped}
 use Rattle.drm_sched.specs.Marks.{unmarked}
-use Rattle.drm_sched.specs.Ring.{is_stopped}
+use Rattle.drm_table.specs.Ring.{is_stopped}
 use Rattle.drm_entity.specs.Rows.{queue_at}
 use Rattle.drm_job.specs.declared.Draft.{Draft}
 use Rattle.drm_job.specs.Fault.{IsJob}
-use Rattle.drm_sched.specs.Arming.{armed_device}
-use Rattle.drm_sched.specs.Choice.{queue_of}
-use Rattle.drm_sched.proofs.ArmDone.{few_entities}
+use Rattle.drm_table.specs.Arming.{armed_device}
+use Rattle.drm_table.specs.Choice.{queue_of}
+use Rattle.drm_table.proofs.ArmDone.{few_entities}
 use Rattle.drm_sched.proofs.HeadsArmed.{cancel_stand, arm_stand, arm_stand_but}
 use Rattle.drm_sched.proofs.HeadsKept.{empty_key, empty_watched, no_front, front_found}
 use Rattle.std.proofs.lemmas.List.{length-map, length-replicate}
 use Rattle.drm_fence.specs.declared.phase.Phase.TheVariants.{Scheduled}
-use Rattle.drm_sched.specs.declared.answer.Answer.TheVariants as answer
-use Rattle.drm_sched.specs.declared.answer.Picked.{Picked}
-use Rattle.drm_sched.specs.declared.journal.JobRecord.{JobRecord}
-use Rattle.drm_sched.specs.Plain.{marks_of}
-use Rattle.drm_sched.proofs.Pairs.{get_set_same}
-use Rattle.drm_sched.proofs.TableFacts.{entity_there}
-use Rattle.drm_sched.specs.declared.answer.Expired.{Expired}
-use Rattle.drm_sched.specs.declared.answer.Refusal.{Refusal}
-use Rattle.drm_sched.specs.declared.answer.Stepped.{Stepped}
+use Rattle.drm_table.specs.declared.answer.Answer.TheVariants as answer
+use Rattle.drm_table.specs.declared.answer.Picked.{Picked}
+use Rattle.drm_table.specs.declared.journal.JobRecord.{JobRecord}
+use Rattle.drm_table.specs.Plain.{marks_of}
+use Rattle.drm_table.proofs.Pairs.{get_set_same}
+use Rattle.drm_table.proofs.TableFacts.{entity_there}
+use Rattle.drm_table.specs.declared.answer.Expired.{Expired}
+use Rattle.drm_table.specs.declared.answer.Refusal.{Refusal}
+use Rattle.drm_table.specs.declared.errors.CancelError.{CancelError}
+use Rattle.drm_table.specs.declared.errors.StepError.{StepError}
+use Rattle.drm_table.specs.declared.errors.TimeoutError.{TimeoutError}
+use Rattle.drm_table.specs.Errors.{refusal_of_cancel, refusal_of_step, refusal_of_timeout}
+use Rattle.drm_table.specs.declared.answer.Stepped.{Stepped}
 use Rattle.drm_sched.specs.declared.heads.Heads.{Heads}
 use Rattle.drm_sched.specs.declared.marked.Begun.{Begun}
 use Rattle.drm_sched.specs.declared.marked.Begun.TheVariants.{Work, Stalled}
 use Rattle.drm_sched.specs.declared.marked.MarkedTable.{MarkedTable}
-use Rattle.drm_sched.specs.Answers.{picked, stepped, timed_out}
+use Rattle.drm_table.specs.Answers.{picked, stepped, timed_out}
 use Rattle.drm_sched.specs.Begun.{HasBegun, HasReported, out_or}
 use Rattle.drm_sched.specs.Heads.{HeadsStand, HeadsStandBut}
 use Rattle.drm_sched.specs.Marks.{MarkedDevice, ring_out, is_in_way}
 use Rattle.drm_sched.specs.MarkedTables.{marked_of, IsWholeMarked}
-use Rattle.drm_sched.specs.Outcomes.{cancelled_device, pick_outcome, step_outcome, timeout_outcome}
-use Rattle.drm_sched.specs.Refusals.{cancel_refusal, pick_refusal, step_refusal}
-use Rattle.drm_sched.specs.State.{DeviceState, opened_device}
-use Rattle.drm_sched.specs.Tables.{state_of}
+use Rattle.drm_table.specs.Outcomes.{cancelled_device, pick_outcome, step_outcome, timeout_outcome}
+use Rattle.drm_table.specs.Refusals.{cancel_refusal, pick_refusal, step_refusal}
+use Rattle.drm_table.specs.State.{DeviceState, opened_device}
+use Rattle.drm_table.specs.Tables.{state_of}
 use Rattle.drm_sched.proofs.HeadEvents.{stand_after, all_by, step_all, timeout_all, PicksJob, pick_picks}
 use Rattle.drm_sched.proofs.MarkedDone.{ring_is_there}
 
@@ -55,18 +59,18 @@ beside_same d n h is stand = subst (λ m. StandBeside m h) (sym is) stand
 same_state : (d n : MarkedTable) (h : Heads) → state_of n.table ≡ state_of d.table → n.table.waits.lists ≡ d.table.waits.lists → StandBeside d h → StandBeside n h
 same_state d n h state waits stand = subst (λ ws. HeadsStand (state_of n.table) ws h) (sym waits) (subst (λ s. HeadsStand s d.table.waits.lists h) (sym state) stand)
 
-pub step_beside : (d n : MarkedTable) (h : Heads) (ring : ℕ) (r : Result Stepped Refusal) → IsWholeMarked d → ring < length d.table.spec.rings
+pub step_beside : (d n : MarkedTable) (h : Heads) (ring : ℕ) (r : Result Stepped StepError) → IsWholeMarked d → ring < length d.table.spec.rings
     → IfOk r (λ s. (out_or (is_in_way (marked_of d) ring) (step_refusal (state_of d.table) ring) ≡ None) × (step_outcome (state_of d.table) ring ≡ (stepped s, state_of n.table)))
-    → IfErr r (λ e. (out_or (is_in_way (marked_of d) ring) (step_refusal (state_of d.table) ring) ≡ Some e) × (n ≡ d))
+    → IfErr r (λ e. (out_or (is_in_way (marked_of d) ring) (step_refusal (state_of d.table) ring) ≡ Some (refusal_of_step e)) × (n ≡ d))
     → n.table.waits.lists ≡ d.table.waits.lists → StandBeside d h → StandBeside n h
 step_beside d n h ring (Ok s) w there ok err waits stand =
     stand_after (state_of d.table) (state_of n.table) d.table.waits.lists n.table.waits.lists h
     (all_by (state_of d.table) (state_of n.table) (stepped s) _ ok.1 (step_all (state_of d.table) ring w.steady.state there)) waits stand
 step_beside d n h ring (Err e) w there ok err waits stand = beside_same d n h err.1 stand
 
-pub timeout_beside : (d n : MarkedTable) (h : Heads) (ring now : ℕ) (r : Result Expired Refusal) → IsWholeMarked d → ring < length d.table.spec.rings
+pub timeout_beside : (d n : MarkedTable) (h : Heads) (ring now : ℕ) (r : Result Expired TimeoutError) → IsWholeMarked d → ring < length d.table.spec.rings
     → IfOk r (λ x. (out_or (ring_out (marked_of d) ring) None ≡ None) × (timeout_outcome (state_of d.table) ring now ≡ (timed_out x, state_of n.table)))
-    → IfErr r (λ e. (out_or (ring_out (marked_of d) ring) None ≡ Some e) × (n ≡ d))
+    → IfErr r (λ e. (out_or (ring_out (marked_of d) ring) None ≡ Some (refusal_of_timeout e)) × (n ≡ d))
     → n.table.waits.lists ≡ d.table.waits.lists → StandBeside d h → StandBeside n h
 timeout_beside d n h ring now (Ok x) w there ok err waits stand =
     stand_after (state_of d.table) (state_of n.table) d.table.waits.lists n.table.waits.lists h
@@ -79,9 +83,9 @@ report_beside d n h ring ran w (m, p, is, at, ran_is, left, may, stepped_is) wai
     stand_after (state_of d.table) (state_of n.table) d.table.waits.lists n.table.waits.lists h
     (all_by (state_of d.table) (state_of n.table) (answer.Ran m.fence m.packet) _ stepped_is (step_all (state_of d.table) ring w.steady.state (ring_is_there d ring m w is))) waits stand
 
-pub begin_beside : (d n : MarkedTable) (h : Heads) (ring : ℕ) (r : Result Begun Refusal)
+pub begin_beside : (d n : MarkedTable) (h : Heads) (ring : ℕ) (r : Result Begun StepError)
     → IfOk r (λ b. (out_or (is_in_way (marked_of d) ring) (step_refusal (state_of d.table) ring) ≡ None) × HasBegun (marked_of d) ring b (marked_of n))
-    → IfErr r (λ e. (out_or (is_in_way (marked_of d) ring) (step_refusal (state_of d.table) ring) ≡ Some e) × (n ≡ d))
+    → IfErr r (λ e. (out_or (is_in_way (marked_of d) ring) (step_refusal (state_of d.table) ring) ≡ Some (refusal_of_step e)) × (n ≡ d))
     → n.table.waits.lists ≡ d.table.waits.lists → StandBeside d h → StandBeside n h
 begin_beside d n h ring (Ok (Work fence packet copy write read)) ok err waits stand =
     same_state d n h (ap (λ (m : MarkedDevice). m.state) ok.1.8) waits stand
@@ -143,21 +147,21 @@ opened_beside d h spec opened waits queues waiters =
     }
 
 -- a call that nothing refuses is not refused
-pub never_refused : {X : Type 0} (r : Result X Refusal) (o : Option Refusal) (P Q : Refusal → Type 0) → o ≡ None → IfErr r (λ e. (o ≡ Some e) × P e) → IfErr r Q
-never_refused (Ok x) o P Q none refused = refused
-never_refused (Err e) o P Q none refused = absurd (let clash : None ≡ Some e = sym none ∙ refused.0 in cc (clash))
+pub never_refused : {X E : Type 0} (r : Result X E) (told : E → Refusal) (o : Option Refusal) (P Q : E → Type 0) → o ≡ None → IfErr r (λ e. (o ≡ Some (told e)) × P e) → IfErr r Q
+never_refused (Ok x) told o P Q none refused = refused
+never_refused (Err e) told o P Q none refused = absurd (let clash : None ≡ Some (told e) = sym none ∙ refused.0 in cc (clash))
 
-pub cancel_beside : (d n : MarkedTable) (h : Heads) (entity : ℕ) (r : Result (Unit {0}) Refusal) → IsWholeMarked d → entity < length d.table.spec.entities
+pub cancel_beside : (d n : MarkedTable) (h : Heads) (entity : ℕ) (r : Result (Unit {0}) CancelError) → IsWholeMarked d → entity < length d.table.spec.entities
     → is_stopped (state_of d.table) entity ≡ false
     → OnOk r ((cancel_refusal (state_of d.table) entity ≡ None) × (state_of n.table ≡ cancelled_device (state_of d.table) entity))
-    → IfErr r (λ e. (cancel_refusal (state_of d.table) entity ≡ Some e) × (n ≡ d))
+    → IfErr r (λ e. (cancel_refusal (state_of d.table) entity ≡ Some (refusal_of_cancel e)) × (n ≡ d))
     → n.table.waits.lists ≡ d.table.waits.lists → HeadsStandBut (state_of d.table) d.table.waits.lists entity h → StandBeside n h
 cancel_beside d n h entity (Ok u) w there going ok err waits but =
     let count = w.steady.state.lawful.entity_count in
     subst (λ ws. HeadsStand (state_of n.table) ws h) (sym waits)
     (subst (λ s. HeadsStand s d.table.waits.lists h) (sym ok.1) (cancel_stand (state_of d.table) d.table.waits.lists entity h (omega (arith, there, count)) but))
 cancel_beside d n h entity (Err e) w there going ok err waits but =
-    absurd (let clash : None ≡ Some e = sym (ap (λ b. when b AlreadyStopped) going) ∙ err.0 in cc (clash))
+    absurd (let clash : None ≡ Some (refusal_of_cancel e) = sym (ap (λ b. when b AlreadyStopped) going) ∙ err.0 in cc (clash))
 
 -- an arming, where the entity has nothing queued, and where it has
 nothing_first : (xs : List ℕ) → is_nil xs ≡ true → first xs ≡ None

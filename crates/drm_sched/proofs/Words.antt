@@ -12,38 +12,43 @@ use Rattle.drm_fence.specs.declared.phase.Phase.{Phase}
 use Rattle.drm_fence.specs.declared.phase.Phase.TheVariants.{Queued, Scheduled, Ended}
 use Rattle.drm_fence.specs.Phases.{is_queued}
 use Rattle.drm_resv.specs.Reservation.{Reservation}
-use Rattle.drm_sched.specs.declared.answer.Expired.{Expired}
-use Rattle.drm_sched.specs.declared.answer.Finished.{Finished}
-use Rattle.drm_sched.specs.declared.answer.Picked.{Picked}
-use Rattle.drm_sched.specs.declared.answer.Stepped.{Stepped}
-use Rattle.drm_sched.specs.declared.answer.Answer.{Answer}
-use Rattle.drm_sched.specs.declared.answer.Answer.TheVariants as answer
-use Rattle.drm_sched.specs.declared.answer.Refusal.{Refusal}
-use Rattle.drm_sched.specs.declared.answer.Refusal.TheVariants.{Nothing, Waits}
-use Rattle.drm_sched.specs.declared.journal.JobRecord.{JobRecord}
-use Rattle.drm_sched.specs.declared.table.Table.{Table}
-use Rattle.drm_sched.specs.Answers.{picked, stepped, finished, timed_out}
-use Rattle.drm_sched.specs.Arming.{armed_device, new_record}
-use Rattle.drm_sched.specs.Choice.{choice, queue_of}
-use Rattle.drm_sched.specs.Grows.{GoesOn, Grows}
-use Rattle.drm_sched.specs.Journal.{is_at, is_complete, changed_at}
-use Rattle.drm_sched.specs.Keeps.{word_of, word_at, Keeps, KeepsBut, KeepsArmed}
-use Rattle.drm_sched.specs.Outcomes.{at_record, picked_device, must_stall, ran_device, stepped_by, finished_device, final_outcome, hung, hung_device, condemned, condemned_device, is_too_much, hang_outcome, timeout_at, pick_outcome, step_outcome, finish_outcome, timeout_outcome, reap_outcome, cancelled_device, ended_at}
-use Rattle.drm_sched.specs.Refusals.{arm_refusal, pick_refusal, step_refusal, finish_refusal, cancel_refusal, reap_refusal, must_still_wait}
-use Rattle.drm_sched.specs.Reservation.{Fits}
-use Rattle.drm_sched.specs.Ring.{limit_of, head_of, current_of, age_of, is_guilty, is_stopped}
-use Rattle.drm_sched.specs.State.{DeviceState}
-use Rattle.drm_sched.specs.Tables.{state_of, IsWhole}
+use Rattle.drm_table.specs.declared.answer.Expired.{Expired}
+use Rattle.drm_table.specs.declared.answer.Finished.{Finished}
+use Rattle.drm_table.specs.declared.answer.Picked.{Picked}
+use Rattle.drm_table.specs.declared.answer.Stepped.{Stepped}
+use Rattle.drm_table.specs.declared.answer.Answer.{Answer}
+use Rattle.drm_table.specs.declared.answer.Answer.TheVariants as answer
+use Rattle.drm_table.specs.declared.errors.CancelError.{CancelError}
+use Rattle.drm_table.specs.declared.errors.FinishError.{FinishError}
+use Rattle.drm_table.specs.declared.errors.PickError.{PickError}
+use Rattle.drm_table.specs.declared.errors.ReapError.{ReapError}
+use Rattle.drm_table.specs.declared.errors.StepError.{StepError}
+use Rattle.drm_table.specs.Errors.{refusal_of_cancel, refusal_of_finish, refusal_of_pick, refusal_of_reap, refusal_of_step}
+use Rattle.drm_table.specs.declared.answer.Refusal.TheVariants.{Nothing, Waits}
+use Rattle.drm_table.specs.declared.journal.JobRecord.{JobRecord}
+use Rattle.drm_table.specs.declared.table.Table.{Table}
+use Rattle.drm_table.specs.Answers.{picked, stepped, finished, timed_out}
+use Rattle.drm_table.specs.Arming.{armed_device, new_record}
+use Rattle.drm_table.specs.Choice.{choice, queue_of}
+use Rattle.drm_table.specs.Grows.{GoesOn, Grows}
+use Rattle.drm_table.specs.Journal.{is_at, is_complete, changed_at}
+use Rattle.drm_table.specs.Keeps.{word_of, word_at, Keeps, KeepsBut, KeepsArmed}
+use Rattle.drm_table.specs.Outcomes.{at_record, picked_device, must_stall, ran_device, stepped_by, finished_device, final_outcome, hung, hung_device, condemned, condemned_device, is_too_much, hang_outcome, timeout_at, pick_outcome, step_outcome, finish_outcome, timeout_outcome, reap_outcome, cancelled_device, ended_at}
+use Rattle.drm_table.specs.Refusals.{arm_refusal, pick_refusal, step_refusal, finish_refusal, cancel_refusal, reap_refusal, must_still_wait}
+use Rattle.drm_table.specs.Reservation.{Fits}
+use Rattle.drm_table.specs.Ring.{limit_of, head_of, current_of, age_of, is_guilty, is_stopped}
+use Rattle.drm_table.specs.State.{DeviceState}
+use Rattle.drm_table.specs.Tables.{state_of, IsWhole}
 use Rattle.std.proofs.lemmas.Option.{slice_get_within}
-use Rattle.drm_sched.proofs.ArmDone.{may_arm}
-use Rattle.drm_sched.proofs.ChoiceIs.{choice_is}
-use Rattle.drm_sched.specs.Events.{IsKept}
-use Rattle.drm_sched.proofs.DeviceSteps.{not_when, pick_kept, step_kept, finish_kept, timeout_kept, cancel_kept, reap_kept}
-use Rattle.drm_sched.proofs.FitsKept.{fits_kept, unused_fits, get_at_push}
-use Rattle.drm_sched.proofs.Pairs.{get_set_same, get_set_other}
-use Rattle.drm_sched.proofs.PickLawful.{given}
-use Rattle.drm_sched.proofs.ReapLawful.{reapable}
-use Rattle.drm_sched.proofs.Records.{changed_is}
+use Rattle.drm_table.proofs.ArmDone.{may_arm}
+use Rattle.drm_table.proofs.ChoiceIs.{choice_is}
+use Rattle.drm_table.specs.Events.{IsKept}
+use Rattle.drm_table.proofs.DeviceSteps.{not_when, pick_kept, step_kept, finish_kept, timeout_kept, cancel_kept, reap_kept}
+use Rattle.drm_table.proofs.FitsKept.{fits_kept, unused_fits, get_at_push}
+use Rattle.drm_table.proofs.Pairs.{get_set_same, get_set_other}
+use Rattle.drm_table.proofs.PickLawful.{given}
+use Rattle.drm_table.proofs.ReapLawful.{reapable}
+use Rattle.drm_table.proofs.Records.{changed_is}
 
 -- ---- one record
 
@@ -219,24 +224,24 @@ keeps_itself d = record { fits = λ b x f. f; words = λ g. refl }
 unchanged : (t n : Table) → n ≡ t → Keeps (state_of t) (state_of n)
 unchanged t n is = subst (λ m. Keeps (state_of t) (state_of m)) (sym is) (keeps_itself (state_of t))
 
-pub pick_keeps : (t n : Table) (ring now : ℕ) (r : Result Picked Refusal) → IsWhole t → ring < length t.spec.rings
+pub pick_keeps : (t n : Table) (ring now : ℕ) (r : Result Picked PickError) → IsWhole t → ring < length t.spec.rings
     → IfOk r (λ p. (pick_refusal (state_of t) ring ≡ None) × (pick_outcome (state_of t) ring now ≡ (picked p, state_of n)))
-    → IfErr r (λ e. (pick_refusal (state_of t) ring ≡ Some e) × (n ≡ t)) → Keeps (state_of t) (state_of n)
+    → IfErr r (λ e. (pick_refusal (state_of t) ring ≡ Some (refusal_of_pick e)) × (n ≡ t)) → Keeps (state_of t) (state_of n)
 pick_keeps t n ring now (Ok p) whole there ok err = keeps_by (state_of t) (state_of n) (picked p) _ ok.1 (pick_kept (state_of t) ring now whole.steady there ok.0) (pick_words (state_of t) ring now)
 pick_keeps t n ring now (Err e) whole there ok err = unchanged t n err.1
 
-pub step_keeps : (t n : Table) (ring : ℕ) (r : Result Stepped Refusal) → IsWhole t → ring < length t.spec.rings
+pub step_keeps : (t n : Table) (ring : ℕ) (r : Result Stepped StepError) → IsWhole t → ring < length t.spec.rings
     → IfOk r (λ s. (step_refusal (state_of t) ring ≡ None) × (step_outcome (state_of t) ring ≡ (stepped s, state_of n)))
-    → IfErr r (λ e. (step_refusal (state_of t) ring ≡ Some e) × (n ≡ t)) → Keeps (state_of t) (state_of n)
+    → IfErr r (λ e. (step_refusal (state_of t) ring ≡ Some (refusal_of_step e)) × (n ≡ t)) → Keeps (state_of t) (state_of n)
 step_keeps t n ring (Ok s) whole there ok err = keeps_by (state_of t) (state_of n) (stepped s) _ ok.1 (step_kept (state_of t) ring whole.steady there) (step_words (state_of t) ring)
 step_keeps t n ring (Err e) whole there ok err = unchanged t n err.1
 
 below : {f n m : ℕ} → f < n → n ≤ m → f < m
 below l e = omega (arith, l, e)
 
-pub finish_keeps : (t n : Table) (ring now : ℕ) (r : Result Finished Refusal) → IsWhole t → ring < length t.spec.rings
+pub finish_keeps : (t n : Table) (ring now : ℕ) (r : Result Finished FinishError) → IsWhole t → ring < length t.spec.rings
     → IfOk r (λ f. (finish_refusal (state_of t) ring ≡ None) × (finish_outcome (state_of t) ring now ≡ (finished f, state_of n)))
-    → IfErr r (λ e. (finish_refusal (state_of t) ring ≡ Some e) × (n ≡ t))
+    → IfErr r (λ e. (finish_refusal (state_of t) ring ≡ Some (refusal_of_finish e)) × (n ≡ t))
     → MatchResult r (λ f. KeepsBut f.fence (word_of (Ended f.outcome)) (state_of t) (state_of n)) (λ e. Keeps (state_of t) (state_of n))
 finish_keeps t n ring now (Ok f) whole there ok err =
     let w = finish_words (state_of t) (state_of n) ring now f ok.1 in
@@ -252,16 +257,16 @@ pub timeout_keeps : (t n : Table) (ring now : ℕ) (r : Expired) → IsWhole t �
     → timeout_outcome (state_of t) ring now ≡ (timed_out r, state_of n) → Keeps (state_of t) (state_of n)
 timeout_keeps t n ring now r whole there is = keeps_by (state_of t) (state_of n) (timed_out r) _ is (timeout_kept (state_of t) ring now whole.steady there) (timeout_words (state_of t) ring now)
 
-pub cancel_keeps : (t n : Table) (entity : ℕ) (r : Result (Unit {0}) Refusal) → IsWhole t
+pub cancel_keeps : (t n : Table) (entity : ℕ) (r : Result (Unit {0}) CancelError) → IsWhole t
     → OnOk r ((cancel_refusal (state_of t) entity ≡ None) × (state_of n ≡ cancelled_device (state_of t) entity))
-    → IfErr r (λ e. (cancel_refusal (state_of t) entity ≡ Some e) × (n ≡ t)) → Keeps (state_of t) (state_of n)
+    → IfErr r (λ e. (cancel_refusal (state_of t) entity ≡ Some (refusal_of_cancel e)) × (n ≡ t)) → Keeps (state_of t) (state_of n)
 cancel_keeps t n entity (Ok u) whole ok err =
     subst (Keeps (state_of t)) (sym ok.1) (record { fits = kept_fits (state_of t) (cancelled_device (state_of t) entity) (cancel_kept (state_of t) entity whole.steady); words = λ g. refl })
 cancel_keeps t n entity (Err e) whole ok err = unchanged t n err.1
 
-pub reap_keeps : (t n : Table) (entity : ℕ) (r : Result ℕ Refusal) → IsWhole t
+pub reap_keeps : (t n : Table) (entity : ℕ) (r : Result ℕ ReapError) → IsWhole t
     → IfOk r (λ f. (reap_refusal (state_of t) entity ≡ None) × (reap_outcome (state_of t) entity ≡ (answer.Reaped f, state_of n)))
-    → IfErr r (λ e. (reap_refusal (state_of t) entity ≡ Some e) × (n ≡ t))
+    → IfErr r (λ e. (reap_refusal (state_of t) entity ≡ Some (refusal_of_reap e)) × (n ≡ t))
     → MatchResult r (λ f. KeepsBut f 4 (state_of t) (state_of n)) (λ e. Keeps (state_of t) (state_of n))
 reap_keeps t n entity (Ok f) whole ok err =
     let w = reap_words (state_of t) (state_of n) entity f ok.0 ok.1 in

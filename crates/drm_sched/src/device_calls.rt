@@ -5,39 +5,39 @@ ghost use Rattle.drm_buffer.specs.Memory.{bytes_of, sizes_of};
 ghost use Rattle.drm_buffer.specs.Stored.{is_out_of};
 ghost use Rattle.drm_fence.specs.declared.phase.Phase.TheVariants.{Ended};
 ghost use Rattle.drm_fence.specs.Phases.{has_ended, status_of};
-ghost use Rattle.drm_sched.specs.declared.answer.Answer.TheVariants as answer;
-ghost use Rattle.drm_sched.specs.Answers.{picked, stepped, finished, timed_out};
-ghost use Rattle.drm_sched.specs.Arming.{armed_device, load as load_of};
-ghost use Rattle.drm_sched.specs.Building.{RefusesToBuild};
-ghost use Rattle.drm_sched.specs.Plans.{DepsCover};
-ghost use Rattle.drm_sched.specs.Grows.{Grows};
-ghost use Rattle.drm_sched.specs.Lawful.{IsLawfulDevice};
-ghost use Rattle.drm_sched.specs.Held.{HaveRoom, buffers_of, kept_of, armed_held, AllFit};
-ghost use Rattle.drm_sched.specs.Keeps.{Keeps, KeepsBut, KeepsArmed, word_of};
-ghost use Rattle.drm_sched.specs.Writers.{HaveEnded};
-ghost use Rattle.drm_sched.specs.Reservation.{Fits};
-ghost use Rattle.drm_sched.specs.declared.answer.Refusal.TheVariants as refusal;
+ghost use Rattle.drm_table.specs.declared.answer.Answer.TheVariants as answer;
+ghost use Rattle.drm_table.specs.Answers.{picked, stepped, finished, timed_out};
+ghost use Rattle.drm_table.specs.Arming.{armed_device, load as load_of};
+ghost use Rattle.drm_table.specs.Building.{RefusesToBuild};
+ghost use Rattle.drm_table.specs.Plans.{DepsCover};
+ghost use Rattle.drm_table.specs.Grows.{Grows};
+ghost use Rattle.drm_table.specs.Lawful.{IsLawfulDevice};
+ghost use Rattle.drm_table.specs.Held.{HaveRoom, buffers_of, kept_of, armed_held, AllFit};
+ghost use Rattle.drm_table.specs.Keeps.{Keeps, KeepsBut, KeepsArmed, word_of};
+ghost use Rattle.drm_table.specs.Writers.{HaveEnded};
+ghost use Rattle.drm_table.specs.Reservation.{Fits};
+ghost use Rattle.drm_table.specs.declared.answer.Refusal.TheVariants as refusal;
 ghost use Rattle.drm_job.specs.Fault.{IsJob};
-ghost use Rattle.drm_sched.specs.Outcomes.{pick_outcome, step_outcome, finish_outcome, timeout_outcome, cancelled_device, reap_outcome};
-ghost use Rattle.drm_sched.specs.Refusals.{arm_refusal, busy_fence, pick_refusal, step_refusal, finish_refusal, cancel_refusal, reap_refusal};
-ghost use Rattle.drm_sched.specs.State.{opened_device};
+ghost use Rattle.drm_table.specs.Outcomes.{pick_outcome, step_outcome, finish_outcome, timeout_outcome, cancelled_device, reap_outcome};
+ghost use Rattle.drm_table.specs.Refusals.{arm_refusal, busy_fence, pick_refusal, step_refusal, finish_refusal, cancel_refusal, reap_refusal};
+ghost use Rattle.drm_table.specs.State.{opened_device};
 ghost use Rattle.drm_sched.specs.Begun.{HasBegun, IsReport, HasReported, KeepsTasks, MayRun, out_or, MayComeBack};
 ghost use Rattle.drm_sched.specs.Marks.{is_in_way, is_out, ring_out, unmarked, IsSteadyMarked};
-ghost use Rattle.drm_sched.specs.Steady.{IsSteady};
-ghost use Rattle.drm_sched.specs.Tables.{fence_state_of};
+ghost use Rattle.drm_table.specs.Steady.{IsSteady};
+ghost use Rattle.drm_table.specs.Tables.{fence_state_of};
+ghost use Rattle.drm_table.specs.Errors.{refusal_of_arm, refusal_of_cancel, refusal_of_finish, refusal_of_pick, refusal_of_read, refusal_of_reap, refusal_of_step, refusal_of_timeout};
 
-use crate::answer::{Expired, Finished, Picked, Refusal, Stepped};
-use crate::journal::JobRecord;
-use crate::life::{BuildError, Closed};
 use crate::marked::{Begun, MarkedTable};
-use crate::plans::{Held, Plan};
 use crate::scheduler::Scheduler;
-use crate::table::Table;
-use crate::uses;
 use drm_buffer::Buffer;
 use drm_fence::Timeline;
 use drm_job::Job;
 use drm_resv::Resv;
+use drm_table::{
+    ArmError, BuildError, CancelError, Closed, Expired, FinishError, Finished, Held, JobRecord,
+    PickError, Picked, Plan, ReadError, ReapError, StepError, Stepped, Table, TimeoutError,
+    add_held_uses,
+};
 use drm_types::{BufferId, DeviceSpec, EntityId, FenceId, Moment, RingId, Sequence};
 use std::alloc::{AllocError, Global};
 use std::marker::Model;
@@ -88,10 +88,10 @@ impl Device {
     }
 
     /// Gives the ring the job that it takes next, if it fits (`drm_sched_run_job_work`).
-    pub fn pick(&mut self, ring: RingId, now: Moment) -> Result<Picked, Refusal>
+    pub fn pick(&mut self, ring: RingId, now: Moment) -> Result<Picked, PickError>
         requires there { ring < length self.old.state.spec.rings }
         ensures picked { IfOk result (λ p. (pick_refusal self.old.state ring ≡ None) × (pick_outcome self.old.state ring now ≡ (picked p, self.new.state))) }
-        ensures refused { IfErr result (λ r. (pick_refusal self.old.state ring ≡ Some r) × (self.new ≡ self.old)) }
+        ensures refused { IfErr result (λ r. (pick_refusal self.old.state ring ≡ Some (refusal_of_pick r)) × (self.new ≡ self.old)) }
         ensures marks { self.new.marks ≡ self.old.marks }
         ensures lawful { IsLawfulDevice self.new.state }
         ensures grows { Grows self.old.state self.new.state }
@@ -106,10 +106,10 @@ impl Device {
     ///
     /// `PacketOut` where the ring has a packet out, or a buffer of its next packet is out; else `Idle` where no pending
     /// job has packets left.
-    pub fn step(&mut self, ring: RingId) -> Result<Stepped, Refusal>
+    pub fn step(&mut self, ring: RingId) -> Result<Stepped, StepError>
         requires there { ring < length self.old.state.spec.rings }
         ensures ran { IfOk result (λ s. (out_or (is_in_way self.old ring) (step_refusal self.old.state ring) ≡ None) × (step_outcome self.old.state ring ≡ (stepped s, self.new.state))) }
-        ensures refused { IfErr result (λ r. (out_or (is_in_way self.old ring) (step_refusal self.old.state ring) ≡ Some r) × (self.new ≡ self.old)) }
+        ensures refused { IfErr result (λ r. (out_or (is_in_way self.old ring) (step_refusal self.old.state ring) ≡ Some (refusal_of_step r)) × (self.new ≡ self.old)) }
         ensures marks { self.new.marks ≡ self.old.marks }
         ensures lawful { IsLawfulDevice self.new.state }
         ensures grows { Grows self.old.state self.new.state }
@@ -124,14 +124,14 @@ impl Device {
     /// # Errors
     ///
     /// Those of `step`.
-    pub fn begin_step(&mut self, ring: RingId) -> Result<Begun, Refusal>
+    pub fn begin_step(&mut self, ring: RingId) -> Result<Begun, StepError>
         requires there { ring < length self.old.state.spec.rings }
         ensures begun { IfOk result (λ b. (out_or (is_in_way self.old ring) (step_refusal self.old.state ring) ≡ None) × HasBegun self.old ring b self.new) }
         ensures state { self.new.state ≡ self.old.state }
         ensures runs { IfOk result MayRun }
         ensures back { IfOk result (MayComeBack self.new ring) }
         ensures tasks { KeepsTasks self.old ring self.new }
-        ensures refused { IfErr result (λ r. (out_or (is_in_way self.old ring) (step_refusal self.old.state ring) ≡ Some r) × (self.new ≡ self.old)) }
+        ensures refused { IfErr result (λ r. (out_or (is_in_way self.old ring) (step_refusal self.old.state ring) ≡ Some (refusal_of_step r)) × (self.new ≡ self.old)) }
     {
         self.parts.begin_step(ring)
     }
@@ -184,10 +184,10 @@ impl Device {
     /// # Errors
     ///
     /// `PacketOut` where the ring has a packet out; else `Idle` where nothing is pending, or `NotComplete`.
-    pub fn finish(&mut self, ring: RingId, now: Moment) -> Result<Finished, Refusal>
+    pub fn finish(&mut self, ring: RingId, now: Moment) -> Result<Finished, FinishError>
         requires there { ring < length self.old.state.spec.rings }
         ensures finished { IfOk result (λ f. (out_or (ring_out self.old ring) (finish_refusal self.old.state ring) ≡ None) × (finish_outcome self.old.state ring now ≡ (finished f, self.new.state))) }
-        ensures refused { IfErr result (λ r. (out_or (ring_out self.old ring) (finish_refusal self.old.state ring) ≡ Some r) × (self.new ≡ self.old)) }
+        ensures refused { IfErr result (λ r. (out_or (ring_out self.old ring) (finish_refusal self.old.state ring) ≡ Some (refusal_of_finish r)) × (self.new ≡ self.old)) }
         ensures marks { self.new.marks ≡ self.old.marks }
         ensures lawful { IsLawfulDevice self.new.state }
         ensures grows { Grows self.old.state self.new.state }
@@ -202,10 +202,10 @@ impl Device {
     /// # Errors
     ///
     /// `PacketOut` where the ring has a packet out.
-    pub fn timeout(&mut self, ring: RingId, now: Moment) -> Result<Expired, Refusal>
+    pub fn timeout(&mut self, ring: RingId, now: Moment) -> Result<Expired, TimeoutError>
         requires there { ring < length self.old.state.spec.rings }
         ensures expired { IfOk result (λ e. (out_or (ring_out self.old ring) None ≡ None) × (timeout_outcome self.old.state ring now ≡ (timed_out e, self.new.state))) }
-        ensures refused { IfErr result (λ r. (out_or (ring_out self.old ring) None ≡ Some r) × (self.new ≡ self.old)) }
+        ensures refused { IfErr result (λ r. (out_or (ring_out self.old ring) None ≡ Some (refusal_of_timeout r)) × (self.new ≡ self.old)) }
         ensures marks { self.new.marks ≡ self.old.marks }
         ensures lawful { IsLawfulDevice self.new.state }
         ensures grows { Grows self.old.state self.new.state }
@@ -215,10 +215,10 @@ impl Device {
     }
 
     /// Stops the entity (`drm_sched_entity_kill`). Its queued jobs stay, and end one after another as they are reaped.
-    pub fn cancel(&mut self, entity: EntityId) -> Result<(), Refusal>
+    pub fn cancel(&mut self, entity: EntityId) -> Result<(), CancelError>
         requires there { entity < length self.old.state.spec.entities }
         ensures stopped { OnOk result ((cancel_refusal self.old.state entity ≡ None) × (self.new.state ≡ cancelled_device self.old.state entity)) }
-        ensures refused { IfErr result (λ r. (cancel_refusal self.old.state entity ≡ Some r) × (self.new ≡ self.old)) }
+        ensures refused { IfErr result (λ r. (cancel_refusal self.old.state entity ≡ Some (refusal_of_cancel r)) × (self.new ≡ self.old)) }
         ensures marks { self.new.marks ≡ self.old.marks }
         ensures lawful { IsLawfulDevice self.new.state }
         ensures grows { Grows self.old.state self.new.state }
@@ -229,10 +229,10 @@ impl Device {
 
     /// Ends the first queued job of a stopped entity, once all that it waits for has ended
     /// (`drm_sched_entity_kill_jobs_cb`).
-    pub fn reap(&mut self, entity: EntityId) -> Result<FenceId, Refusal>
+    pub fn reap(&mut self, entity: EntityId) -> Result<FenceId, ReapError>
         requires there { entity < length self.old.state.spec.entities }
         ensures reaped { IfOk result (λ f. (reap_refusal self.old.state entity ≡ None) × (reap_outcome self.old.state entity ≡ (answer.Reaped f, self.new.state))) }
-        ensures refused { IfErr result (λ r. (reap_refusal self.old.state entity ≡ Some r) × (self.new ≡ self.old)) }
+        ensures refused { IfErr result (λ r. (reap_refusal self.old.state entity ≡ Some (refusal_of_reap r)) × (self.new ≡ self.old)) }
         ensures marks { self.new.marks ≡ self.old.marks }
         ensures lawful { IsLawfulDevice self.new.state }
         ensures grows { Grows self.old.state self.new.state }
@@ -249,7 +249,7 @@ impl Device {
     ///
     /// The plan, given back, and why the device does not take the job: its entity is stopped, the device is full, or
     /// the job names a fence that is not armed yet.
-    pub fn arm(&mut self, plan: Plan, held: &mut Held) -> Result<FenceId, (Plan, Refusal)>
+    pub fn arm(&mut self, plan: Plan, held: &mut Held) -> Result<FenceId, (Plan, ArmError)>
         requires job { IsJob self.old.state.spec plan.job }
         requires covers { DepsCover self.old.state plan.job plan.deps }
         requires room { HaveRoom plan.job held.old.items }
@@ -257,25 +257,25 @@ impl Device {
         ensures held { OnOk result (kept_of held.new.items ≡ armed_held self.old.state.journal plan.job (kept_of held.old.items)) }
         ensures order { buffers_of held.new.items ≡ buffers_of held.old.items }
         ensures fit { OnOk result (AllFit self.old.state.journal (kept_of held.old.items) → AllFit self.new.state.journal (kept_of held.new.items)) }
-        ensures refused { IfErr result (λ back. (arm_refusal self.old.state plan.job ≡ Some back.1) × (back.0 ≡ plan) × (self.new ≡ self.old) × (held.new ≡ held.old)) }
+        ensures refused { IfErr result (λ back. (arm_refusal self.old.state plan.job ≡ Some (refusal_of_arm back.1)) × (back.0 ≡ plan) × (self.new ≡ self.old) × (held.new ≡ held.old)) }
         ensures marks { self.new.marks ≡ self.old.marks }
         ensures lawful { IsLawfulDevice self.new.state }
         ensures grows { Grows self.old.state self.new.state }
         ensures keeps { IfOk result (λ fence. KeepsArmed plan.job fence self.old.state self.new.state) }
     {
-        if let Some(refusal) = self.parts.marked.table.arm_refusal(&plan.job) {
-            return Err((plan, refusal));
+        if let Some(error) = self.parts.marked.table.arm_refusal(&plan.job) {
+            return Err((plan, error));
         }
         let fence = self.armed();
         let parts = &mut *self.parts;
-        uses::add_held_uses(held, &plan.job, fence, &parts.marked.table.fences);
+        add_held_uses(held, &plan.job, fence, &parts.marked.table.fences);
         Ok(parts.arm(plan))
     }
 
     /// Why the device does not take the job: its entity is stopped, the device is full, or the job names a fence that is
     /// not armed yet.
-    pub fn arm_refusal(&self, job: &Job) -> Option<Refusal>
-        ensures { result ≡ arm_refusal self.now.state job.now }
+    pub fn arm_refusal(&self, job: &Job) -> Option<ArmError>
+        ensures { option_map refusal_of_arm result ≡ arm_refusal self.now.state job.now }
     {
         self.parts.marked.table.arm_refusal(job)
     }
@@ -303,21 +303,21 @@ impl Device {
     ///
     /// `PacketOut` where the buffer is out, else `Busy`, with the least fence of the reservation's writers that has no
     /// outcome. Then nothing is copied.
-    pub fn read_into(&self, buffer: BufferId, resv: &Resv, out: &mut [u8]) -> Result<(), Refusal>
+    pub fn read_into(&self, buffer: BufferId, resv: &Resv, out: &mut [u8]) -> Result<(), ReadError>
         requires buffer { buffer < length self.now.state.memory }
         requires fits { Fits buffer self.now.state.journal resv.now.kept }
         requires size { length out.old ≡ length (bytes_of self.now.state.memory buffer) }
         ensures read { OnOk result ((is_out self.now buffer ≡ false) × (busy_fence self.now.state.journal resv.now.kept ≡ None) × (out.new ≡ bytes_of self.now.state.memory buffer)) }
         ensures writers { OnOk result (HaveEnded buffer self.now.state.journal) }
-        ensures busy { IfErr result (λ r. (out_or (is_out self.now buffer) (option_map refusal.Busy (busy_fence self.now.state.journal resv.now.kept)) ≡ Some r) × (out.new ≡ out.old)) }
+        ensures busy { IfErr result (λ r. (out_or (is_out self.now buffer) (option_map refusal.Busy (busy_fence self.now.state.journal resv.now.kept)) ≡ Some (refusal_of_read r)) × (out.new ≡ out.old)) }
         ensures writing { IfErr result (λ r. is_out self.now buffer ≡ false → HaveEnded buffer self.now.state.journal → ⊥) }
     {
         let table = &self.parts.marked.table;
         if table.memory.is_out(buffer) {
-            return Err(Refusal::PacketOut);
+            return Err(ReadError::PacketOut);
         }
         match table.busy_fence(resv) {
-            Some(fence) => Err(Refusal::Busy { fence }),
+            Some(fence) => Err(ReadError::Busy { fence }),
             None => {
                 out.copy_from_slice(self.bytes(buffer));
                 Ok(())

@@ -3,17 +3,15 @@ ghost use Rattle.drm_fence.specs.declared.pair.Pair.{Pair};
 ghost use Rattle.drm_fence.specs.Waiting.{unmet_in, without_early, without_entity, without_fence};
 ghost use Rattle.drm_resv.specs.Latest.{IsPerEntity};
 ghost use Rattle.drm_runq.specs.Keys.{IsFirstReady, NoneReady};
-ghost use Rattle.drm_sched.specs.Choice.{choice};
+ghost use Rattle.drm_table.specs.Choice.{choice};
 ghost use Rattle.drm_sched.specs.Heads.{AreWatched, HeadsStand, HeadsStandBut, keys_at, with_key};
-ghost use Rattle.drm_sched.specs.Journal.{is_at};
-ghost use Rattle.drm_sched.specs.Tables.{state_of, IsWhole};
+ghost use Rattle.drm_table.specs.Journal.{is_at};
+ghost use Rattle.drm_table.specs.Tables.{state_of, IsWhole};
 ghost use Rattle.drm_sched.specs.Watching.{unmet_pairs};
 
-use crate::choice;
-use crate::journal::JobRecord;
-use crate::table::Table;
 use drm_fence::Waiters;
 use drm_runq::RunQueue;
+use drm_table::{JobRecord, Table, is_met};
 use drm_types::{DeviceSpec, EntityId, FenceId, Priority, RingId};
 use std::alloc::{AllocError, Global};
 
@@ -65,7 +63,7 @@ fn watch_unmet(
     ensures fences { waiters.new.fences ≡ waiters.old.fences }
 {
     for dep in deps {
-        let is_met = choice::is_met(journal, dep.1, ring);
+        let is_met = is_met(journal, dep.1, ring);
         if !is_met {
             let early = is_on(journal, dep.1, ring);
             waiters.watch(entity, dep.1, dep.0, early);

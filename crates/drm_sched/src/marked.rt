@@ -1,25 +1,27 @@
 ghost use Rattle.std.specs.Prelude.{◌≡◌, ◌<◌, [], ◌∷◌, ◌++◌, length, replicate, Some, None, IfOk, IfErr, OnOk};
 ghost use Rattle.drm_types.specs.Limits.{spec_fault};
 ghost use Rattle.drm_job.specs.Fault.{IsJob};
-ghost use Rattle.drm_sched.specs.declared.answer.Answer.TheVariants as answer;
-ghost use Rattle.drm_sched.specs.Arming.{armed_device};
-ghost use Rattle.drm_sched.specs.Plans.{DepsCover};
-ghost use Rattle.drm_sched.specs.State.{opened_device};
-ghost use Rattle.drm_sched.specs.Answers.{picked, stepped, finished, timed_out};
-ghost use Rattle.drm_sched.specs.Choice.{choice};
+ghost use Rattle.drm_table.specs.declared.answer.Answer.TheVariants as answer;
+ghost use Rattle.drm_table.specs.Arming.{armed_device};
+ghost use Rattle.drm_table.specs.Plans.{DepsCover};
+ghost use Rattle.drm_table.specs.State.{opened_device};
+ghost use Rattle.drm_table.specs.Answers.{picked, stepped, finished, timed_out};
+ghost use Rattle.drm_table.specs.Choice.{choice};
 ghost use Rattle.drm_sched.specs.Begun.{HasBegun, IsReport, HasReported, MayRun, out_or};
 ghost use Rattle.drm_sched.specs.Marks.{ring_out, is_in_way, unmarked};
-ghost use Rattle.drm_sched.specs.MarkedTables.{mark_of_row, marked_of, next_asks_out, ComesBack, IsBack, IsWholeMarked};
-ghost use Rattle.drm_sched.specs.Outcomes.{step_outcome, finish_outcome, timeout_outcome, pick_outcome, cancelled_device, reap_outcome};
-ghost use Rattle.drm_sched.specs.Refusals.{step_refusal, finish_refusal, pick_refusal, cancel_refusal, reap_refusal, arm_refusal};
-ghost use Rattle.drm_sched.specs.Tables.{state_of, IsWhole};
+ghost use Rattle.drm_sched.specs.MarkedTables.{mark_of_row, marked_of, IsWholeMarked};
+ghost use Rattle.drm_table.specs.Outside.{next_asks_out, ComesBack, IsBack};
+ghost use Rattle.drm_table.specs.Outcomes.{step_outcome, finish_outcome, timeout_outcome, pick_outcome, cancelled_device, reap_outcome};
+ghost use Rattle.drm_table.specs.Refusals.{step_refusal, finish_refusal, pick_refusal, cancel_refusal, reap_refusal, arm_refusal};
+ghost use Rattle.drm_table.specs.Tables.{state_of, IsWhole};
+ghost use Rattle.drm_table.specs.Errors.{refusal_of_cancel, refusal_of_finish, refusal_of_pick, refusal_of_reap, refusal_of_step, refusal_of_timeout};
 
-use crate::answer::{Expired, Finished, Picked, Refusal, Stepped};
-use crate::plans::Plan;
-use crate::running;
-use crate::table::Table;
 use drm_buffer::Buffer;
 use drm_packet::{Packet, packets_fit_their_parts};
+use drm_table::{
+    CancelError, Expired, FinishError, Finished, PickError, Picked, Plan, ReapError, StepError,
+    Stepped, Table, TimeoutError, must_stall,
+};
 use drm_types::{DeviceSpec, EntityId, FenceId, Moment, RingId};
 use std::alloc::{AllocError, Global};
 use std::mem;
@@ -84,44 +86,6 @@ fn no_marks(alloc: Global, count: usize) -> Result<Vec<Option<OutMark>>, AllocEr
     Ok(marks)
 }
 
-impl Table {
-    // Whether a buffer of the ring's next packet is out.
-    fn next_is_out(&self, ring: RingId) -> bool
-        requires there { ring < length self.now.spec.rings }
-        requires whole { IsWhole self.now }
-        ensures { result ≡ next_asks_out self.now ring }
-    {
-        let Some(number) = self.current(ring) else {
-            return false;
-        };
-        let record = &self.journal[number as usize];
-        record.job.packet(record.ran).asks_out(&self.memory)
-    }
-
-    // The ring's packet, of this job, has come back: its buffers are in, and the job has run one packet more.
-    fn take_back(
-        &mut self,
-        ring: RingId,
-        number: FenceId,
-        write: Option<Buffer>,
-        read: Option<Buffer>,
-    )
-        requires back { ComesBack self.old ring number write read }
-        requires whole { IsWhole self.old }
-        ensures ran { IsBack self.old number self.new }
-        ensures waits { self.new.waits.lists ≡ self.old.waits.lists }
-        ensures whole { IsWhole self.new }
-    {
-        let record = &self.journal[number as usize];
-        let count = record.ran;
-        let packet = record.job.packet(count);
-        packet.put(&mut self.memory, write, read);
-        self.journal[number as usize].ran = count + 1;
-        self.fences.count_packet(number);
-        self.rings[ring as usize].pass_over(&self.journal);
-    }
-}
-
 impl MarkedTable {
     // Whether the ring has a packet out.
     pub(crate) fn has_out(&self, ring: RingId) -> bool
@@ -144,25 +108,25 @@ impl MarkedTable {
     }
 
     /// Sends the ring's next packet out with its buffers.
-    pub(crate) fn begin_step(&mut self, ring: RingId) -> Result<Begun, Refusal>
+    pub(crate) fn begin_step(&mut self, ring: RingId) -> Result<Begun, StepError>
         requires there { ring < length self.old.table.spec.rings }
         requires whole { IsWholeMarked self.old }
         ensures begun { IfOk result (λ b. (out_or (is_in_way (marked_of self.old) ring) (step_refusal (state_of self.old.table) ring) ≡ None) × HasBegun (marked_of self.old) ring b (marked_of self.new)) }
         ensures runs { IfOk result MayRun }
         ensures waits { self.new.table.waits.lists ≡ self.old.table.waits.lists }
-        ensures refused { IfErr result (λ r. (out_or (is_in_way (marked_of self.old) ring) (step_refusal (state_of self.old.table) ring) ≡ Some r) × (self.new ≡ self.old)) }
+        ensures refused { IfErr result (λ r. (out_or (is_in_way (marked_of self.old) ring) (step_refusal (state_of self.old.table) ring) ≡ Some (refusal_of_step r)) × (self.new ≡ self.old)) }
         ensures whole { IsWholeMarked self.new }
     {
         if self.is_in_way(ring) {
-            return Err(Refusal::PacketOut);
+            return Err(StepError::PacketOut);
         }
         let Some(number) = self.table.current(ring) else {
-            return Err(Refusal::Idle);
+            return Err(StepError::Idle);
         };
         let record = &self.table.journal[number as usize];
         let count = record.ran;
         let packet = record.job.packet(count);
-        if running::must_stall(packet, record.karma.resets()) {
+        if must_stall(packet, record.karma.resets()) {
             return Ok(Begun::Stalled { fence: number });
         }
         packets_fit_their_parts();
@@ -205,12 +169,12 @@ impl MarkedTable {
         ring: RingId,
         chosen: Option<FenceId>,
         now: Moment,
-    ) -> Result<Picked, Refusal>
+    ) -> Result<Picked, PickError>
         requires there { ring < length self.old.table.spec.rings }
         requires chosen { chosen ≡ choice (state_of self.old.table) ring }
         requires whole { IsWholeMarked self.old }
         ensures picked { IfOk result (λ p. (pick_refusal (state_of self.old.table) ring ≡ None) × (pick_outcome (state_of self.old.table) ring now ≡ (picked p, state_of self.new.table))) }
-        ensures refused { IfErr result (λ r. (pick_refusal (state_of self.old.table) ring ≡ Some r) × (self.new ≡ self.old)) }
+        ensures refused { IfErr result (λ r. (pick_refusal (state_of self.old.table) ring ≡ Some (refusal_of_pick r)) × (self.new ≡ self.old)) }
         ensures marks { self.new.marks ≡ self.old.marks }
         ensures waits { self.new.table.waits.lists ≡ self.old.table.waits.lists }
         ensures whole { IsWholeMarked self.new }
@@ -219,60 +183,60 @@ impl MarkedTable {
     }
 
     /// Runs one packet on the ring.
-    pub(crate) fn step(&mut self, ring: RingId) -> Result<Stepped, Refusal>
+    pub(crate) fn step(&mut self, ring: RingId) -> Result<Stepped, StepError>
         requires there { ring < length self.old.table.spec.rings }
         requires whole { IsWholeMarked self.old }
         ensures ran { IfOk result (λ s. (out_or (is_in_way (marked_of self.old) ring) (step_refusal (state_of self.old.table) ring) ≡ None) × (step_outcome (state_of self.old.table) ring ≡ (stepped s, state_of self.new.table))) }
-        ensures refused { IfErr result (λ r. (out_or (is_in_way (marked_of self.old) ring) (step_refusal (state_of self.old.table) ring) ≡ Some r) × (self.new ≡ self.old)) }
+        ensures refused { IfErr result (λ r. (out_or (is_in_way (marked_of self.old) ring) (step_refusal (state_of self.old.table) ring) ≡ Some (refusal_of_step r)) × (self.new ≡ self.old)) }
         ensures marks { self.new.marks ≡ self.old.marks }
         ensures waits { self.new.table.waits.lists ≡ self.old.table.waits.lists }
         ensures whole { IsWholeMarked self.new }
     {
         if self.is_in_way(ring) {
-            return Err(Refusal::PacketOut);
+            return Err(StepError::PacketOut);
         }
         self.table.step(ring)
     }
 
     /// Ends the head of the ring, which is complete.
-    pub(crate) fn finish(&mut self, ring: RingId, now: Moment) -> Result<Finished, Refusal>
+    pub(crate) fn finish(&mut self, ring: RingId, now: Moment) -> Result<Finished, FinishError>
         requires there { ring < length self.old.table.spec.rings }
         requires whole { IsWholeMarked self.old }
         ensures finished { IfOk result (λ f. (out_or (ring_out (marked_of self.old) ring) (finish_refusal (state_of self.old.table) ring) ≡ None) × (finish_outcome (state_of self.old.table) ring now ≡ (finished f, state_of self.new.table))) }
-        ensures refused { IfErr result (λ r. (out_or (ring_out (marked_of self.old) ring) (finish_refusal (state_of self.old.table) ring) ≡ Some r) × (self.new ≡ self.old)) }
+        ensures refused { IfErr result (λ r. (out_or (ring_out (marked_of self.old) ring) (finish_refusal (state_of self.old.table) ring) ≡ Some (refusal_of_finish r)) × (self.new ≡ self.old)) }
         ensures marks { self.new.marks ≡ self.old.marks }
         ensures waits { self.new.table.waits.lists ≡ self.old.table.waits.lists }
         ensures whole { IsWholeMarked self.new }
     {
         if self.has_out(ring) {
-            Err(Refusal::PacketOut)
+            Err(FinishError::PacketOut)
         } else {
             self.table.finish(ring, now)
         }
     }
 
     /// Looks at the head of the ring after a time.
-    pub(crate) fn timeout(&mut self, ring: RingId, now: Moment) -> Result<Expired, Refusal>
+    pub(crate) fn timeout(&mut self, ring: RingId, now: Moment) -> Result<Expired, TimeoutError>
         requires there { ring < length self.old.table.spec.rings }
         requires whole { IsWholeMarked self.old }
         ensures expired { IfOk result (λ e. (out_or (ring_out (marked_of self.old) ring) None ≡ None) × (timeout_outcome (state_of self.old.table) ring now ≡ (timed_out e, state_of self.new.table))) }
-        ensures refused { IfErr result (λ r. (out_or (ring_out (marked_of self.old) ring) None ≡ Some r) × (self.new ≡ self.old)) }
+        ensures refused { IfErr result (λ r. (out_or (ring_out (marked_of self.old) ring) None ≡ Some (refusal_of_timeout r)) × (self.new ≡ self.old)) }
         ensures marks { self.new.marks ≡ self.old.marks }
         ensures waits { self.new.table.waits.lists ≡ self.old.table.waits.lists }
         ensures whole { IsWholeMarked self.new }
     {
         if self.has_out(ring) {
-            return Err(Refusal::PacketOut);
+            return Err(TimeoutError::PacketOut);
         }
         Ok(self.table.timeout(ring, now))
     }
 
     /// Stops the entity.
-    pub(crate) fn cancel(&mut self, entity: EntityId) -> Result<(), Refusal>
+    pub(crate) fn cancel(&mut self, entity: EntityId) -> Result<(), CancelError>
         requires there { entity < length self.old.table.spec.entities }
         requires whole { IsWholeMarked self.old }
         ensures stopped { OnOk result ((cancel_refusal (state_of self.old.table) entity ≡ None) × (state_of self.new.table ≡ cancelled_device (state_of self.old.table) entity)) }
-        ensures refused { IfErr result (λ r. (cancel_refusal (state_of self.old.table) entity ≡ Some r) × (self.new ≡ self.old)) }
+        ensures refused { IfErr result (λ r. (cancel_refusal (state_of self.old.table) entity ≡ Some (refusal_of_cancel r)) × (self.new ≡ self.old)) }
         ensures marks { self.new.marks ≡ self.old.marks }
         ensures waits { self.new.table.waits.lists ≡ self.old.table.waits.lists }
         ensures whole { IsWholeMarked self.new }
@@ -281,11 +245,11 @@ impl MarkedTable {
     }
 
     /// Ends the first queued job of a stopped entity.
-    pub(crate) fn reap(&mut self, entity: EntityId) -> Result<FenceId, Refusal>
+    pub(crate) fn reap(&mut self, entity: EntityId) -> Result<FenceId, ReapError>
         requires there { entity < length self.old.table.spec.entities }
         requires whole { IsWholeMarked self.old }
         ensures reaped { IfOk result (λ f. (reap_refusal (state_of self.old.table) entity ≡ None) × (reap_outcome (state_of self.old.table) entity ≡ (answer.Reaped f, state_of self.new.table))) }
-        ensures refused { IfErr result (λ r. (reap_refusal (state_of self.old.table) entity ≡ Some r) × (self.new ≡ self.old)) }
+        ensures refused { IfErr result (λ r. (reap_refusal (state_of self.old.table) entity ≡ Some (refusal_of_reap r)) × (self.new ≡ self.old)) }
         ensures marks { self.new.marks ≡ self.old.marks }
         ensures waits { self.new.table.waits.lists ≡ self.old.table.waits.lists }
         ensures whole { IsWholeMarked self.new }

@@ -1,24 +1,27 @@
 ghost use Rattle.std.specs.Prelude.{◌≡◌, ◌<◌, length, Some, None, IfOk, IfErr, OnOk};
 ghost use Rattle.drm_types.specs.Limits.{spec_fault};
 ghost use Rattle.drm_job.specs.Fault.{IsJob};
-ghost use Rattle.drm_sched.specs.declared.answer.Answer.TheVariants as answer;
-ghost use Rattle.drm_sched.specs.Answers.{picked, stepped, finished, timed_out};
-ghost use Rattle.drm_sched.specs.Arming.{armed_device};
+ghost use Rattle.drm_table.specs.declared.answer.Answer.TheVariants as answer;
+ghost use Rattle.drm_table.specs.Answers.{picked, stepped, finished, timed_out};
+ghost use Rattle.drm_table.specs.Arming.{armed_device};
 ghost use Rattle.drm_sched.specs.Begun.{HasBegun, IsReport, HasReported, MayRun, out_or};
 ghost use Rattle.drm_sched.specs.Marks.{ring_out, is_in_way, unmarked};
 ghost use Rattle.drm_sched.specs.MarkedTables.{marked_of, IsWholeMarked};
-ghost use Rattle.drm_sched.specs.Outcomes.{step_outcome, finish_outcome, timeout_outcome, pick_outcome, cancelled_device, reap_outcome};
-ghost use Rattle.drm_sched.specs.Plans.{DepsCover};
-ghost use Rattle.drm_sched.specs.Refusals.{step_refusal, finish_refusal, pick_refusal, cancel_refusal, reap_refusal, arm_refusal};
+ghost use Rattle.drm_table.specs.Outcomes.{step_outcome, finish_outcome, timeout_outcome, pick_outcome, cancelled_device, reap_outcome};
+ghost use Rattle.drm_table.specs.Plans.{DepsCover};
+ghost use Rattle.drm_table.specs.Refusals.{step_refusal, finish_refusal, pick_refusal, cancel_refusal, reap_refusal, arm_refusal};
 ghost use Rattle.drm_sched.specs.Schedulers.{HasHeads};
-ghost use Rattle.drm_sched.specs.State.{opened_device};
-ghost use Rattle.drm_sched.specs.Tables.{state_of};
+ghost use Rattle.drm_table.specs.State.{opened_device};
+ghost use Rattle.drm_table.specs.Tables.{state_of};
+ghost use Rattle.drm_table.specs.Errors.{refusal_of_cancel, refusal_of_finish, refusal_of_pick, refusal_of_reap, refusal_of_step, refusal_of_timeout};
 
-use crate::answer::{Expired, Finished, Picked, Refusal, Stepped};
 use crate::heads::Heads;
 use crate::marked::{Begun, MarkedTable};
-use crate::plans::Plan;
 use drm_buffer::Buffer;
+use drm_table::{
+    CancelError, Expired, FinishError, Finished, PickError, Picked, Plan, ReapError, StepError,
+    Stepped, TimeoutError,
+};
 use drm_types::{DeviceSpec, EntityId, FenceId, Moment, RingId};
 use std::alloc::{AllocError, Global};
 
@@ -32,12 +35,12 @@ pub struct Scheduler {
 
 impl Scheduler {
     /// Gives the ring the job that it takes next, if it fits.
-    pub(crate) fn pick(&mut self, ring: RingId, now: Moment) -> Result<Picked, Refusal>
+    pub(crate) fn pick(&mut self, ring: RingId, now: Moment) -> Result<Picked, PickError>
         requires there { ring < length self.old.marked.table.spec.rings }
         requires whole { IsWholeMarked self.old.marked }
         requires heads { HasHeads self.old }
         ensures picked { IfOk result (λ p. (pick_refusal (state_of self.old.marked.table) ring ≡ None) × (pick_outcome (state_of self.old.marked.table) ring now ≡ (picked p, state_of self.new.marked.table))) }
-        ensures refused { IfErr result (λ r. (pick_refusal (state_of self.old.marked.table) ring ≡ Some r) × (self.new ≡ self.old)) }
+        ensures refused { IfErr result (λ r. (pick_refusal (state_of self.old.marked.table) ring ≡ Some (refusal_of_pick r)) × (self.new ≡ self.old)) }
         ensures marks { self.new.marked.marks ≡ self.old.marked.marks }
         ensures whole { IsWholeMarked self.new.marked }
         ensures heads { HasHeads self.new }
@@ -53,17 +56,17 @@ impl Scheduler {
                 self.heads.place(&self.marked.table, entity);
                 Ok(picked)
             }
-            Err(refusal) => Err(refusal),
+            Err(error) => Err(error),
         }
     }
 
     /// Runs one packet on the ring.
-    pub(crate) fn step(&mut self, ring: RingId) -> Result<Stepped, Refusal>
+    pub(crate) fn step(&mut self, ring: RingId) -> Result<Stepped, StepError>
         requires there { ring < length self.old.marked.table.spec.rings }
         requires whole { IsWholeMarked self.old.marked }
         requires heads { HasHeads self.old }
         ensures ran { IfOk result (λ s. (out_or (is_in_way (marked_of self.old.marked) ring) (step_refusal (state_of self.old.marked.table) ring) ≡ None) × (step_outcome (state_of self.old.marked.table) ring ≡ (stepped s, state_of self.new.marked.table))) }
-        ensures refused { IfErr result (λ r. (out_or (is_in_way (marked_of self.old.marked) ring) (step_refusal (state_of self.old.marked.table) ring) ≡ Some r) × (self.new ≡ self.old)) }
+        ensures refused { IfErr result (λ r. (out_or (is_in_way (marked_of self.old.marked) ring) (step_refusal (state_of self.old.marked.table) ring) ≡ Some (refusal_of_step r)) × (self.new ≡ self.old)) }
         ensures marks { self.new.marked.marks ≡ self.old.marked.marks }
         ensures whole { IsWholeMarked self.new.marked }
         ensures heads { HasHeads self.new }
@@ -72,13 +75,13 @@ impl Scheduler {
     }
 
     /// Sends the ring's next packet out with its buffers.
-    pub(crate) fn begin_step(&mut self, ring: RingId) -> Result<Begun, Refusal>
+    pub(crate) fn begin_step(&mut self, ring: RingId) -> Result<Begun, StepError>
         requires there { ring < length self.old.marked.table.spec.rings }
         requires whole { IsWholeMarked self.old.marked }
         requires heads { HasHeads self.old }
         ensures begun { IfOk result (λ b. (out_or (is_in_way (marked_of self.old.marked) ring) (step_refusal (state_of self.old.marked.table) ring) ≡ None) × HasBegun (marked_of self.old.marked) ring b (marked_of self.new.marked)) }
         ensures runs { IfOk result MayRun }
-        ensures refused { IfErr result (λ r. (out_or (is_in_way (marked_of self.old.marked) ring) (step_refusal (state_of self.old.marked.table) ring) ≡ Some r) × (self.new ≡ self.old)) }
+        ensures refused { IfErr result (λ r. (out_or (is_in_way (marked_of self.old.marked) ring) (step_refusal (state_of self.old.marked.table) ring) ≡ Some (refusal_of_step r)) × (self.new ≡ self.old)) }
         ensures whole { IsWholeMarked self.new.marked }
         ensures heads { HasHeads self.new }
     {
@@ -103,12 +106,12 @@ impl Scheduler {
     }
 
     /// Ends the head of the ring, which is complete.
-    pub(crate) fn finish(&mut self, ring: RingId, now: Moment) -> Result<Finished, Refusal>
+    pub(crate) fn finish(&mut self, ring: RingId, now: Moment) -> Result<Finished, FinishError>
         requires there { ring < length self.old.marked.table.spec.rings }
         requires whole { IsWholeMarked self.old.marked }
         requires heads { HasHeads self.old }
         ensures finished { IfOk result (λ f. (out_or (ring_out (marked_of self.old.marked) ring) (finish_refusal (state_of self.old.marked.table) ring) ≡ None) × (finish_outcome (state_of self.old.marked.table) ring now ≡ (finished f, state_of self.new.marked.table))) }
-        ensures refused { IfErr result (λ r. (out_or (ring_out (marked_of self.old.marked) ring) (finish_refusal (state_of self.old.marked.table) ring) ≡ Some r) × (self.new ≡ self.old)) }
+        ensures refused { IfErr result (λ r. (out_or (ring_out (marked_of self.old.marked) ring) (finish_refusal (state_of self.old.marked.table) ring) ≡ Some (refusal_of_finish r)) × (self.new ≡ self.old)) }
         ensures marks { self.new.marked.marks ≡ self.old.marked.marks }
         ensures whole { IsWholeMarked self.new.marked }
         ensures heads { HasHeads self.new }
@@ -118,17 +121,17 @@ impl Scheduler {
                 self.heads.ended(finished.fence);
                 Ok(finished)
             }
-            Err(refusal) => Err(refusal),
+            Err(error) => Err(error),
         }
     }
 
     /// Looks at the head of the ring after a time.
-    pub(crate) fn timeout(&mut self, ring: RingId, now: Moment) -> Result<Expired, Refusal>
+    pub(crate) fn timeout(&mut self, ring: RingId, now: Moment) -> Result<Expired, TimeoutError>
         requires there { ring < length self.old.marked.table.spec.rings }
         requires whole { IsWholeMarked self.old.marked }
         requires heads { HasHeads self.old }
         ensures expired { IfOk result (λ e. (out_or (ring_out (marked_of self.old.marked) ring) None ≡ None) × (timeout_outcome (state_of self.old.marked.table) ring now ≡ (timed_out e, state_of self.new.marked.table))) }
-        ensures refused { IfErr result (λ r. (out_or (ring_out (marked_of self.old.marked) ring) None ≡ Some r) × (self.new ≡ self.old)) }
+        ensures refused { IfErr result (λ r. (out_or (ring_out (marked_of self.old.marked) ring) None ≡ Some (refusal_of_timeout r)) × (self.new ≡ self.old)) }
         ensures marks { self.new.marked.marks ≡ self.old.marked.marks }
         ensures whole { IsWholeMarked self.new.marked }
         ensures heads { HasHeads self.new }
@@ -137,30 +140,30 @@ impl Scheduler {
     }
 
     /// Stops the entity.
-    pub(crate) fn cancel(&mut self, entity: EntityId) -> Result<(), Refusal>
+    pub(crate) fn cancel(&mut self, entity: EntityId) -> Result<(), CancelError>
         requires there { entity < length self.old.marked.table.spec.entities }
         requires whole { IsWholeMarked self.old.marked }
         requires heads { HasHeads self.old }
         ensures stopped { OnOk result ((cancel_refusal (state_of self.old.marked.table) entity ≡ None) × (state_of self.new.marked.table ≡ cancelled_device (state_of self.old.marked.table) entity)) }
-        ensures refused { IfErr result (λ r. (cancel_refusal (state_of self.old.marked.table) entity ≡ Some r) × (self.new ≡ self.old)) }
+        ensures refused { IfErr result (λ r. (cancel_refusal (state_of self.old.marked.table) entity ≡ Some (refusal_of_cancel r)) × (self.new ≡ self.old)) }
         ensures marks { self.new.marked.marks ≡ self.old.marked.marks }
         ensures whole { IsWholeMarked self.new.marked }
         ensures heads { HasHeads self.new }
     {
         if self.marked.table.is_stopped(entity) {
-            return Err(Refusal::AlreadyStopped);
+            return Err(CancelError::AlreadyStopped);
         }
         self.heads.withdraw(&self.marked.table, entity);
         self.marked.cancel(entity)
     }
 
     /// Ends the first queued job of a stopped entity.
-    pub(crate) fn reap(&mut self, entity: EntityId) -> Result<FenceId, Refusal>
+    pub(crate) fn reap(&mut self, entity: EntityId) -> Result<FenceId, ReapError>
         requires there { entity < length self.old.marked.table.spec.entities }
         requires whole { IsWholeMarked self.old.marked }
         requires heads { HasHeads self.old }
         ensures reaped { IfOk result (λ f. (reap_refusal (state_of self.old.marked.table) entity ≡ None) × (reap_outcome (state_of self.old.marked.table) entity ≡ (answer.Reaped f, state_of self.new.marked.table))) }
-        ensures refused { IfErr result (λ r. (reap_refusal (state_of self.old.marked.table) entity ≡ Some r) × (self.new ≡ self.old)) }
+        ensures refused { IfErr result (λ r. (reap_refusal (state_of self.old.marked.table) entity ≡ Some (refusal_of_reap r)) × (self.new ≡ self.old)) }
         ensures marks { self.new.marked.marks ≡ self.old.marked.marks }
         ensures whole { IsWholeMarked self.new.marked }
         ensures heads { HasHeads self.new }
@@ -170,7 +173,7 @@ impl Scheduler {
                 self.heads.ended(fence);
                 Ok(fence)
             }
-            Err(refusal) => Err(refusal),
+            Err(error) => Err(error),
         }
     }
 

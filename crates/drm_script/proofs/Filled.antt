@@ -10,7 +10,7 @@ use Rattle.drm_types.specs.declared.spec.EntitySpec.{EntitySpec}
 use Rattle.drm_types.specs.Limits.{is_between, are_rings, each, spec_fault}
 use Rattle.drm_text.specs.Grammar.{AreBytes}
 use Rattle.drm_types.proofs.Firsts.{none_at}
-use Rattle.drm_sched.proofs.PickDone.{spec_tests}
+use Rattle.drm_table.proofs.PickDone.{spec_tests}
 use Rattle.drm_script.specs.Grammar.{IsNumber, EntityFits}
 use Rattle.drm_script.specs.JournalGrammar.{HasBytes}
 

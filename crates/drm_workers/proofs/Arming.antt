@@ -2,11 +2,14 @@
 use Rattle.std.proofs.Common.{◌≡◌, ℕ, true, List, [], ◌∷◌, ◌++◌, Result, sym, ap, ◌∙◌, subst}
 use Rattle.drm_job.specs.declared.Draft.{Draft}
 use Rattle.drm_resv.specs.Reservation.{Reservation}
-use Rattle.drm_sched.specs.declared.answer.Refusal.{Refusal}
-use Rattle.drm_sched.specs.declared.answer.Picked.{Picked}
-use Rattle.drm_sched.specs.declared.answer.Stepped.{Stepped}
-use Rattle.drm_sched.specs.declared.answer.Finished.{Finished}
-use Rattle.drm_sched.specs.declared.answer.Expired.{Expired}
+use Rattle.drm_table.specs.declared.errors.ArmError.{ArmError}
+use Rattle.drm_table.specs.declared.errors.FinishError.{FinishError}
+use Rattle.drm_table.specs.declared.errors.PickError.{PickError}
+use Rattle.drm_table.specs.declared.errors.StepError.{StepError}
+use Rattle.drm_table.specs.declared.answer.Picked.{Picked}
+use Rattle.drm_table.specs.declared.answer.Stepped.{Stepped}
+use Rattle.drm_table.specs.declared.answer.Finished.{Finished}
+use Rattle.drm_table.specs.declared.answer.Expired.{Expired}
 use Rattle.drm_sched.specs.Marks.{MarkedDevice}
 use Rattle.drm_gpu.specs.Answers.{CountsAre, FinishIs, PickIs, StepIs, TimeoutIs}
 use Rattle.drm_gpu.specs.Laws.{reflexive, transitive}
@@ -18,13 +21,13 @@ use Rattle.drm_report.specs.Jobs.{JobAt}
 use Rattle.drm_workers.specs.Armings.{ArmsNoMore, HasArmed}
 use Rattle.drm_workers.proofs.Lists.{unit}
 
-pub pick_arms : OnlyArmingsArm → (ring now : ℕ) (x : Result Picked Refusal) (old new : PassState) → Calls (PickIs ring now x) old new → ArmsNoMore old new
+pub pick_arms : OnlyArmingsArm → (ring now : ℕ) (x : Result Picked PickError) (old new : PassState) → Calls (PickIs ring now x) old new → ArmsNoMore old new
 pick_arms law ring now x old new c = (c.gpu, law.pick ring now x old new c)
 
-pub step_arms : OnlyArmingsArm → (ring : ℕ) (x : Result Stepped Refusal) (old new : PassState) → Calls (StepIs ring x) old new → ArmsNoMore old new
+pub step_arms : OnlyArmingsArm → (ring : ℕ) (x : Result Stepped StepError) (old new : PassState) → Calls (StepIs ring x) old new → ArmsNoMore old new
 step_arms law ring x old new c = (c.gpu, law.step ring x old new c)
 
-pub finish_arms : OnlyArmingsArm → (ring now : ℕ) (x : Result Finished Refusal) (old new : PassState) → Calls (FinishIs ring now x) old new → ArmsNoMore old new
+pub finish_arms : OnlyArmingsArm → (ring now : ℕ) (x : Result Finished FinishError) (old new : PassState) → Calls (FinishIs ring now x) old new → ArmsNoMore old new
 finish_arms law ring now x old new c = (c.gpu, law.finish ring now x old new c)
 
 pub timeout_arms : OnlyArmingsArm → (ring now : ℕ) (x : Expired) (old new : PassState) → Calls (TimeoutIs ring now x) old new → ArmsNoMore old new
@@ -36,7 +39,7 @@ counts_arm law n old new c = (c.gpu, law.counts n old new c)
 onward : (does : MarkedDevice → MarkedDevice → Type 0) (old new : PassState) → Calls does old new → GrowsTo old.last new.last
 onward does old new c = transitive old.last c.found new.last c.later c.onward
 
-pub refused_arms : OnlyArmingsArm → (job : Draft) (r : Refusal) (old new : PassState) → Calls (ArmRefused job r) old new → HasArmed [] old new
+pub refused_arms : OnlyArmingsArm → (job : Draft) (r : ArmError) (old new : PassState) → Calls (ArmRefused job r) old new → HasArmed [] old new
 refused_arms law job r old new c = record {
   gpu = c.gpu;
   later = onward (ArmRefused job r) old new c;
@@ -85,5 +88,5 @@ told_arms old new is = stays old new (ap (λ p. p.gpu) is) (ap (λ p. p.last) is
 pub locks_arm : (old new : Submission) → GoesOn old new → HasArmed [] old.pass new.pass
 locks_arm old new on = stays old.pass new.pass (ap (λ p. p.gpu) on.2) (ap (λ p. p.last) on.2) (ap (λ p. p.calls) on.2)
 
-pub packet_arms : OnlyArmingsArm → (ring : ℕ) (x : Result Stepped Refusal) (old new : PassState) (out : RunningState) → Starts ring old out → Calls (StepIs out.ring x) out.pass new → ArmsNoMore old new
+pub packet_arms : OnlyArmingsArm → (ring : ℕ) (x : Result Stepped StepError) (old new : PassState) (out : RunningState) → Starts ring old out → Calls (StepIs out.ring x) out.pass new → ArmsNoMore old new
 packet_arms law ring x old new out s c = nothing_then old out.pass new (s.gpu, ap (λ (p : PassState). armings p.calls) s.pass) (step_arms law out.ring x out.pass new c)

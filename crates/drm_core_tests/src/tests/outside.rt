@@ -4,7 +4,9 @@ ghost use Rattle.std.specs.Prelude.{◌≡◌, [], ◌∷◌, None, IfSome, IsTr
 ghost use Rattle.drm_job.specs.Fault.{IsJob};
 
 use crate::{ENTITY, Job, OTHER, RING, Work, device, draft_of};
-use drm_core::{Begun, Device, Expired, Held, Plan, Refusal};
+use drm_core::{
+    ArmError, Begun, Device, Expired, FinishError, Held, Plan, StepError, TimeoutError,
+};
 use drm_job::{check, conflicts};
 use drm_packet::Packet;
 use drm_resv::Deps;
@@ -43,7 +45,7 @@ fn job_of(alloc: Global, device: &Device, job: Job) -> Option<drm_job::Job>
 }
 
 /// Whether the job of this number was armed.
-pub fn is_armed(armed: Result<FenceId, (Plan, Refusal)>, fence: FenceId) -> bool {
+pub fn is_armed(armed: Result<FenceId, (Plan, ArmError)>, fence: FenceId) -> bool {
     match armed {
         Ok(number) => number == fence,
         Err((_plan, _refusal)) => false,
@@ -118,20 +120,20 @@ fn sends_out(device: &mut Device, ring: u32, fence: FenceId, packet: u32) -> boo
 /// Whether the ring neither steps nor begins a step, since a packet is in its way.
 fn is_kept(device: &mut Device, ring: u32) -> bool {
     (ring as usize) < device.spec().rings.len()
-        && matches!(device.begin_step(ring), Err(Refusal::PacketOut))
-        && matches!(device.step(ring), Err(Refusal::PacketOut))
+        && matches!(device.begin_step(ring), Err(StepError::PacketOut))
+        && matches!(device.step(ring), Err(StepError::PacketOut))
 }
 
 fn waits_for_its_packet(device: &mut Device) -> bool {
     !device.spec().rings.is_empty()
-        && matches!(device.finish(0, 1), Err(Refusal::PacketOut))
-        && matches!(device.timeout(0, 20), Err(Refusal::PacketOut))
+        && matches!(device.finish(0, 1), Err(FinishError::PacketOut))
+        && matches!(device.timeout(0, 20), Err(TimeoutError::PacketOut))
 }
 
 /// Whether the ring ends and times out as if nothing were out.
 fn goes_on(device: &mut Device) -> bool {
     device.spec().rings.len() == 2
-        && matches!(device.finish(1, 1), Err(Refusal::NotComplete))
+        && matches!(device.finish(1, 1), Err(FinishError::NotComplete))
         && matches!(device.timeout(1, 5), Ok(Expired::NotYet { due_in: 5 }))
 }
 
@@ -273,7 +275,7 @@ fn is_stalled(device: &mut Device) -> bool {
 fn is_idle(device: &mut Device) -> bool
     ensures { device.new.state ≡ device.old.state }
 {
-    !device.spec().rings.is_empty() && matches!(device.begin_step(0), Err(Refusal::Idle))
+    !device.spec().rings.is_empty() && matches!(device.begin_step(0), Err(StepError::Idle))
 }
 
 #[test]

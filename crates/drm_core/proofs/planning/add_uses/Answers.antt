@@ -1,7 +1,7 @@
 use Rattle.std.proofs.Common.{◌≡◌, ◌<◌, ◌∙◌, sym, ap, length, slice_get, Some, get_or, arith}
 use Rattle.std.proofs.lemmas.Option.{slice_get_within, slice_get-get_or}
 use Rattle.drm_fence.specs.Fences.{has_ended_at}
-use Rattle.drm_sched.specs.Reservation.{usage_at}
+use Rattle.drm_table.specs.Reservation.{usage_at}
 use Rattle.drm_core.proofs.Lists.{get_set_other}
 use Rattle.drm_core.proofs.RoomFacts.{use_next}
 use Rattle.drm_core.proofs.planning.add_uses.Goals as goal

@@ -1,7 +1,7 @@
 use Rattle.std.proofs.Common.{◌≡◌, ◌<◌, ◌≤◌, ℕ, Some, slice_get}
 use Rattle.drm_fence.specs.Fences.{has_ended_at}
 use Rattle.drm_resv.specs.Reservation.{WithRoom}
-use Rattle.drm_sched.specs.Uses.{HasUse}
+use Rattle.drm_table.specs.Uses.{HasUse}
 use Rattle.drm_core.proofs.planning.add_uses.Given as goal
 
 abbrev pub invariant-loop-place : goal.invariant-loop-place

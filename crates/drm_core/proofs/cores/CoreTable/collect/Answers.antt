@@ -1,5 +1,5 @@
 use Rattle.std.proofs.Common.{◌≡◌, ◌∙◌, ◌<◌, sym, ap, subst, length, Some, slice_get}
-use Rattle.drm_sched.specs.Plans.{DepsCover}
+use Rattle.drm_table.specs.Plans.{DepsCover}
 use Rattle.drm_core.specs.Planning.{all_collected}
 use Rattle.drm_core.proofs.Collecting.{collected_covers, declared_below}
 use Rattle.drm_core.proofs.Submitting.{resv_there}

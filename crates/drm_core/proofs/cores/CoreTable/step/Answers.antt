@@ -1,6 +1,7 @@
 use Rattle.std.proofs.Common.{◌∙◌, Some, None, ap, subst, sym, refl}
-use Rattle.drm_sched.specs.Events.{IsKept}
-use Rattle.drm_sched.specs.declared.answer.Answer.TheVariants as answer
+use Rattle.drm_table.specs.Errors.{refusal_of_step}
+use Rattle.drm_table.specs.Events.{IsKept}
+use Rattle.drm_table.specs.declared.answer.Answer.TheVariants as answer
 use Rattle.drm_core.specs.declared.event.Event.TheVariants as event
 use Rattle.drm_sched.specs.Marks.{MarkedDevice, is_in_way}
 use Rattle.drm_core.specs.Cores.{core_state, IsCore}
@@ -26,8 +27,9 @@ returns-in-Ok-clause-core c =
 pub returns-in-Err-clause-reply : goal.returns-in-Err-clause-reply
 returns-in-Err-clause-reply c =
     let t = c.args.self.now in
-    reply_early (core_state t) (event.Step c.args.ring) c.in-Err.refusal (out_is (is_in_way t.device c.args.ring) _ (Some c.in-Err.refusal) (nothing_in_way t.device c.args.ring c.requires.core.inside) c.in-Err.ensures.refused.0)
-    ∙ ap (λ (d : MarkedDevice). (answer.Refused c.in-Err.refusal, core_state (record t { device = d }))) (sym c.in-Err.ensures.refused.1)
+    reply_early (core_state t) (event.Step c.args.ring) (refusal_of_step c.in-Err.error) (out_is (is_in_way t.device c.args.ring) _ (Some (refusal_of_step c.in-Err.error)) (nothing_in_way t.device c.args.ring c.requires.core.inside) c.in-Err.ensures.refused.0)
+    ∙ ap (λ (d : MarkedDevice). (answer.Refused (refusal_of_step c.in-Err.error), core_state (record t { device = d }))) (sym c.in-Err.ensures.refused.1)
+    ∙ ap (λ r. (answer.Refused r, core_state (record t { device = c.step.new.self }))) (sym c.from.ensures)
 
 pub returns-in-Err-clause-core : goal.returns-in-Err-clause-core
 returns-in-Err-clause-core c = subst (λ (d : MarkedDevice). IsCore (record c.args.self.now { device = d })) (sym c.in-Err.ensures.refused.1) c.requires.core

@@ -1,5 +1,6 @@
 use Rattle.std.proofs.Common.{◌≡◌, ◌∙◌, Some, None, ap, subst, sym, refl}
-use Rattle.drm_sched.specs.Events.{IsKept}
+use Rattle.drm_table.specs.Errors.{refusal_of_timeout}
+use Rattle.drm_table.specs.Events.{IsKept}
 use Rattle.drm_core.specs.declared.event.Event.TheVariants as event
 use Rattle.drm_sched.specs.Marks.{MarkedDevice, ring_out}
 use Rattle.drm_core.specs.Cores.{core_state, IsCore}
@@ -24,8 +25,8 @@ returns-in-Ok-clause-core c =
 pub returns-in-Err-clause-reply : goal.returns-in-Err-clause-reply
 returns-in-Err-clause-reply c =
     let d = c.args.self.now.device in
-    let never : None ≡ Some c.in-Err.refusal =
-    out_is (ring_out d c.args.ring) None (Some c.in-Err.refusal) (no_ring_out d c.args.ring c.requires.core.inside) c.in-Err.ensures.refused.0 in
+    let never : None ≡ Some (refusal_of_timeout c.in-Err.error) =
+    out_is (ring_out d c.args.ring) None (Some (refusal_of_timeout c.in-Err.error)) (no_ring_out d c.args.ring c.requires.core.inside) c.in-Err.ensures.refused.0 in
     absurd (cc (never))
 
 pub returns-in-Err-clause-core : goal.returns-in-Err-clause-core

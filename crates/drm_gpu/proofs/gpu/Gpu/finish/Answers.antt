@@ -1,6 +1,7 @@
 use Rattle.std.proofs.Common.{Ok, Err, Some, None}
+use Rattle.drm_table.specs.Errors.{refusal_of_finish}
 use Rattle.drm_sched.specs.Marks.{ring_out}
-use Rattle.drm_sched.specs.Refusals.{finish_refusal}
+use Rattle.drm_table.specs.Refusals.{finish_refusal}
 use Rattle.drm_gpu.specs.Answers.{FinishIs}
 use Rattle.drm_gpu.proofs.Called.{called}
 use Rattle.drm_gpu.proofs.Packets.{not_out}
@@ -21,7 +22,7 @@ returns g c =
     let d = c.enter_for-device.result in
     let a = c.finish in
     record {
-      call = called (FinishIs c.args.ring c.args.now (Err c.in-Err.refusal)) c.args.self.now c.args.pass.now c.pass.inside.seat.place.table_id c.pass.inside.seat c.enter_for-device.new.seat c.leave.new.seat d c.of-found.result.value a.new.self
+      call = called (FinishIs c.args.ring c.args.now (Err c.in-Err.error)) c.args.self.now c.args.pass.now c.pass.inside.seat.place.table_id c.pass.inside.seat c.enter_for-device.new.seat c.leave.new.seat d c.of-found.result.value a.new.self
           c.pass.view_is c.requires.pass c.enter_for-device.ensures.found c.enter_for-device.ensures.same c.of-found.ensures a.ensures.grows c.leave.ensures.seat c.leave.ensures.call
-          (c.enter_for-device.ensures.free, not_out (ring_out d c.args.ring) (finish_refusal d.state c.args.ring) (Some c.in-Err.refusal) c.enter_for-device.ensures.free c.in-Err.ensures.refused.0, c.in-Err.ensures.refused.1);
+          (c.enter_for-device.ensures.free, not_out (ring_out d c.args.ring) (finish_refusal d.state c.args.ring) (Some (refusal_of_finish c.in-Err.error)) c.enter_for-device.ensures.free c.in-Err.ensures.refused.0, c.in-Err.ensures.refused.1);
     }

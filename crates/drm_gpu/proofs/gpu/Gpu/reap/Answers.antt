@@ -18,7 +18,7 @@ returns g c =
     let d = c.enter-device.result in
     let a = c.reap in
     record {
-      call = called (ReapIs c.args.entity (Err c.in-Err.refusal)) c.args.self.now c.args.pass.now c.pass.inside.seat.place.table_id c.pass.inside.seat c.enter-device.new.seat c.leave.new.seat d c.of-found.result.value a.new.self
+      call = called (ReapIs c.args.entity (Err c.in-Err.error)) c.args.self.now c.args.pass.now c.pass.inside.seat.place.table_id c.pass.inside.seat c.enter-device.new.seat c.leave.new.seat d c.of-found.result.value a.new.self
           c.pass.view_is c.requires.pass c.enter-device.ensures.found c.enter-device.ensures.same c.of-found.ensures a.ensures.grows c.leave.ensures.seat c.leave.ensures.call
           c.in-Err.ensures.refused;
     }

@@ -1,14 +1,15 @@
 use Rattle.std.proofs.Common.{◌≡◌, ap, sym, subst, Err, None, Ok}
 use Rattle.ww_lock.specs.Begun.{sees}
-use Rattle.drm_sched.specs.Grows.{Grows}
-use Rattle.drm_sched.specs.State.{DeviceState}
-use Rattle.drm_sched.specs.declared.answer.Answer.TheVariants as answer
-use Rattle.drm_sched.specs.declared.answer.Refusal.TheVariants.{Idle}
-use Rattle.drm_sched.specs.declared.answer.Stepped.TheVariants.{Stalled}
+use Rattle.drm_table.specs.Grows.{Grows}
+use Rattle.drm_table.specs.State.{DeviceState}
+use Rattle.drm_table.specs.declared.answer.Answer.TheVariants as answer
+use Rattle.drm_table.specs.declared.errors.StepError.TheVariants.{Idle}
+use Rattle.drm_table.specs.declared.answer.Stepped.TheVariants.{Stalled}
 use Rattle.drm_sched.specs.Begun.{HasBegun, MayComeBack, out_or}
+use Rattle.drm_table.specs.Errors.{refusal_of_step}
 use Rattle.drm_sched.specs.Marks.{IsBusy, MarkedDevice}
-use Rattle.drm_sched.specs.Outcomes.{step_outcome}
-use Rattle.drm_sched.specs.Refusals.{step_refusal}
+use Rattle.drm_table.specs.Outcomes.{step_outcome}
+use Rattle.drm_table.specs.Refusals.{step_refusal}
 use Rattle.drm_gpu.specs.Answers.{StepIs}
 use Rattle.drm_gpu.specs.declared.running.OutPacket.{OutPacket}
 use Rattle.drm_gpu.specs.Passes.{GrowsTo}
@@ -45,7 +46,7 @@ returns g c =
     let d = c.enter_for-device.result in
     let e = c.begin_step.new.self in
     let why = c.in-Err.ensures.refused in
-    let idle = only_idle d c.args.ring _ c.in-Err._idle c.enter_for-device.ensures.free why.0 in (
+    let idle = only_idle d c.args.ring _ (refusal_of_step c.in-Err._idle) c.enter_for-device.ensures.free why.0 in (
       c.leave-in-Err.ensures.seat.0,
       calls_as (StepIs c.args.ring (Err Idle)) (sees c.args.seat.now) (sees c.enter_for-device.new.seat) (sees c.leave-in-Err.new.seat) d c.of-found.result.value e
           c.enter_for-device.ensures.found c.enter_for-device.ensures.same c.of-found.ensures (subst (λ x. GrowsTo x e) why.1 (grows_itself e))

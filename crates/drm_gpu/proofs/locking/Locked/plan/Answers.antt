@@ -1,6 +1,6 @@
 use Rattle.std.proofs.Common.{◌≡◌, ◌∙◌, ap, sym, subst, true, false}
 use Rattle.ww_lock.specs.Acquiring.{view}
-use Rattle.drm_sched.specs.Held.{HaveRoom, kept_of}
+use Rattle.drm_table.specs.Held.{HaveRoom, kept_of}
 use Rattle.drm_gpu.specs.Passes.{Seeing, pass_of}
 use Rattle.drm_gpu.specs.Submissions.{DeviceAcquire, HoldsAll, IsCollected, collected_from}
 use Rattle.drm_gpu.proofs.Claims.{parts, room_taken}

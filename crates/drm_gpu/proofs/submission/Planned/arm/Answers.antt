@@ -3,11 +3,12 @@ use Rattle.ww_lock.specs.Acquiring.{view}
 use Rattle.ww_lock.specs.Steps.{number_of}
 use Rattle.drm_types.specs.declared.spec.DeviceSpec.{DeviceSpec}
 use Rattle.drm_job.specs.Fault.{IsJob}
-use Rattle.drm_sched.specs.declared.plans.Plan.{Plan}
-use Rattle.drm_sched.specs.Held.{HaveRoom, kept_of, armed_held}
-use Rattle.drm_sched.specs.Keeps.{Keeps}
+use Rattle.drm_table.specs.declared.plans.Plan.{Plan}
+use Rattle.drm_table.specs.Held.{HaveRoom, kept_of, armed_held}
+use Rattle.drm_table.specs.Keeps.{Keeps}
 use Rattle.drm_sched.specs.Marks.{MarkedDevice}
-use Rattle.drm_sched.specs.Refusals.{arm_refusal}
+use Rattle.drm_table.specs.Errors.{refusal_of_arm}
+use Rattle.drm_table.specs.Refusals.{arm_refusal}
 use Rattle.drm_gpu.specs.Passes.{IsSameBut, pass_of}
 use Rattle.drm_gpu.specs.Submissions.{PlannedSubmission, DeviceAcquire, EnteredWith, Fitting, HoldsAll, IsCollected, KeepsOthers, ArmIs, ArmRefused}
 use Rattle.drm_gpu.proofs.Covering.{covers}
@@ -146,10 +147,10 @@ returns-clause-refused g c =
     let deps : c.in-Err.plan.deps ≡ c.args.self.deps = ap (λ (p : Plan). p.deps) refused.1 ∙ ap (λ (p : PlannedSubmission). p.deps) c.self.view_is in
     let held : kept_of last.held.items ≡ c.args.self.submission.held =
     ap (λ h. kept_of h.items) (c.leave_with.ensures.same.2 ∙ (ap (λ (a : DeviceAcquire). a.held) c.put_values.ensures.values ∙ (refused.3 ∙ taken))) ∙ ap (λ (p : PlannedSubmission). p.submission.held) c.self.view_is in (
-      called_with (ArmRefused c.args.self.submission.job c.in-Err.refusal) gpu c.args.self.submission.pass (view c.self.inside.acquire) (view c.put_values.new.self) (view last) d c.of-found.result.value e
+      called_with (ArmRefused c.args.self.submission.job c.in-Err.error) gpu c.args.self.submission.pass (view c.self.inside.acquire) (view c.put_values.new.self) (view last) d c.of-found.result.value e
           (ap (λ (p : PlannedSubmission). p.submission.pass) c.self.view_is) c.self.invariant.0.knows c.enter_with-device.ensures.found
           (subst (λ v. IsSameBut (view c.self.inside.acquire) v) (sym same) c.enter_with-device.ensures.same.1) c.of-found.ensures c.arm-answer.ensures.grows
           (c.leave_with.ensures.holding.0.knows, c.leave_with.ensures.holding.1) c.leave_with.ensures.call
-          (subst (λ (p : PlannedSubmission). arm_refusal d.state p.submission.job ≡ Some c.in-Err.refusal) c.self.view_is refused.0, refused.2),
+          (subst (λ (p : PlannedSubmission). arm_refusal d.state p.submission.job ≡ Some (refusal_of_arm c.in-Err.error)) c.self.view_is refused.0, refused.2),
       λ i. record { submission = record { pass = pass_of gpu.home (view last); ticket = ticket i; job = job i; held = held i }; deps = deps i },
     )

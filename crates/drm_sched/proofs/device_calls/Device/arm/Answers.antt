@@ -1,16 +1,18 @@
 use Rattle.std.proofs.Common.{rules, ◌≡◌, ◌∙◌, ap, sym, subst, length, None}
+use Rattle.std.specs.Prelude.{option_map}
 use Rattle.std.specs.Vec.{with_items}
 use Rattle.drm_fence.specs.Fences.{has_ended_at}
-use Rattle.drm_sched.specs.Arming.{armed_device}
-use Rattle.drm_sched.specs.Grows.{Grows}
-use Rattle.drm_sched.specs.Held.{kept_of, armed_held, AllFit}
-use Rattle.drm_sched.specs.Keeps.{KeepsArmed}
+use Rattle.drm_table.specs.Arming.{armed_device}
+use Rattle.drm_table.specs.Errors.{refusal_of_arm}
+use Rattle.drm_table.specs.Grows.{Grows}
+use Rattle.drm_table.specs.Held.{kept_of, armed_held, AllFit}
+use Rattle.drm_table.specs.Keeps.{KeepsArmed}
 use Rattle.drm_sched.specs.Marks.{MarkedDevice}
-use Rattle.drm_sched.specs.Refusals.{arm_refusal}
-use Rattle.drm_sched.specs.State.{DeviceState}
-use Rattle.drm_sched.specs.Tables.{state_of}
-use Rattle.drm_sched.proofs.Growth.{arm_grows}
-use Rattle.drm_sched.proofs.HeldFacts.{held_in_vector, held_after, held_order}
+use Rattle.drm_table.specs.Refusals.{arm_refusal}
+use Rattle.drm_table.specs.State.{DeviceState}
+use Rattle.drm_table.specs.Tables.{state_of}
+use Rattle.drm_table.proofs.Growth.{arm_grows}
+use Rattle.drm_table.proofs.HeldFacts.{held_in_vector, held_after, held_order}
 use Rattle.drm_sched.proofs.Words.{arm_keeps}
 use Rattle.drm_sched.proofs.Boxed.{heads_read, view_read, whole_read}
 use Rattle.drm_sched.proofs.device_calls.Device.arm.Goals as goal
@@ -56,7 +58,7 @@ pub returns-clause-keeps : goal.returns-clause-keeps
 returns-clause-keeps c =
     let job = c.args.plan.job in
     let d : DeviceState = c.args.self.now.state in
-    let may : arm_refusal d job ≡ None = ap (λ (d : MarkedDevice). arm_refusal d.state job) (sym (view_read c.deref.ensures c.self.view_is)) ∙ (sym c.arm_refusal.ensures ∙ c.in_default.is) in
+    let may : arm_refusal d job ≡ None = ap (λ (d : MarkedDevice). arm_refusal d.state job) (sym (view_read c.deref.ensures c.self.view_is)) ∙ (sym c.arm_refusal.ensures ∙ ap (option_map refusal_of_arm) c.in_default.is) in
     let fence : c.arm.result ≡ length d.journal = c.arm.ensures.number ∙ ap (λ (d : MarkedDevice). length d.state.journal) (view_read c.deref_mut-parts.ensures.value c.self.view_is) in
     let new : state_of c.arm.new.self.marked.table ≡ armed_device d job = c.arm.ensures.armed ∙ ap (λ (d : MarkedDevice). armed_device d.state job) (view_read c.deref_mut-parts.ensures.value c.self.view_is) in
     subst (λ n. KeepsArmed job n d (state_of c.arm.new.self.marked.table)) (sym fence) (subst (λ e. KeepsArmed job (length d.journal) d e) (sym new) (arm_keeps d job may))

@@ -1,9 +1,9 @@
 use Rattle.std.proofs.Common.{rules, subst}
 use Rattle.std.specs.Prelude.{MatchResult}
-use Rattle.drm_sched.specs.Grows.{Grows}
-use Rattle.drm_sched.specs.Keeps.{Keeps, KeepsBut}
+use Rattle.drm_table.specs.Grows.{Grows}
+use Rattle.drm_table.specs.Keeps.{Keeps, KeepsBut}
 use Rattle.drm_sched.specs.Marks.{MarkedDevice}
-use Rattle.drm_sched.specs.Tables.{state_of}
+use Rattle.drm_table.specs.Tables.{state_of}
 use Rattle.drm_sched.proofs.MarkedGrows.{reap_grows}
 use Rattle.drm_sched.proofs.MarkedKeeps.{reap_keeps_marked}
 use Rattle.drm_sched.proofs.SchedulerSame.{tables_left}

@@ -1,10 +1,10 @@
 use Rattle.std.proofs.Common.{rules, subst}
 use Rattle.drm_sched.specs.Begun.{KeepsTasks}
-use Rattle.drm_sched.specs.Grows.{Grows}
-use Rattle.drm_sched.specs.Keeps.{Keeps}
+use Rattle.drm_table.specs.Grows.{Grows}
+use Rattle.drm_table.specs.Keeps.{Keeps}
 use Rattle.drm_sched.specs.MarkedTables.{marked_of}
 use Rattle.drm_sched.specs.Marks.{MarkedDevice}
-use Rattle.drm_sched.specs.Tables.{state_of}
+use Rattle.drm_table.specs.Tables.{state_of}
 use Rattle.drm_sched.proofs.MarkedGrows.{report_grows}
 use Rattle.drm_sched.proofs.MarkedKeeps.{report_keeps_marked}
 use Rattle.drm_sched.proofs.MarkedTasks.{report_keeps}

@@ -1,8 +1,8 @@
 use Rattle.std.proofs.Common.{rules, ◌<◌, length, sym, subst}
-use Rattle.drm_sched.specs.Grows.{Grows}
-use Rattle.drm_sched.specs.Keeps.{Keeps}
+use Rattle.drm_table.specs.Grows.{Grows}
+use Rattle.drm_table.specs.Keeps.{Keeps}
 use Rattle.drm_sched.specs.Marks.{MarkedDevice}
-use Rattle.drm_sched.specs.Tables.{state_of}
+use Rattle.drm_table.specs.Tables.{state_of}
 use Rattle.drm_sched.proofs.MarkedGrows.{timeout_grows}
 use Rattle.drm_sched.proofs.MarkedKeeps.{timeout_keeps_marked}
 use Rattle.drm_sched.proofs.SchedulerSame.{tables_left}

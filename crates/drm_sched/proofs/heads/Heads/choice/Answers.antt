@@ -1,8 +1,8 @@
 use Rattle.std.proofs.Common.{◌∙◌, sym}
-use Rattle.drm_sched.specs.Tables.{state_of}
+use Rattle.drm_table.specs.Tables.{state_of}
 use Rattle.drm_sched.proofs.HeadChoice.{choice_found, choice_missing}
-use Rattle.drm_sched.proofs.Queues.{head_is_first}
-use Rattle.drm_sched.proofs.TableFacts.{entity_row_there}
+use Rattle.drm_table.proofs.Queues.{head_is_first}
+use Rattle.drm_table.proofs.TableFacts.{entity_row_there}
 use Rattle.drm_sched.proofs.heads.Heads.choice.Goals as goal
 
 pub returns-in_err-entity : goal.returns-in_err-entity

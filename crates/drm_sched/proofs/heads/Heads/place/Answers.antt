@@ -2,17 +2,17 @@ use Rattle.std.proofs.Common.{◌≡◌, ◌<◌, ◌∙◌, ℕ, cond, [], leng
 use Rattle.std.proofs.lemmas.Bool.{eq-eqb}
 use Rattle.std.proofs.lemmas.Option.{slice_get-get_or, slice_get_within}
 use Rattle.drm_types.specs.declared.spec.EntitySpec.{EntitySpec}
-use Rattle.drm_sched.specs.declared.journal.JobRecord.{JobRecord}
+use Rattle.drm_table.specs.declared.journal.JobRecord.{JobRecord}
 use Rattle.drm_sched.specs.declared.heads.Heads.{Heads}
 use Rattle.drm_fence.specs.Waiting.{Waiting}
 use Rattle.drm_sched.specs.Watching.{unmet_pairs, watched_of}
 use Rattle.drm_sched.specs.Heads.{keys_at, AreWatched}
-use Rattle.drm_sched.specs.Tables.{state_of}
-use Rattle.drm_sched.proofs.Candidates.{queued_goes_on}
+use Rattle.drm_table.specs.Tables.{state_of}
+use Rattle.drm_table.proofs.Candidates.{queued_goes_on}
 use Rattle.drm_sched.proofs.HeadChoice.{keys_there}
 use Rattle.drm_sched.proofs.HeadsKept.{no_head_stands, stopped_key, stopped_watched, empty_key, empty_watched, head_placed, deps_there, front_found, no_front, its_record, deps_of, read_deps}
-use Rattle.drm_sched.proofs.Reaping.{job_ring_there}
-use Rattle.drm_sched.proofs.TableFacts.{vec_holds, entity_row_there}
+use Rattle.drm_table.proofs.Reaping.{job_ring_there}
+use Rattle.drm_table.proofs.TableFacts.{vec_holds, entity_row_there}
 use Rattle.drm_sched.proofs.heads.Heads.place.Goals as goal
 
 pub head-requires : goal.head-requires

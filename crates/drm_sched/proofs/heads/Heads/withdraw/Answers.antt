@@ -1,12 +1,12 @@
 use Rattle.std.proofs.Common.{◌≡◌, ◌≢◌, ℕ, ◌∙◌, ◌<◌, None, length, sym, subst}
-use Rattle.drm_sched.specs.declared.journal.JobRecord.{JobRecord}
+use Rattle.drm_table.specs.declared.journal.JobRecord.{JobRecord}
 use Rattle.drm_sched.specs.Heads.{head_key}
-use Rattle.drm_sched.specs.Tables.{state_of}
+use Rattle.drm_table.specs.Tables.{state_of}
 use Rattle.drm_sched.specs.Watching.{watched_of}
 use Rattle.drm_sched.proofs.HeadsKept.{empty_key, empty_watched, front_found, no_front, its_record, head_removed, on_no_other, keys_room}
 use Rattle.drm_sched.proofs.HeadsArmed.{stand_but}
-use Rattle.drm_sched.proofs.Reaping.{job_ring_there}
-use Rattle.drm_sched.proofs.TableFacts.{vec_holds, entity_row_there}
+use Rattle.drm_table.proofs.Reaping.{job_ring_there}
+use Rattle.drm_table.proofs.TableFacts.{vec_holds, entity_row_there}
 use Rattle.drm_sched.proofs.heads.Heads.withdraw.Goals as goal
 
 pub head-requires : goal.head-requires

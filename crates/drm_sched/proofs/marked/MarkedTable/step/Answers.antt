@@ -1,7 +1,7 @@
 use Rattle.std.proofs.Common.{sym, ◌∙◌}
 use Rattle.drm_sched.specs.Marks.{ring_out, buffer_out}
 use Rattle.drm_sched.specs.MarkedTables.{marked_of}
-use Rattle.drm_sched.proofs.TableFacts.{neither}
+use Rattle.drm_table.proofs.TableFacts.{neither}
 use Rattle.drm_sched.proofs.MarkedOut.{asks_is, next_is_in}
 use Rattle.drm_sched.proofs.MarkedSteps.{step_marked}
 use Rattle.drm_sched.proofs.marked.MarkedTable.step.Goals as goal

@@ -1,8 +1,9 @@
 use Rattle.std.proofs.Common.{◌∙◌, sym, ap}
 use Rattle.drm_types.specs.Firsts.{when}
-use Rattle.drm_sched.specs.declared.answer.Refusal.TheVariants.{AlreadyStopped}
-use Rattle.drm_sched.specs.Refusals.{cancel_refusal}
-use Rattle.drm_sched.specs.Tables.{state_of}
+use Rattle.drm_table.specs.declared.answer.Refusal.TheVariants.{AlreadyStopped}
+use Rattle.drm_table.specs.Errors.{refusal_of_cancel}
+use Rattle.drm_table.specs.Refusals.{cancel_refusal}
+use Rattle.drm_table.specs.Tables.{state_of}
 use Rattle.drm_sched.proofs.SchedulerKept.{cancel_beside, never_refused}
 use Rattle.drm_sched.proofs.scheduler.Scheduler.cancel.Goals as goal
 
@@ -13,5 +14,5 @@ returns-clause-heads c =
 
 pub returns-clause-refused : goal.returns-clause-refused
 returns-clause-refused c =
-    never_refused c.cancel.result (cancel_refusal (state_of c.args.self.now.marked.table) c.args.entity) _ _
+    never_refused c.cancel.result refusal_of_cancel (cancel_refusal (state_of c.args.self.now.marked.table) c.args.entity) _ _
     (ap (λ b. when b AlreadyStopped) (sym c.is_stopped.ensures ∙ c.if-is_stopped.false)) c.cancel.ensures.refused

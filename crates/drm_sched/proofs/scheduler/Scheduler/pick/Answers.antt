@@ -1,8 +1,8 @@
 use Rattle.std.proofs.Common.{◌≡◌, ◌<◌, ◌∙◌, length, sym, ap, subst}
 use Rattle.drm_types.specs.declared.spec.DeviceSpec.{DeviceSpec}
-use Rattle.drm_sched.specs.declared.journal.JobRecord.{JobRecord}
+use Rattle.drm_table.specs.declared.journal.JobRecord.{JobRecord}
 use Rattle.drm_sched.specs.Heads.{keys_at}
-use Rattle.drm_sched.specs.Tables.{state_of}
+use Rattle.drm_table.specs.Tables.{state_of}
 use Rattle.drm_sched.proofs.HeadEvents.{pick_heads}
 use Rattle.drm_sched.proofs.HeadsKept.{its_record, keys_room}
 use Rattle.drm_sched.proofs.SchedulerKept.{is_picked}

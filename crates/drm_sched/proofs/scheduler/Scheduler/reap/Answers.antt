@@ -1,4 +1,4 @@
-use Rattle.drm_sched.specs.Tables.{state_of}
+use Rattle.drm_table.specs.Tables.{state_of}
 use Rattle.drm_sched.proofs.HeadEvents.{reap_heads}
 use Rattle.drm_sched.proofs.scheduler.Scheduler.reap.Goals as goal
 

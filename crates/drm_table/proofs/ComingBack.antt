@@ -1,0 +1,44 @@
+-- A packet that comes back to its table is the step of its ring.
+use Rattle.std.proofs.Common.{◌≡◌, ℕ, ◌+◌, false, List, set, Some, Option, sym, ap, ◌∙◌, slice_get}
+use Rattle.drm_buffer.specs.Stored.{Stored}
+use Rattle.drm_fence.specs.Fences.{Fences}
+use Rattle.drm_packet.specs.declared.Packet.{Packet}
+use Rattle.drm_packet.specs.Effect.{effect}
+use Rattle.drm_table.specs.declared.journal.JobRecord.{JobRecord}
+use Rattle.drm_table.specs.declared.table.Table.{Table}
+use Rattle.drm_table.specs.State.{DeviceState}
+use Rattle.drm_table.specs.Outside.{ComesBack}
+use Rattle.drm_table.specs.Outcomes.{must_stall, ran_device}
+use Rattle.drm_table.specs.Tables.{state_of, ring_state_of}
+use Rattle.drm_table.proofs.Records.{changed_is}
+use Rattle.drm_table.proofs.RanLawful.{one_more_ran}
+use Rattle.drm_table.proofs.StepDone.{ran_tables}
+use Rattle.drm_table.specs.declared.table.RingJobs.{RingJobs}
+use Rattle.drm_table.proofs.LoadsKept.{map_set_same}
+
+-- the job of what comes back, and its packet
+pub job_back : (t : Table) (ring number : ℕ) (write read : Option (List ℕ)) (back : ComesBack t ring number write read) (y : JobRecord) → slice_get t.journal.items number ≡ Some y → y ≡ back.job
+job_back t ring number write read back y at = cc (at, back.at)
+
+pub packet_back : (t : Table) (ring number : ℕ) (write read : Option (List ℕ)) (back : ComesBack t ring number write read) (y : JobRecord) (p : Packet)
+    → slice_get t.journal.items number ≡ Some y → slice_get y.job.packets y.ran ≡ Some p → p ≡ back.packet
+packet_back t ring number write read back y p at next =
+    let same = job_back t ring number write read back y at in
+    let e : Some p ≡ Some back.packet = sym next ∙ (ap (λ (z : JobRecord). slice_get z.job.packets z.ran) same ∙ back.next) in cc (e)
+
+pub runs_back : (t : Table) (ring number : ℕ) (write read : Option (List ℕ)) (back : ComesBack t ring number write read) (y : JobRecord) (p : Packet)
+    → slice_get t.journal.items number ≡ Some y → slice_get y.job.packets y.ran ≡ Some p → must_stall p y.karma.resets ≡ false
+runs_back t ring number write read back y p at next =
+    ap (λ q. must_stall q y.karma.resets) (packet_back t ring number write read back y p at next)
+    ∙ (ap (λ (z : JobRecord). must_stall back.packet z.karma.resets) (job_back t ring number write read back y at) ∙ back.runs)
+
+-- the tables after it are those of the device that ran it
+pub back_state : (t : Table) (ring f : ℕ) (x y : JobRecord) (p : Packet) (memory : Stored) (fences : Fences) (row new : RingJobs) → memory.bytes ≡ effect p t.memory.bytes → x ≡ y
+    → slice_get t.journal.items f ≡ Some y → slice_get t.rings.items ring ≡ Some row → ring_state_of new ≡ ring_state_of row
+    → state_of (ran_tables t ring f x y.ran memory fences new) ≡ ran_device (state_of t) f p
+back_state t ring f x y p memory fences row new bytes same at at_row row_is =
+    ap (λ rs. let d : DeviceState = record (state_of t) { memory = memory.bytes; journal = set t.journal.items f (record x { ran = y.ran + 1 }); rings = rs } in d)
+    (map_set_same ring_state_of t.rings.items ring row new at_row row_is)
+    ∙ (ap (λ bs. let d : DeviceState = record (state_of t) { memory = bs; journal = set t.journal.items f (record x { ran = y.ran + 1 }) } in d) bytes
+    ∙ (ap (λ (z : JobRecord). let d : DeviceState = record (state_of t) { memory = effect p t.memory.bytes; journal = set t.journal.items f (record z { ran = y.ran + 1 }) } in d) same
+    ∙ ap (λ js. let d : DeviceState = record (state_of t) { memory = effect p t.memory.bytes; journal = js } in d) (sym (changed_is t.journal.items f y one_more_ran at))))

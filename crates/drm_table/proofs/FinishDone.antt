@@ -1,0 +1,155 @@
+-- A finish of a complete head is the finish of its definition, and keeps the tables whole.
+use Rattle.std.proofs.Common.{◌≡◌, ℕ, ◌+◌, set, ◌<◌, true, false, not, cond, List, [], ◌∷◌, length, map, Some, None, refl, sym, ap, subst, ◌∙◌, inl, inr, arith, slice_get, suc, drop, ◌-◌}
+use Rattle.std.specs.declared.alloc.Global.{Global}
+use Rattle.std.specs.Prelude.{vec_capacity, Vec}
+use Rattle.std.specs.Option.{option_map_or}
+use Rattle.std.specs.Vec.{with_item}
+use Rattle.std.proofs.lemmas.Bool.{cases_Bool}
+use Rattle.drm_types.specs.Firsts.{first}
+use Rattle.drm_types.specs.declared.outcome.Outcome.{Outcome}
+use Rattle.drm_fence.specs.Fences.{Fences}
+use Rattle.drm_fence.specs.declared.phase.Phase.TheVariants.{Ended}
+use Rattle.drm_fence.specs.Phases.{is_queued, has_ended}
+use Rattle.drm_table.specs.declared.journal.JobRecord.{JobRecord}
+use Rattle.drm_table.specs.declared.loads.Loads.{Loads}
+use Rattle.drm_table.specs.declared.table.RingJobs.{RingJobs}
+use Rattle.drm_table.specs.declared.table.Table.{Table}
+use Rattle.drm_table.specs.declared.answer.Answer.TheVariants as answer
+use Rattle.drm_table.specs.Journal.{is_at, is_complete}
+use Rattle.drm_table.specs.Ring.{head_of, ring_changed}
+use Rattle.drm_table.specs.Refusals.{finish_refusal}
+use Rattle.drm_table.specs.Outcomes.{final_outcome, ended_at, finish_outcome, finished_device}
+use Rattle.drm_table.specs.Plain.{QueuesStand}
+use Rattle.drm_table.specs.Loads.{LoadsOf}
+use Rattle.drm_table.specs.Tables.{state_of, fence_state_of, ring_state_of, popped_at, ending, IsWhole}
+use Rattle.drm_table.proofs.Records.{at_test, changed_is}
+use Rattle.drm_table.proofs.Queues.{stands_set}
+use Rattle.drm_table.proofs.FinishLawful.{IsHead, head_is}
+use Rattle.drm_table.specs.Events.{IsKept}
+use Rattle.drm_table.proofs.DeviceSteps.{finish_kept}
+use Rattle.drm_table.proofs.LoadsKept.{loads_ended}
+use Rattle.drm_table.proofs.TableFacts.{rings_tie, rooms_kept, row_pending, whole_kept}
+use Rattle.drm_table.proofs.CallsAre.{Left, finish_may, finish_ends}
+use Rattle.drm_table.specs.Rows.{is_open, passed_of}
+use Rattle.drm_table.proofs.RowsKept.{open_set, rows_changed, credits_popped}
+use Rattle.drm_table.proofs.Passing.{passed_rest, passed_same}
+use Rattle.drm_table.specs.State.{RingState}
+use Rattle.std.specs.VecDeque.{deque_capacity, deque_len}
+use Rattle.drm_ring.specs.Counted.{need_of}
+
+-- what is known of a head that may end
+pub record MayEnd (t : Table) (ring f : ℕ) (outcome : Outcome) (r : JobRecord) : Type 0 where
+  pub head : IsHead (state_of t) ring f r
+  pub complete : is_complete r ≡ true
+  pub ends : outcome ≡ final_outcome r
+
+pub may_end : (t : Table) (ring f : ℕ) (outcome : Outcome) → IsWhole t → ring < length t.spec.rings → head_of (state_of t) ring ≡ Some f
+    → option_map_or ending (slice_get t.journal.items f) None ≡ Some outcome → (r : JobRecord) × MayEnd t ring f outcome r
+may_end t ring f outcome w there is ends =
+    let h = head_is (state_of t) ring f w.steady.lawful there is in
+    let ends_so : ending h.0 ≡ Some outcome = sym (ap (λ o. option_map_or ending o None) h.1.at) ∙ ends in
+    elim (cases_Bool (is_complete h.0)) [
+      | inl complete ↦
+          let same : Some (final_outcome h.0) ≡ Some outcome = sym (ap (λ b. cond b (Some (final_outcome h.0)) None) complete) ∙ ends_so in
+          let is_same : final_outcome h.0 ≡ outcome = cc (same) in
+          (h.0, record { head = h.1; complete = complete; ends = sym is_same })
+      | inr going ↦
+          let never : None ≡ Some outcome = sym (ap (λ b. cond b (Some (final_outcome h.0)) None) going) ∙ ends_so in absurd (cc (never))
+    ]
+
+-- a head that may not end
+pub may_not_end : (t : Table) (ring f : ℕ) → IsWhole t → ring < length t.spec.rings → head_of (state_of t) ring ≡ Some f
+    → option_map_or ending (slice_get t.journal.items f) None ≡ None → (r : JobRecord) × IsHead (state_of t) ring f r × (is_complete r ≡ false)
+may_not_end t ring f w there is ends =
+    let h = head_is (state_of t) ring f w.steady.lawful there is in
+    let ends_so : ending h.0 ≡ None = sym (ap (λ o. option_map_or ending o None) h.1.at) ∙ ends in
+    elim (cases_Bool (is_complete h.0)) [
+      | inl complete ↦
+          let never : Some (final_outcome h.0) ≡ None = sym (ap (λ b. cond b (Some (final_outcome h.0)) None) complete) ∙ ends_so in absurd (cc (never))
+      | inr going ↦ (h.0, h.1, going)
+    ]
+
+-- it is still going in the eyes of its fence
+pub not_ended_yet : (t : Table) (ring f : ℕ) (r : JobRecord) → IsHead (state_of t) ring f r → is_at t.journal.items f (λ r. not (has_ended r.phase)) ≡ true
+not_ended_yet t ring f r h = at_test t.journal.items f r (λ r. not (has_ended r.phase)) h.at ∙ ap (λ p. not (has_ended p)) h.phase
+
+-- the row of a ring with a head has one
+pub row_has_head : (t : Table) (ring f : ℕ) (row : RingJobs) → slice_get t.rings.items ring ≡ Some row → head_of (state_of t) ring ≡ Some f → 0 < deque_len row.pending
+row_has_head t ring f row at is =
+    subst (λ n. 0 < n) (sym row.pending.ok.0) (some_first row.pending.items (sym (ap first (row_pending t ring row at)) ∙ is))
+  where
+    some_first : (xs : List ℕ) → first xs ≡ Some f → 0 < length xs
+    some_first [] none = absurd (cc (none))
+    some_first (x ∷ xs) some = omega arith
+
+-- the head was passed over
+pub head_passed : (t : Table) (ring f : ℕ) (outcome : Outcome) (r : JobRecord) (row : RingJobs) → IsWhole t → slice_get t.rings.items ring ≡ Some row → (may : MayEnd t ring f outcome r)
+    → row.passed ≡ suc (passed_of (is_open t.journal.items) may.head.rest)
+head_passed t ring f outcome r row w at may =
+    let stands : row.pending.items ≡ f ∷ may.head.rest = sym (row_pending t ring row at) ∙ may.head.stands in
+    (w.rows ring row at).passed ∙ (ap (passed_of (is_open t.journal.items)) stands
+    ∙ passed_rest (is_open t.journal.items) f may.head.rest (at_test t.journal.items f r (λ z. not (is_complete z)) may.head.at ∙ ap not may.complete))
+
+-- the others go on to be passed over
+behind_head : (t : Table) (ring f : ℕ) (r : JobRecord) (journal : List JobRecord) (outcome : Outcome) (row new : RingJobs) → IsWhole t → slice_get t.rings.items ring ≡ Some row
+    → MayEnd t ring f outcome r → journal ≡ ended_at t.journal.items f outcome → new.pending.items ≡ drop 1 row.pending.items → new.passed + 1 ≡ row.passed
+    → new.passed ≡ passed_of (is_open journal) new.pending.items
+behind_head t ring f r journal outcome row new w at may items pending one_less =
+    let stands : row.pending.items ≡ f ∷ may.head.rest = sym (row_pending t ring row at) ∙ may.head.stands in
+    let head = head_passed t ring f outcome r row w at may in
+    let left : new.passed ≡ passed_of (is_open t.journal.items) may.head.rest = omega (arith, head, one_less) in
+    let same = items ∙ changed_is t.journal.items f r (λ r. record r { phase = Ended outcome }) may.head.at in
+    left
+    ∙ (passed_same (is_open t.journal.items) (is_open journal) may.head.rest (λ k g at_k.
+    sym (ap (λ js. is_open js g) same ∙ open_set t.journal.items f r (record r { phase = Ended outcome }) may.head.at refl g))
+    ∙ sym (ap (passed_of (is_open journal)) (pending ∙ ap (drop 1) stands)))
+
+-- the tables after the finish
+abbrev pub finished_tables : Table → ℕ → Vec JobRecord Global → Fences → RingJobs → Loads → Table
+finished_tables t ring journal fences row loads = record t { journal = journal; fences = fences; rings = with_item t.rings ring row; loads = loads }
+
+pub finish_done : (t : Table) (ring now f : ℕ) (outcome : Outcome) (r : JobRecord) (journal : Vec JobRecord Global) (fences : Fences) (row new : RingJobs) (loads : Loads) → IsWhole t
+    → ring < length t.spec.rings → head_of (state_of t) ring ≡ Some f → MayEnd t ring f outcome r → journal.items ≡ ended_at t.journal.items f outcome
+    → fences.list ≡ map fence_state_of journal.items → vec_capacity journal ≡ vec_capacity t.journal → fences.places ≡ t.fences.places
+    → slice_get t.rings.items ring ≡ Some row → ring_state_of new ≡ popped_at now (ring_state_of row) → new.passed + 1 ≡ row.passed
+    → new.credits ≡ record row.credits { count = row.credits.count - need_of row.credits r.job.credits } → deque_capacity new.pending ≡ deque_capacity row.pending
+    → ((n : ℕ) → slice_get t.loads.live.items ring ≡ Some (n + 1) → loads.live.items ≡ set t.loads.live.items ring n) → loads.last ≡ t.loads.last → loads.ended ≡ t.loads.ended + 1
+    → (finish_refusal (state_of t) ring ≡ None)
+    × (finish_outcome (state_of t) ring now ≡ (answer.Finished f outcome, state_of (finished_tables t ring journal fences new loads)))
+    × IsWhole (finished_tables t ring journal fences new loads)
+finish_done t ring now f outcome r journal fences row new loads w there is may items tied room places at row_is one_less given_back row_room live last one_more =
+    let d = state_of t in
+    let rings = rings_tie t.rings.items ring row new (popped_at now) at row_is in
+    let left : Left = (answer.Finished f outcome, state_of (finished_tables t ring journal fences new loads)) in
+    let ended : JobRecord = record r { phase = Ended outcome } in
+    let changed : journal.items ≡ set t.journal.items f ended = items ∙ changed_is t.journal.items f r (λ r. record r { phase = Ended outcome }) may.head.at in
+    let queues : QueuesStand journal.items t.entities =
+    subst (λ js. QueuesStand js t.entities) (sym (items ∙ changed_is t.journal.items f r (λ r. record r { phase = Ended outcome }) may.head.at))
+    (stands_set t.journal.items f r ended t.entities may.head.at refl (sym (ap is_queued may.head.phase)) w.queues) in
+    let loaded : LoadsOf t.spec journal.items loads =
+    subst (λ js. LoadsOf t.spec js loads) (sym (items ∙ changed_is t.journal.items f r (λ r. record r { phase = Ended outcome }) may.head.at))
+    (loads_ended t.spec t.journal.items f r ended t.loads loads w.loads may.head.at (ap has_ended may.head.phase) refl refl refl
+    (subst (λ k. k < length t.spec.rings) (sym may.head.on_ring) there)
+    (subst (λ k. (n : ℕ) → slice_get t.loads.live.items k ≡ Some (n + 1) → loads.live.items ≡ set t.loads.live.items k n) (sym may.head.on_ring) live) last one_more) in
+    let ends : finish_outcome d ring now ≡ left =
+    finish_ends d ring now f r is may.head.at
+    ∙ (ap (λ o. let q : Left = (answer.Finished f o, finished_device d ring now f o) in q) (sym may.ends)
+    ∙ (ap (λ j. let q : Left = (answer.Finished f outcome, record d { journal = j; rings = ring_changed d.rings ring (popped_at now) }) in q) (sym items)
+    ∙ ap (λ rs. let q : Left = (answer.Finished f outcome, record d { journal = journal.items; rings = rs }) in q) (sym rings))) in
+    let kept : IsKept d (state_of (finished_tables t ring journal fences new loads)) =
+    subst (λ (q : Left). IsKept d q.1) ends (finish_kept d ring now w.steady there (finish_may d ring f r is may.head.at may.complete)) in
+    let stands : row.pending.items ≡ f ∷ may.head.rest = sym (row_pending t ring row at) ∙ may.head.stands in
+    let pending : new.pending.items ≡ drop 1 row.pending.items = ap (λ (s : RingState). s.pending) row_is in (
+      finish_may d ring f r is may.head.at may.complete,
+      ends,
+      whole_kept t (finished_tables t ring journal fences new loads) w
+          kept
+          tied refl queues loaded
+          (rows_changed t ring row new (set t.rings.items ring new) (state_of (finished_tables t ring journal fences new loads)) w kept.grows at refl
+          (record {
+            passed = behind_head t ring f r journal.items outcome row new w at may items pending one_less;
+            credits = credits_popped t ring f may.head.rest r row new (state_of (finished_tables t ring journal fences new loads)) w at may.head.at kept.grows stands (pending ∙ ap (drop 1) stands) given_back;
+          })
+          (λ g x at_g scheduled apart. ap (λ js. is_open js g) changed ∙ open_set t.journal.items f r ended may.head.at refl g)) refl
+          (rooms_kept t (finished_tables t ring journal fences new loads) ring row new w.rooms refl refl at row_room room refl places refl),
+    )

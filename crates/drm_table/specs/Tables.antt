@@ -1,0 +1,86 @@
+-- The state that a device's tables stand for, and what they keep.
+use Rattle.std.specs.Prelude.{◌≡◌, ℕ, ◌≤◌, false, Contains, ◌==◌, if◌then◌else◌, [], ◌∷◌, ◌++◌, drop, length, map, Option, Some, None, slice_get, vec_capacity}
+use Rattle.drm_types.specs.Limits.{spec_fault}
+use Rattle.drm_buffer.specs.Memory.{sizes_of}
+use Rattle.drm_buffer.specs.Stored.{AreIn}
+use Rattle.drm_packet.specs.declared.Packet.{Packet}
+use Rattle.drm_packet.specs.Touches.{touches}
+use Rattle.drm_fence.specs.declared.timeline.FenceState.{FenceState}
+use Rattle.drm_table.specs.declared.journal.JobRecord.{JobRecord}
+use Rattle.drm_table.specs.declared.table.RingJobs.{RingJobs}
+use Rattle.drm_table.specs.declared.table.Table.{Table}
+use Rattle.drm_table.specs.State.{RingState, DeviceState}
+use Rattle.drm_table.specs.Journal.{is_complete}
+use Rattle.drm_table.specs.Outcomes.{final_outcome, next_packet}
+use Rattle.drm_types.specs.declared.outcome.Outcome.{Outcome}
+use Rattle.drm_table.specs.Ring.{credit_limit_of, current_of}
+use Rattle.drm_table.specs.Steady.{IsSteady}
+use Rattle.drm_table.specs.Plain.{marks, WaitsStand, QueuesStand}
+use Rattle.drm_table.specs.Loads.{LoadsOf}
+use Rattle.drm_table.specs.Rows.{RowsStand}
+use Rattle.std.specs.VecDeque.{deque_capacity}
+
+abbrev pub ring_state_of : RingJobs → RingState
+ring_state_of row = record { pending = row.pending.items; since = row.since }
+
+-- the fence of a job
+abbrev pub fence_state_of : JobRecord → FenceState
+fence_state_of r = record { phase = r.phase; ran = r.ran }
+
+abbrev pub state_of : Table → DeviceState
+state_of t = record {
+  spec = t.spec;
+  memory = t.memory.bytes;
+  journal = t.journal.items;
+  rings = map ring_state_of t.rings.items;
+  entities = marks t.entities;
+}
+
+-- the ring with one more pending job, from now on where it is the first
+abbrev pub put_in : ℕ → ℕ → RingState → RingState
+put_in number now s = record {
+  pending = s.pending ++ number ∷ [];
+  since = if length s.pending == 0 then now else s.since;
+}
+
+-- the ring without its head. The next job's age counts from now
+abbrev pub popped_at : ℕ → RingState → RingState
+popped_at now s = record { pending = drop 1 s.pending; since = if length s.pending == 1 then s.since else now }
+
+-- how a job ends, where the ring is done with it
+abbrev pub ending : JobRecord → Option Outcome
+ending r = if is_complete r then Some (final_outcome r) else None
+
+-- the room that was taken when the device was opened: for all jobs, in their queues too, and for the pending jobs of each
+-- ring
+pub record HasRooms (t : Table) : Type 0 where
+  pub jobs : t.spec.max_jobs ≤ vec_capacity t.journal
+  pub waits : t.spec.max_jobs ≤ t.waits.places
+  pub places : t.fences.places ≡ t.spec.max_jobs
+  pub queues : t.entities.places ≡ t.spec.max_jobs
+  pub pending : (ring : ℕ) (row : RingJobs) → slice_get t.rings.items ring ≡ Some row → credit_limit_of (state_of t) ring ≤ deque_capacity row.pending
+
+-- the tables of a steady device: its fences, its queues and its loads are those of its jobs, each job that has not ended has its
+-- dependencies, its rings have passed over the jobs that they are done with and count the credits of all that are pending, and there is
+-- room for what may come
+pub record IsWhole (t : Table) : Type 0 where
+  pub steady : IsSteady (state_of t)
+  pub limits : spec_fault t.spec ≡ None
+  pub count : length t.journal.items ≤ t.spec.max_jobs
+  pub fences : t.fences.list ≡ map fence_state_of t.journal.items
+  pub waits : WaitsStand t.journal.items t.waits.lists
+  pub queues : QueuesStand t.journal.items t.entities
+  pub loads : LoadsOf t.spec t.journal.items t.loads
+  pub rows : RowsStand (state_of t) t.rings.items
+  pub sizes : sizes_of t.memory.bytes ≡ sizes_of t.spec.buffers
+  pub rooms : HasRooms t
+
+-- nothing is out
+abbrev pub AllIn : Table → Type 0
+AllIn t = AreIn (length t.spec.buffers) t.memory.out
+
+-- no buffer of the ring's next packet is out
+abbrev pub NextIsIn : Table → ℕ → Type 0
+NextIsIn t ring =
+    (f : ℕ) (p : Packet) → current_of (state_of t) ring ≡ Some f → next_packet t.journal.items f ≡ Some p
+    → (b : ℕ) → Contains (touches p) b → slice_get t.memory.out b ≡ Some false

@@ -1,0 +1,180 @@
+ghost use Rattle.std.specs.Prelude.{◌≡◌, ℕ, ◌<◌, [], ◌∷◌, ◌++◌, length, Some, None, Option, find, option_map, nat_le, slice_get};
+ghost use Rattle.drm_job.specs.Fault.{IsJob};
+ghost use Rattle.drm_table.specs.Arming.{armed_device, arming_ring, first_ring, least_loaded, less_loaded, load as load_of, live_ring as live_ring_of, rings_of};
+ghost use Rattle.drm_table.specs.Refusals.{arm_refusal as arm_refusal_of};
+ghost use Rattle.drm_table.specs.Tables.{state_of, IsWhole};
+ghost use Rattle.drm_table.specs.Plans.{DepsCover, all_named, entity_at};
+ghost use Rattle.drm_table.specs.Errors.{refusal_of_arm};
+
+use crate::errors::ArmError;
+use crate::journal::JobRecord;
+use crate::plans::Plan;
+use crate::table::Table;
+use drm_fence::Phase;
+use drm_job::Job;
+use drm_reset::Karma;
+use drm_resv::Deps;
+use drm_types::{EntityId, FenceId, RingId};
+
+// The first of these fences that was not armed yet.
+fn first_unarmed(after: &[FenceId], armed: u32) -> Option<FenceId>
+    ensures { result ≡ find (λ f. nat_le armed f) after.now }
+{
+    after.iter().copied().find(|fence| armed <= *fence)
+}
+
+// The entity of the job of this number.
+fn entity_of(journal: &[JobRecord], fence: FenceId) -> EntityId
+    ensures { result ≡ entity_at journal.now fence }
+{
+    match journal.get(fence as usize) {
+        Some(record) => record.job.entity(),
+        None => 0,
+    }
+}
+
+// The fences that the job names are noted beside those that its reservations ask to wait for.
+fn note_named(journal: &[JobRecord], after: &[FenceId], deps: &mut Deps)
+    requires { (r : JobRecord) (f : ℕ) → slice_get journal.now f ≡ Some r → r.job.entity < 64 }
+    ensures { deps.new ≡ all_named journal.now deps.old after.now }
+{
+    for fence in after {
+        deps.note(entity_of(journal, *fence), *fence);
+    }
+}
+
+impl Table {
+    /// How many jobs are queued for the ring or pending on it (`drm_gpu_scheduler.score`).
+    pub fn load(&self, ring: RingId) -> u32
+        requires there { ring < length self.now.spec.rings }
+        requires whole { IsWhole self.now }
+        ensures { result ≡ load_of self.now.journal.items ring }
+    {
+        self.loads.live[ring as usize]
+    }
+
+    // The ring of the entity's jobs that have no outcome: its last job is one of them, if there is one.
+    fn live_ring(&self, entity: EntityId) -> Option<RingId>
+        requires there { entity < length self.now.spec.entities }
+        requires whole { IsWhole self.now }
+        ensures { result ≡ live_ring_of self.now.journal.items entity }
+    {
+        let Some(last) = self.loads.last[entity as usize] else {
+            return None;
+        };
+        let record = &self.journal[last as usize];
+        if record.phase.is_ended() {
+            None
+        } else {
+            Some(record.ring)
+        }
+    }
+
+    // The rings that are listed for the entity, and the first of them.
+    fn rings_of(&self, entity: EntityId) -> &[RingId]
+        requires { entity < length self.now.spec.entities }
+        ensures { result.now ≡ rings_of self.now.spec entity }
+    {
+        self.spec.entities.as_slice()[entity as usize]
+            .rings
+            .as_slice()
+    }
+
+    fn first_ring(&self, entity: EntityId) -> RingId
+        requires { entity < length self.now.spec.entities }
+        ensures { result ≡ first_ring self.now.spec entity }
+    {
+        self.rings_of(entity).first().copied().unwrap_or(0)
+    }
+
+    // Of two rings the one that is less loaded, the first where they are alike.
+    fn less_loaded(&self, best: RingId, ring: RingId) -> RingId
+        requires best { best < length self.now.spec.rings }
+        requires ring { ring < length self.now.spec.rings }
+        requires whole { IsWhole self.now }
+        ensures less { result ≡ less_loaded self.now.journal.items best ring }
+        ensures there { result < length self.now.spec.rings }
+    {
+        if self.load(ring) < self.load(best) {
+            ring
+        } else {
+            best
+        }
+    }
+
+    // The least loaded ring of the entity's list, the first where some are alike (`drm_sched_pick_best`).
+    fn least_loaded(&self, entity: EntityId) -> RingId
+        requires there { entity < length self.now.spec.entities }
+        requires whole { IsWhole self.now }
+        ensures { result ≡ least_loaded (state_of self.now) entity }
+    {
+        let rings = self.rings_of(entity);
+        let mut best = self.first_ring(entity);
+        for ring in rings {
+            best = self.less_loaded(best, *ring);
+        }
+        best
+    }
+
+    // The ring of the entity's next job (`drm_sched_entity_select_rq`).
+    fn arming_ring(&self, entity: EntityId) -> RingId
+        requires there { entity < length self.now.spec.entities }
+        requires whole { IsWhole self.now }
+        ensures { result ≡ arming_ring (state_of self.now) entity }
+    {
+        match self.live_ring(entity) {
+            Some(ring) => ring,
+            None => self.least_loaded(entity),
+        }
+    }
+
+    /// Why the job is not armed: its entity is stopped, the device is full, or it names a fence not armed yet.
+    pub fn arm_refusal(&self, job: &Job) -> Option<ArmError>
+        requires { IsWhole self.now }
+        ensures { option_map refusal_of_arm result ≡ arm_refusal_of (state_of self.now) job.now }
+    {
+        if self.is_stopped(job.entity()) {
+            return Some(ArmError::Stopped);
+        }
+        let armed = self.journal.len() as u32;
+        if self.spec.max_jobs <= armed {
+            return Some(ArmError::Full);
+        }
+        match first_unarmed(job.after(), armed) {
+            Some(fence) => Some(ArmError::NoFence { fence }),
+            None => None,
+        }
+    }
+
+    /// Arms the job (`drm_sched_job_arm` and `drm_sched_entity_push_job` in one), which nothing refuses: it gets
+    /// the next number, its fence, and its place at the end of its entity's queue.
+    pub fn arm(&mut self, plan: Plan) -> FenceId
+        requires job { IsJob self.old.spec plan.job }
+        requires covers { DepsCover (state_of self.old) plan.job plan.deps }
+        requires may { arm_refusal_of (state_of self.old) plan.job ≡ None }
+        requires whole { IsWhole self.old }
+        ensures number { result ≡ length self.old.journal.items }
+        ensures armed { state_of self.new ≡ armed_device (state_of self.old) plan.job }
+        ensures whole { IsWhole self.new }
+        ensures out { self.new.memory.out ≡ self.old.memory.out }
+        ensures waits { (deps : _) × (self.new.waits.lists ≡ self.old.waits.lists ++ deps ∷ []) }
+    {
+        let Plan { job, mut deps } = plan;
+        note_named(&self.journal, job.after(), &mut deps);
+        let entity = job.entity();
+        let ring = self.arming_ring(entity);
+        let number = self.journal.len() as u32;
+        self.entities.push(entity, number);
+        self.loads.add(ring, entity, number);
+        self.waits.push(&deps);
+        self.journal.push_reserved(JobRecord {
+            job,
+            ring,
+            phase: Phase::Queued,
+            ran: 0,
+            is_skipped: false,
+            karma: Karma::zero(),
+        });
+        self.fences.arm()
+    }
+}
