@@ -58,6 +58,14 @@ joined_more h xs place x ys within found so =
     ∙ sym (flat_map-append h (enumerate_from 0 (take place xs)) ((place, x) ∷ []))
     ∙ ap (flat_map h) (sym (placed_more xs place x within found))
 
+-- the next element, of which something is kept behind what there was before, or nothing
+pub kept_next : {X Y : Type 0} (h : X → Option Y) (xs : List X) (place : ℕ) (x : X) (old ys : List Y) → place < length xs → x ≡ get_or xs place x
+    → ys ≡ old ++ filter_map h (take place xs) → ys ++ cons_option (h x) [] ≡ old ++ filter_map h (take (place + 1) xs)
+kept_next h xs place x old ys within found so =
+    ap (λ l. l ++ cons_option (h x) []) so
+    ∙ append_assoc old (filter_map h (take place xs)) (cons_option (h x) [])
+    ∙ ap (λ l. old ++ l) (sym (filter_map-append h (take place xs) (x ∷ [])) ∙ ap (filter_map h) (sym (take-more xs place x within found)))
+
 -- one element more, of which something is told behind what was told before, or nothing
 pub told_more : {X Y Z : Type 0} (h : ℕ × X → Option Y) (f : Y → Z) (xs : List X) (place : ℕ) (x : X) (old zs : List Z) → place < length xs → x ≡ get_or xs place x
     → zs ≡ old ++ map f (filter_map h (enumerate_from 0 (take place xs))) → zs ++ map f (cons_option (h (place, x)) []) ≡ old ++ map f (filter_map h (enumerate_from 0 (take (place + 1) xs)))

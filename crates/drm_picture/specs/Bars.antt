@@ -83,13 +83,14 @@ abbrev pub locked_by : Command → Answer → Option Opening
 locked_by (command.Try ctx buffer) a = locked buffer ctx a
 locked_by _ a = None
 
--- what a step behind these begins of this kind
+-- what a step behind these begins of this kind. A job may begin to wait for several buffers at once: Waiting has these bars
 abbrev pub opening_of : Kind → List Step → Step → Option Opening
 opening_of kind.Job before step = picked_by step.command step.answer
 opening_of kind.Queued before step = queued (armed_job before step) step.answer
 opening_of kind.Stopped before step = stopped_by step.command step.answer
 opening_of kind.Lock before step = locked_by step.command step.answer
 opening_of kind.Fence before step = armed step.answer
+opening_of kind.Waiting before step = None
 
 -- the job of this fence leaves its ring
 abbrev pub ends_job : ℕ → Answer → Bool
@@ -128,6 +129,7 @@ ends kind.Queued opening step = leaves_queue opening.number step.answer
 ends kind.Stopped opening step = false
 ends kind.Lock opening step = unlocks_in opening.lane opening.number step
 ends kind.Fence opening step = ends_fence opening.number step.answer
+ends kind.Waiting opening step = false
 
 abbrev pub shown_by_outcome : Outcome → Look
 shown_by_outcome outcome.Good = look.Good
@@ -169,6 +171,7 @@ steps_between kind opening behind = unwrap_or (position (ends kind opening) behi
 -- the bar of what begins by the step at this place, before these
 abbrev pub bar_from : Kind → ℕ → Step → List Step → Opening → Bar
 bar_from kind place step behind opening = record {
+  kind = kind;
   opening = opening;
   from = place;
   span = steps_between kind opening behind + 1;

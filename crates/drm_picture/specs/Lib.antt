@@ -2,4 +2,5 @@ pub mod Commands
 pub mod Bars
 pub mod Marks
 pub mod Waits
+pub mod Waiting
 pub mod Pictures

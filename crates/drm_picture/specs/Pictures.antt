@@ -2,6 +2,7 @@
 use Rattle.std.specs.Prelude.{◌≡◌, ℕ, List, drop, map, take}
 use Rattle.drm_picture.specs.Bars.{bars_of}
 use Rattle.drm_picture.specs.Marks.{marks_of}
+use Rattle.drm_picture.specs.Waiting.{waiting_of}
 use Rattle.drm_picture.specs.Waits.{waits_of}
 use Rattle.drm_picture.specs.declared.bars.Kind.TheVariants as kind
 use Rattle.drm_picture.specs.declared.command.Step.{Step}
@@ -22,6 +23,7 @@ pub record IsPicture (shape : Shape) (from to : ℕ) (steps : List Step) (pictur
   pub queued : picture.queued.items ≡ bars_of kind.Queued from (take to steps)
   pub stopped : picture.stopped.items ≡ bars_of kind.Stopped from (take to steps)
   pub locks : picture.locks.items ≡ bars_of kind.Lock from (take to steps)
+  pub waiting : picture.waiting.items ≡ waiting_of from (take to steps)
   pub fences : picture.fences.items ≡ bars_of kind.Fence from (take to steps)
   pub marks : picture.marks.items ≡ marks_of from (take to steps)
   pub waits : picture.waits.items ≡ waits_of from (take to steps)

@@ -1,5 +1,5 @@
 -- Waits: which earlier fences the job of a fence waits for where it is armed.
-use Rattle.std.specs.Prelude.{ℕ, Bool, List, [], Option, Some, None, ◌+◌, ◌==◌, ◌&&◌, ◌||◌, drop, take, map, flat_map, get_or, nat_lt, option_and_then, slice_get, if◌then◌else◌}
+use Rattle.std.specs.Prelude.{ℕ, Bool, List, [], Option, Some, None, ◌+◌, ◌==◌, ◌&&◌, ◌||◌, drop, take, map, flat_map, nat_lt, option_and_then, slice_get, if◌then◌else◌}
 use Rattle.std.specs.List.{enumerate_from, filter_map, list_any}
 use Rattle.drm_types.specs.declared.access.Access.{Access}
 use Rattle.drm_job.specs.Conflicts.{must_wait}

@@ -7,7 +7,7 @@ ghost use Rattle.drm_picture.specs.Bars.{armed, armed_job as armed_job_of, bar_a
 ghost use Rattle.drm_picture.specs.Commands.{moment_of};
 
 use crate::command::{Command, Request, Step};
-use drm_sched::Answer;
+use drm_table::Answer;
 use drm_types::{Moment, Outcome};
 use std::alloc::{AllocError, Global};
 
@@ -34,6 +34,9 @@ pub enum Kind {
     Lock,
     /// A fence, from the arming of its job to its outcome.
     Fence,
+    /// A job that waits for a buffer, from its arming to the outcome of the last fence that holds it up there. It may wait
+    /// for several at once.
+    Waiting,
 }
 
 /// How a bar ended.
@@ -67,6 +70,8 @@ pub struct Opening {
 /// A bar.
 #[derive(Clone, Copy)]
 pub struct Bar {
+    /// What it is of.
+    pub kind: Kind,
     /// What begins.
     pub opening: Opening,
     /// The place of the command that begins it.
@@ -219,7 +224,7 @@ fn armed_at(answer: &Answer) -> Option<Opening>
     }
 }
 
-// What a step behind these begins of a kind.
+// What a step behind these begins of a kind, of which it can begin but one.
 fn opening_at(kind: Kind, before: &[Step], step: &Step) -> Option<Opening>
     ensures { result ≡ opening_of kind before.now step.now }
 {
@@ -235,6 +240,7 @@ fn opening_at(kind: Kind, before: &[Step], step: &Step) -> Option<Opening>
             _ => None,
         },
         Kind::Fence => armed_at(&step.answer),
+        Kind::Waiting => None,
     }
 }
 
@@ -297,6 +303,7 @@ fn is_end(kind: Kind, opening: Opening, step: &Step) -> bool
         Kind::Stopped => false,
         Kind::Lock => is_unlock(opening.lane, opening.number, step),
         Kind::Fence => is_end_of_fence(opening.number, &step.answer),
+        Kind::Waiting => false,
     }
 }
 
@@ -403,6 +410,7 @@ fn bar_of(kind: Kind, place: usize, step: &Step, behind: &[Step], opening: Openi
     let more = between(kind, opening, behind);
     let last = end_step(kind, opening, behind, more);
     Bar {
+        kind,
         opening,
         from: place,
         span: more + 1,
@@ -424,7 +432,7 @@ fn bar_beyond(kind: Kind, from: usize, run: &[Step], place: usize, step: &Step) 
 }
 
 // Adds what there is.
-fn push_bar(bars: &mut Vec<Bar>, found: Option<Bar>) -> Result<(), AllocError>
+pub(crate) fn push_bar(bars: &mut Vec<Bar>, found: Option<Bar>) -> Result<(), AllocError>
     ensures { OnOk result (bars.new.items ≡ bars.old.items ++ cons_option found []) }
 {
     match found {

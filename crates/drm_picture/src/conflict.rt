@@ -25,7 +25,7 @@ fn waits_for(declared: &[(BufferId, Access)], buffer: BufferId, access: Access) 
 }
 
 // Whether jobs that declare these conflict: at a buffer that both declare, the later waits for the earlier.
-fn is_conflict(earlier: &[(BufferId, Access)], later: &[(BufferId, Access)]) -> bool
+pub(crate) fn is_conflict(earlier: &[(BufferId, Access)], later: &[(BufferId, Access)]) -> bool
     ensures { result ≡ conflict earlier.now later.now }
 {
     earlier

@@ -11,6 +11,7 @@ mod command;
 mod conflict;
 mod marks;
 mod picture;
+mod waiting;
 mod waits;
 
 pub use bars::{Bar, Kind, Lane, Look, Opening};

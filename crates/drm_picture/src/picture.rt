@@ -6,6 +6,7 @@ ghost use Rattle.drm_picture.specs.Pictures.{IsPicture, part_of};
 use crate::bars::{Bar, Kind, bars};
 use crate::command::{Command, Step, commands, run_before};
 use crate::marks::{Mark, marks};
+use crate::waiting::waiting;
 use crate::waits::{Wait, waits};
 use std::alloc::{AllocError, Global};
 
@@ -34,6 +35,8 @@ pub struct Picture {
     pub stopped: Vec<Bar>,
     /// The buffers that contexts hold.
     pub locks: Vec<Bar>,
+    /// The jobs that wait for buffers.
+    pub waiting: Vec<Bar>,
     /// The fences. Those of each wait are among them.
     pub fences: Vec<Bar>,
     /// What happened at one command.
@@ -62,6 +65,7 @@ pub fn picture_of(
 {
     let run = run_before(steps, to);
     let fences = bars(alloc, Kind::Fence, from, run)?;
+    let waiting = waiting(alloc, from, run, &fences)?;
     let waits = waits(alloc, from, run, &fences)?;
     Ok(Picture {
         shape,
@@ -71,6 +75,7 @@ pub fn picture_of(
         queued: bars(alloc, Kind::Queued, from, run)?,
         stopped: bars(alloc, Kind::Stopped, from, run)?,
         locks: bars(alloc, Kind::Lock, from, run)?,
+        waiting,
         fences,
         marks: marks(alloc, from, run)?,
         waits,

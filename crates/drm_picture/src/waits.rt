@@ -9,7 +9,7 @@ ghost use Rattle.drm_picture.specs.declared.bars.Kind.TheVariants as kind;
 
 use crate::bars::{Bar, armed_job};
 use crate::command::{Request, Step, run_before};
-use drm_sched::Answer;
+use drm_table::Answer;
 use drm_types::{EntityId, FenceId};
 use std::alloc::{AllocError, Global};
 
@@ -35,14 +35,14 @@ pub(crate) struct Earlier {
 }
 
 // Whether the fence of a bar is armed before a place, and has no outcome there.
-fn is_open(bar: &Bar, place: usize) -> bool
+pub(crate) fn is_open(bar: &Bar, place: usize) -> bool
     ensures { result ≡ is_open_at place bar.now }
 {
     bar.from < place && place - bar.from < bar.span
 }
 
 // The job of the fence of a bar.
-fn job_of<'a>(run: &'a [Step], bar: &Bar) -> Option<&'a Request>
+pub(crate) fn job_of<'a>(run: &'a [Step], bar: &Bar) -> Option<&'a Request>
     ensures { option_copied result ≡ job_of_bar run.now bar.now }
 {
     match run.get(bar.from) {

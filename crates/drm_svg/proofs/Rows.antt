@@ -1,5 +1,5 @@
 -- Bars come into the rows of a lane, one after another.
-use Rattle.std.proofs.Common.{◌≡◌, ◌∙◌, ℕ, true, false, Bool, List, [], ◌∷◌, ◌++◌, ◌+◌, ◌<◌, ◌≤◌, ap, append-nil, inl, inr, refl, sym, subst, arith, length, map, take, get_or, filter, cond}
+use Rattle.std.proofs.Common.{◌≡◌, ◌∙◌, ℕ, true, false, Bool, List, [], ◌∷◌, ◌++◌, ◌+◌, ◌<◌, ◌≤◌, ap, append-nil, append_assoc, inl, inr, refl, sym, subst, arith, length, map, take, get_or, filter, cond}
 use Rattle.std.specs.Prelude.{All, AllPairs, Any}
 use Rattle.std.proofs.lemmas.Bool.{cases_eq}
 use Rattle.std.proofs.lemmas.List.{get_or_append_left, get_or_default, length-append, map-append}
@@ -127,13 +127,16 @@ one_more picture lane first bar bs es es' ps ps' old says true passes =
     let put = says.inside passes in put_in picture lane first bar bs es es' ps ps' old passes put.0 put.1
 one_more picture lane first bar bs es es' ps ps' old says false fails = left_out picture lane first bar bs es es' ps ps' old fails (says.outside fails)
 
--- the next bar of a list
-pub next_placed : (picture : Picture) (lane : Lane) (first : ℕ) (bars : List Bar) (k : ℕ) (d : Bar) (es es' : List ℕ) (ps ps' : List Placed) → k < length bars
-    → ArePlaced picture lane first (take k bars) ps es → PlacesIn picture lane first (get_or bars k d) es es' ps ps' → ArePlaced picture lane first (take (k + 1) bars) ps' es'
-next_placed picture lane first bars k d es es' ps ps' within old says =
+-- the next bar of a list, behind others
+pub next_placed : (picture : Picture) (lane : Lane) (first : ℕ) (before bars : List Bar) (k : ℕ) (d : Bar) (es es' : List ℕ) (ps ps' : List Placed) → k < length bars
+    → ArePlaced picture lane first (before ++ take k bars) ps es → PlacesIn picture lane first (get_or bars k d) es es' ps ps'
+    → ArePlaced picture lane first (before ++ take (k + 1) bars) ps' es'
+next_placed picture lane first before bars k d es es' ps ps' within old says =
     let bar = get_or bars k d in
-    subst (λ (l : List Bar). ArePlaced picture lane first l ps' es') (sym (take-more bars k bar within (get_or_default bars k d bar within)))
-    (one_more picture lane first bar (take k bars) es es' ps ps' old says (is_in lane bar) refl)
+    let more : before ++ take (k + 1) bars ≡ (before ++ take k bars) ++ bar ∷ [] =
+    ap (λ l. before ++ l) (take-more bars k bar within (get_or_default bars k d bar within)) ∙ sym (append_assoc before (take k bars) (bar ∷ [])) in
+    subst (λ (l : List Bar). ArePlaced picture lane first l ps' es') (sym more)
+    (one_more picture lane first bar (before ++ take k bars) es es' ps ps' old says (is_in lane bar) refl)
 
 -- no bar yet
 pub none_placed : (picture : Picture) (lane : Lane) (first : ℕ) (ps : List Placed) (es : List ℕ) → first ≡ length es → ps ≡ [] → ArePlaced picture lane first [] ps es

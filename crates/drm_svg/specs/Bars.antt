@@ -6,9 +6,9 @@ use Rattle.drm_picture.specs.declared.bars.Look.TheVariants as look
 use Rattle.drm_picture.specs.declared.picture.Picture.{Picture}
 use Rattle.drm_svg.specs.Escape.{escaped}
 use Rattle.drm_svg.specs.Layout.{placed_at, row_of_lane}
-use Rattle.drm_svg.specs.Signs.{class_of_lane, sign_of_look, word_of_look}
-use Rattle.drm_svg.specs.Titles.{halt_title_of, title_of}
-use Rattle.drm_svg.specs.declared.bars.TheConstants.{COLOUR, GROUP_END, HALT, HALT_HEIGHT, HEIGHT, TITLE}
+use Rattle.drm_svg.specs.Signs.{class_of_kind, sign_of_look, word_of_look}
+use Rattle.drm_svg.specs.Titles.{title_of}
+use Rattle.drm_svg.specs.declared.bars.TheConstants.{COLOUR, GROUP_END, HALT_HEIGHT, HEIGHT, TITLE}
 use Rattle.drm_svg.specs.declared.layout.Layout.{Layout}
 use Rattle.drm_svg.specs.declared.placing.Placed.{Placed}
 
@@ -33,7 +33,7 @@ class_of bar = if bar.opening.skipped then codes " skipped" else codes ""
 
 -- what a bar tells
 unfoldable pub title_text : Bar → List ℕ
-title_text bar = codes "<g class='" ++ class_of_lane bar.opening.lane ++ TITLE.now ++ escaped (title_of bar)
+title_text bar = codes "<g class='" ++ class_of_kind bar.kind ++ TITLE.now ++ escaped (title_of bar)
 
 -- its place and its size
 unfoldable pub place_text : Placed → List ℕ
@@ -57,13 +57,9 @@ unfoldable pub halt_place_text : Placed → List ℕ
 halt_place_text bar =
     codes "' x='" ++ decimal bar.left ++ codes "0' y='" ++ decimal bar.row ++ line_of bar.bar.look ++ codes "' width='" ++ decimal bar.width ++ HALT_HEIGHT.now
 
--- what the bar of an entity tells that was stopped
-unfoldable pub halt_title_text : Bar → List ℕ
-halt_title_text bar = HALT.now ++ escaped (halt_title_of bar)
-
 -- such a bar, below the marks
 unfoldable pub halt_text : Placed → List ℕ
-halt_text bar = halt_title_text bar.bar ++ colour_text bar.bar ++ halt_place_text bar
+halt_text bar = title_text bar.bar ++ colour_text bar.bar ++ halt_place_text bar
 
 -- the bars of the entities that were stopped, each in the header of its lane
 abbrev pub halts_text : Picture → Layout → List ℕ

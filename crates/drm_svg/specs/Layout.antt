@@ -38,7 +38,7 @@ end_of placed = placed.left + placed.width
 abbrev pub bars_of_kind : Picture → Lane → List Bar
 bars_of_kind picture (lane.Ring ring) = picture.jobs.items
 bars_of_kind picture (lane.Entity entity) = picture.queued.items
-bars_of_kind picture (lane.Buffer buffer) = picture.locks.items
+bars_of_kind picture (lane.Buffer buffer) = picture.locks.items ++ picture.waiting.items
 bars_of_kind picture (lane.Fence fence) = picture.fences.items
 
 -- the bar is in the lane

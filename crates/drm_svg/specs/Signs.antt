@@ -1,5 +1,7 @@
 -- The words, colours and shapes of what is drawn.
 use Rattle.std.specs.Prelude.{ℕ, List, [], ◌∷◌, ◌++◌, codes, decimal}
+use Rattle.drm_picture.specs.declared.bars.Kind.{Kind}
+use Rattle.drm_picture.specs.declared.bars.Kind.TheVariants as kind
 use Rattle.drm_picture.specs.declared.bars.Lane.{Lane}
 use Rattle.drm_picture.specs.declared.bars.Lane.TheVariants as lane
 use Rattle.drm_picture.specs.declared.bars.Look.{Look}
@@ -14,12 +16,14 @@ name_of (lane.Entity entity) = codes "entity " ++ decimal entity
 name_of (lane.Buffer buffer) = codes "buffer " ++ decimal buffer
 name_of (lane.Fence fence) = codes "fence " ++ decimal fence
 
--- the class of the bars of a lane
-abbrev pub class_of_lane : Lane → List ℕ
-class_of_lane (lane.Ring ring) = codes "job"
-class_of_lane (lane.Entity entity) = codes "queued"
-class_of_lane (lane.Buffer buffer) = codes "lock"
-class_of_lane (lane.Fence fence) = codes "fence"
+-- the class of the bars of a kind
+abbrev pub class_of_kind : Kind → List ℕ
+class_of_kind kind.Job = codes "job"
+class_of_kind kind.Queued = codes "queued"
+class_of_kind kind.Stopped = codes "halt"
+class_of_kind kind.Lock = codes "lock"
+class_of_kind kind.Fence = codes "fence"
+class_of_kind kind.Waiting = codes "waiting"
 
 -- the word of a look, which is also the name of its colour
 abbrev pub word_of_look : Look → List ℕ

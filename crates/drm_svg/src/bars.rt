@@ -1,14 +1,14 @@
 //! The text of bars.
 
 ghost use Rattle.std.specs.Prelude.{◌≡◌, ◌++◌, IfOk, OnOk, flat_map};
-ghost use Rattle.drm_svg.specs.Bars.{bar_text, class_of, colour_text, fits, halt_place_text, halt_text, halt_title_text, halts_text, label_of, label_text, line_of, place_text, title_text};
+ghost use Rattle.drm_svg.specs.Bars.{bar_text, class_of, colour_text, fits, halt_place_text, halt_text, halts_text, label_of, label_text, line_of, place_text, title_text};
 
 use crate::escape::put_escaped;
 use crate::layout::Layout;
 use crate::placing::{Placed, bar_in_row};
-use crate::signs::{lane_class, look_sign, look_word};
+use crate::signs::{kind_class, look_sign, look_word};
 use crate::text::{put_number, put_text};
-use crate::titles::{halt_title, title};
+use crate::titles::title;
 use drm_picture::{Bar, Look, Picture};
 use std::alloc::{AllocError, Global};
 
@@ -21,10 +21,7 @@ const COLOUR: &str = "</title><rect class='";
 /// The height of a bar.
 const HEIGHT: &str = "0' height='8'/>";
 
-/// Where the bar of an entity lies that was stopped.
-const HALT: &str = "<g class='halt'><title>";
-
-/// The height of such a bar, which leaves room for marks.
+/// The height of the bar of an entity that was stopped, which leaves room for marks.
 const HALT_HEIGHT: &str = "0' height='1'/></g>\n";
 
 /// The end of a bar.
@@ -79,7 +76,7 @@ fn put_title(alloc: Global, out: &mut Vec<u8>, bar: &Bar) -> Result<(), AllocErr
 {
     let told = title(alloc, bar)?;
     put_text(out, "<g class='")?;
-    put_text(out, lane_class(bar.opening.lane))?;
+    put_text(out, kind_class(bar.kind))?;
     put_text(out, TITLE)?;
     put_escaped(out, &told)
 }
@@ -154,22 +151,12 @@ fn put_halt_place(out: &mut Vec<u8>, bar: &Placed) -> Result<(), AllocError>
     put_text(out, HALT_HEIGHT)
 }
 
-// Puts what such a bar tells, as its title.
-#[tactic(auto, unfolding(crate::specs::Bars::halt_title_text))]
-fn put_halt_title(alloc: Global, out: &mut Vec<u8>, bar: &Bar) -> Result<(), AllocError>
-    ensures { OnOk result (out.new.items ≡ out.old.items ++ halt_title_text bar.now) }
-{
-    let title = halt_title(alloc, bar)?;
-    put_text(out, HALT)?;
-    put_escaped(out, &title)
-}
-
 // Puts the bar of an entity that was stopped.
 #[tactic(auto, unfolding(crate::specs::Bars::halt_text))]
 fn put_halt(alloc: Global, out: &mut Vec<u8>, bar: &Placed) -> Result<(), AllocError>
     ensures { OnOk result (out.new.items ≡ out.old.items ++ halt_text bar.now) }
 {
-    put_halt_title(alloc, out, &bar.bar)?;
+    put_title(alloc, out, &bar.bar)?;
     put_colour(out, &bar.bar)?;
     put_halt_place(out, bar)
 }

@@ -1,6 +1,6 @@
 //! The rows of one lane: each bar in the first that is free where it begins.
 
-ghost use Rattle.std.specs.Prelude.{◌≡◌, ℕ, ◌+◌, ◌-◌, ◌<◌, ◌≤◌, ◌^◌, OnOk, IfOk, length, slice_index};
+ghost use Rattle.std.specs.Prelude.{◌≡◌, ℕ, ◌+◌, ◌-◌, ◌++◌, ◌<◌, ◌≤◌, ◌^◌, OnOk, IfOk, length, slice_index};
 ghost use Rattle.drm_svg.specs.Layout.{bars_of_kind, left_of, placed_at, same_lane, width_of};
 ghost use Rattle.drm_svg.specs.Placing.{ArePlaced, PlacesBar, PlacesIn, TakesRow};
 
@@ -32,15 +32,15 @@ pub(crate) fn is_same(a: Lane, b: Lane) -> bool
     }
 }
 
-// The bars of which some are in the lane.
-fn bars_for(picture: &Picture, lane: Lane) -> &[Bar]
-    ensures { result.now ≡ bars_of_kind picture.now lane }
+// The bars of which some are in the lane: those that come first, and those behind them.
+fn bars_for(picture: &Picture, lane: Lane) -> (&[Bar], &[Bar])
+    ensures { bars_of_kind picture.now lane ≡ result.0.now ++ result.1.now }
 {
     match lane {
-        Lane::Ring(_) => &picture.jobs,
-        Lane::Entity(_) => &picture.queued,
-        Lane::Buffer(_) => &picture.locks,
-        Lane::Fence(_) => &picture.fences,
+        Lane::Ring(_) => (picture.jobs.as_slice(), &[]),
+        Lane::Entity(_) => (picture.queued.as_slice(), &[]),
+        Lane::Buffer(_) => (picture.locks.as_slice(), picture.waiting.as_slice()),
+        Lane::Fence(_) => (picture.fences.as_slice(), &[]),
     }
 }
 
@@ -148,10 +148,13 @@ pub(crate) fn place_bars(
     ensures { IfOk result (λ bars. ArePlaced picture.now lane (length ends.old.items) (bars_of_kind picture.now lane) bars.items ends.new.items) }
 {
     let first = ends.len();
-    let all = bars_for(picture, lane);
+    let (all, more) = bars_for(picture, lane);
     let mut bars = Vec::new(alloc);
     for bar in all {
         place_in(picture, lane, first, bar, ends, &mut bars)?;
+    }
+    for next in more {
+        place_in(picture, lane, first, next, ends, &mut bars)?;
     }
     Ok(bars)
 }

@@ -1,9 +1,9 @@
 //! The words, colours and shapes of what is drawn.
 
 ghost use Rattle.std.specs.Prelude.{◌≡◌};
-ghost use Rattle.drm_svg.specs.Signs.{class_of_lane, shape_of, sign_of_look, word_of_look, word_of_sign};
+ghost use Rattle.drm_svg.specs.Signs.{class_of_kind, shape_of, sign_of_look, word_of_look, word_of_sign};
 
-use drm_picture::{Lane, Look, Sign};
+use drm_picture::{Kind, Look, Sign};
 
 // The word of a look, which is also the name of its colour.
 pub(crate) fn look_word(look: Look) -> &'static str
@@ -33,15 +33,17 @@ pub(crate) fn look_sign(look: Look) -> &'static str
     }
 }
 
-// The class of the bars of a lane.
-pub(crate) fn lane_class(lane: Lane) -> &'static str
-    ensures { result.now ≡ class_of_lane lane }
+// The class of the bars of a kind.
+pub(crate) fn kind_class(kind: Kind) -> &'static str
+    ensures { result.now ≡ class_of_kind kind }
 {
-    match lane {
-        Lane::Ring(_) => "job",
-        Lane::Entity(_) => "queued",
-        Lane::Buffer(_) => "lock",
-        Lane::Fence(_) => "fence",
+    match kind {
+        Kind::Job => "job",
+        Kind::Queued => "queued",
+        Kind::Stopped => "halt",
+        Kind::Lock => "lock",
+        Kind::Fence => "fence",
+        Kind::Waiting => "waiting",
     }
 }
 

@@ -2,11 +2,11 @@
 
 ghost use Rattle.std.specs.Prelude.{◌≡◌, ◌++◌, IfOk, OnOk, decimal};
 ghost use Rattle.drm_svg.specs.Signs.{name_of};
-ghost use Rattle.drm_svg.specs.Titles.{begins_of, end_text, ends_of, halt_title_of, moment_text, packets_text, subject_text, title_of};
+ghost use Rattle.drm_svg.specs.Titles.{begins_of, end_text, ends_of, last_text, moment_text, packets_text, subject_text, title_of};
 
 use crate::signs::look_word;
 use crate::text::{put_later, put_name, put_number, put_text};
-use drm_picture::{Bar, Lane, Look};
+use drm_picture::{Bar, Kind, Lane, Look};
 use drm_types::Moment;
 use std::alloc::{AllocError, Global};
 
@@ -23,38 +23,43 @@ fn put_numbered(out: &mut Vec<u8>, lane: Lane, what: &str, number: u32) -> Resul
 }
 
 // Puts what a bar is of.
-fn put_subject(out: &mut Vec<u8>, lane: Lane, number: u32) -> Result<(), AllocError>
-    ensures { OnOk result (out.new.items ≡ out.old.items ++ subject_text lane number) }
+fn put_subject(out: &mut Vec<u8>, kind: Kind, lane: Lane, number: u32) -> Result<(), AllocError>
+    ensures { OnOk result (out.new.items ≡ out.old.items ++ subject_text kind lane number) }
 {
-    match lane {
-        Lane::Ring(_) => put_numbered(out, lane, ": fence ", number),
-        Lane::Entity(_) => put_numbered(out, lane, ": fence ", number),
-        Lane::Buffer(_) => put_numbered(out, lane, ": context ", number),
-        Lane::Fence(_) => put_name(out, lane),
+    match kind {
+        Kind::Job => put_numbered(out, lane, ": fence ", number),
+        Kind::Queued => put_numbered(out, lane, ": fence ", number),
+        Kind::Stopped => put_name(out, lane),
+        Kind::Lock => put_numbered(out, lane, ": context ", number),
+        Kind::Fence => put_name(out, lane),
+        Kind::Waiting => put_numbered(out, lane, ": fence ", number),
     }
 }
 
-// What the command does that begins a bar in the lane.
-fn begins(lane: Lane) -> &'static str
-    ensures { result.now ≡ begins_of lane }
+// What the command does that begins a bar of the kind.
+fn begins(kind: Kind) -> &'static str
+    ensures { result.now ≡ begins_of kind }
 {
-    match lane {
-        Lane::Ring(_) => ", picked by command ",
-        Lane::Entity(_) => ", queued by command ",
-        Lane::Buffer(_) => ", locked by command ",
-        Lane::Fence(_) => ", armed by command ",
+    match kind {
+        Kind::Job => ", picked by command ",
+        Kind::Queued => ", queued by command ",
+        Kind::Stopped => ", stopped by command ",
+        Kind::Lock => ", locked by command ",
+        Kind::Fence => ", armed by command ",
+        Kind::Waiting => ", waits from command ",
     }
 }
 
-// What the command does that ends a bar in the lane.
-fn ends(lane: Lane) -> &'static str
-    ensures { result.now ≡ ends_of lane }
+// What the command does that ends a bar of the kind.
+fn ends(kind: Kind) -> &'static str
+    ensures { result.now ≡ ends_of kind }
 {
-    match lane {
-        Lane::Ring(_) => ", finished by command ",
-        Lane::Entity(_) => ", taken out by command ",
-        Lane::Buffer(_) => ", dropped by command ",
-        Lane::Fence(_) => ", ended by command ",
+    match kind {
+        Kind::Job => ", finished by command ",
+        Kind::Queued => ", taken out by command ",
+        Kind::Lock => ", dropped by command ",
+        Kind::Waiting => ", until command ",
+        _ => ", ended by command ",
     }
 }
 
@@ -78,19 +83,29 @@ fn put_end(out: &mut Vec<u8>, bar: &Bar) -> Result<(), AllocError>
     match bar.look {
         Look::Open => put_text(out, ", not ended"),
         _ => {
-            put_text(out, ends(bar.opening.lane))?;
+            put_text(out, ends(bar.kind))?;
             put_later(out, bar.from, bar.span)?;
             put_moment(out, bar.ended)
         }
     }
 }
 
-// Puts how many packets ran, of a job on its ring.
-fn put_packets(out: &mut Vec<u8>, lane: Lane, packets: usize) -> Result<(), AllocError>
-    ensures { OnOk result (out.new.items ≡ out.old.items ++ packets_text lane packets) }
+// Puts the same, but of an entity that is stopped, which stays so.
+fn put_last(out: &mut Vec<u8>, bar: &Bar) -> Result<(), AllocError>
+    ensures { OnOk result (out.new.items ≡ out.old.items ++ last_text bar.now.kind bar.now) }
 {
-    match lane {
-        Lane::Ring(_) => {
+    match bar.kind {
+        Kind::Stopped => Ok(()),
+        _ => put_end(out, bar),
+    }
+}
+
+// Puts how many packets ran, of a job on its ring.
+fn put_packets(out: &mut Vec<u8>, kind: Kind, packets: usize) -> Result<(), AllocError>
+    ensures { OnOk result (out.new.items ≡ out.old.items ++ packets_text kind packets) }
+{
+    match kind {
+        Kind::Job => {
             put_text(out, PACKETS)?;
             put_number(out, packets as u64)
         }
@@ -104,27 +119,12 @@ pub(crate) fn title(alloc: Global, bar: &Bar) -> Result<Vec<u8>, AllocError>
     ensures { IfOk result (λ text. text.items ≡ title_of bar.now) }
 {
     let mut text = Vec::new(alloc);
-    put_subject(&mut text, bar.opening.lane, bar.opening.number)?;
-    put_text(&mut text, begins(bar.opening.lane))?;
+    put_subject(&mut text, bar.kind, bar.opening.lane, bar.opening.number)?;
+    put_text(&mut text, begins(bar.kind))?;
     put_number(&mut text, bar.from as u64)?;
     put_moment(&mut text, bar.began)?;
-    put_end(&mut text, bar)?;
-    put_packets(&mut text, bar.opening.lane, bar.packets)?;
-    put_text(&mut text, " -> ")?;
-    put_text(&mut text, look_word(bar.look))?;
-    Ok(text)
-}
-
-// What the bar of an entity tells that was stopped.
-#[tactic(auto, unfolding(crate::specs::Titles::halt_title_of))]
-pub(crate) fn halt_title(alloc: Global, bar: &Bar) -> Result<Vec<u8>, AllocError>
-    ensures { IfOk result (λ text. text.items ≡ halt_title_of bar.now) }
-{
-    let mut text = Vec::new(alloc);
-    put_name(&mut text, bar.opening.lane)?;
-    put_text(&mut text, ", stopped by command ")?;
-    put_number(&mut text, bar.from as u64)?;
-    put_moment(&mut text, bar.began)?;
+    put_last(&mut text, bar)?;
+    put_packets(&mut text, bar.kind, bar.packets)?;
     put_text(&mut text, " -> ")?;
     put_text(&mut text, look_word(bar.look))?;
     Ok(text)

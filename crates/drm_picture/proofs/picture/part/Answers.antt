@@ -1,4 +1,4 @@
-use Rattle.std.proofs.Common.{◌≡◌, ◌∙◌, ◌≤◌, ◌-◌, ap, arith, drop, length, length-drop, min, rules, take}
+use Rattle.std.proofs.Common.{◌≡◌, ◌∙◌, ◌≤◌, ◌-◌, ap, arith, drop, length, length-drop, min, rules}
 use Rattle.std.proofs.lemmas.List.{drop_min, take_all}
 use Rattle.drm_picture.proofs.picture.part.Goals as goal
 

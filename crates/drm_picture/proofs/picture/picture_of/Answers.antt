@@ -1,0 +1,26 @@
+use Rattle.std.proofs.Common.{◌∙◌, ap, map, refl}
+use Rattle.drm_picture.specs.Bars.{bars_of}
+use Rattle.drm_picture.specs.Marks.{marks_of}
+use Rattle.drm_picture.specs.Waiting.{waiting_of}
+use Rattle.drm_picture.specs.Waits.{waits_of}
+use Rattle.drm_picture.specs.declared.bars.Kind.TheVariants as kind
+use Rattle.drm_picture.specs.declared.command.Step.{Step}
+use Rattle.drm_picture.proofs.picture.picture_of.Goals as goal
+
+pub returns : goal.returns
+returns c =
+    let run = c.run_before-run.ensures in
+    let from = c.args.from in
+    record {
+      lanes = refl;
+      first = refl;
+      columns = c.in_ok-commands.ensures ∙ ap (map (λ (step : Step). step.command)) c.part.ensures;
+      jobs = c.in_ok-bars.ensures ∙ ap (bars_of kind.Job from) run;
+      queued = c.in_ok-bars-2.ensures ∙ ap (bars_of kind.Queued from) run;
+      stopped = c.in_ok-bars-3.ensures ∙ ap (bars_of kind.Stopped from) run;
+      locks = c.in_ok-bars-4.ensures ∙ ap (bars_of kind.Lock from) run;
+      waiting = c.in_ok-waiting.ensures ∙ ap (waiting_of from) run;
+      fences = c.in_ok-fences.ensures ∙ ap (bars_of kind.Fence from) run;
+      marks = c.in_ok-marks.ensures ∙ ap (marks_of from) run;
+      waits = c.in_ok-waits.ensures ∙ ap (waits_of from) run;
+    }
