@@ -1,14 +1,14 @@
 -- Engines over journals: what is written is what the serial machine has to say of the journal that is read.
 use Rattle.std.specs.Prelude.{◌≡◌, ℕ, List, Option, Ok, Err, IfSome}
 use Rattle.std.specs.Io.KnownBytes.{Appends, Keeps}
-use Rattle.drm_script.specs.Journal.{JournalParts, judge_journal}
+use Rattle.drm_journal.specs.Journal.{JournalParts, judge_journal}
 use Rattle.drm_script.specs.Transfer.{AppendsFront}
 use Rattle.drm_engine.specs.declared.comparison.Comparison.{Comparison}
 use Rattle.drm_engine.specs.declared.comparison.Comparison.TheVariants as comparison
 use Rattle.drm_engine.specs.declared.ending.Ending.{Ending}
 use Rattle.drm_engine.specs.declared.ending.Ending.TheVariants as ending
 use Rattle.drm_engine.specs.Comparing.{Compares, text_of_comparison}
-use Rattle.drm_script.specs.Leaving.{left_by}
+use Rattle.drm_journal.specs.Leaving.{left_by}
 use Rattle.drm_engine.specs.Leaving.{text_of_buffers}
 
 -- a journal that the input spells where it is known, and of which this holds

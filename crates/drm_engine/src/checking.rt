@@ -3,12 +3,13 @@
 ghost use Rattle.std.specs.Prelude.{◌≡◌, IfOk};
 ghost use Rattle.drm_engine.specs.Comparing.{Compares};
 ghost use Rattle.drm_engine.specs.Journals.{Checks};
-ghost use Rattle.drm_script.specs.Leaving.{left_by};
+ghost use Rattle.drm_journal.specs.Leaving.{left_by};
 
 use crate::comparison::{Comparison, compare};
 use crate::ending::Ending;
 use crate::leaving::run_journal;
-use drm_script::{Journal, put_all, read_journal_from};
+use drm_journal::{Journal, read_journal_from};
+use drm_script::put_all;
 use std::alloc::{AllocError, Global};
 use std::io::{Read, Write};
 

@@ -1,9 +1,9 @@
 //! What a journal leaves: the buffers of the machine that runs its jobs one after another.
 
 ghost use Rattle.std.specs.Prelude.{◌≡◌, length, map, IfOk};
-ghost use Rattle.drm_script.specs.Leaving.{left_by, turn_of};
+ghost use Rattle.drm_journal.specs.Leaving.{left_by, turn_of};
 
-use drm_script::{Journal, JournalJob};
+use drm_journal::{Journal, JournalJob};
 use drm_serial::{Serial, Turn};
 use drm_types::Sequence;
 use std::alloc::{AllocError, Global};

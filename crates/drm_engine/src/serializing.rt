@@ -2,13 +2,14 @@
 
 ghost use Rattle.std.specs.Prelude.{◌≡◌, IfOk};
 ghost use Rattle.drm_engine.specs.Journals.{Serializes};
-ghost use Rattle.drm_script.specs.Leaving.{left_by};
+ghost use Rattle.drm_journal.specs.Leaving.{left_by};
 ghost use Rattle.drm_engine.specs.Leaving.{text_of_buffers};
 
 use crate::ending::Ending;
 use crate::leaving::run_journal;
 use drm_core::Answer;
-use drm_script::{Journal, put_all, read_journal_from, write_answers};
+use drm_journal::{Journal, read_journal_from};
+use drm_script::{put_all, write_answers};
 use std::alloc::{AllocError, Global};
 use std::io::{Read, Write};
 

@@ -7,9 +7,9 @@ use Rattle.drm_gpu.specs.declared.gpu.Closed.{Closed}
 use Rattle.drm_report.specs.declared.report.Report.{Report}
 use Rattle.drm_report.specs.Reports.{IsReport}
 use Rattle.drm_script.specs.declared.run_script.RunScript.{RunScript}
-use Rattle.drm_script.specs.Journal.{JournalParts}
-use Rattle.drm_script.specs.JournalText.{text_of_journal}
-use Rattle.drm_script.specs.Leaving.{AreLeft, journal_told}
+use Rattle.drm_journal.specs.Journal.{JournalParts}
+use Rattle.drm_journal.specs.JournalText.{text_of_journal}
+use Rattle.drm_journal.specs.Leaving.{AreLeft, journal_told}
 use Rattle.drm_script.specs.Run.{judge_run}
 use Rattle.drm_script.specs.Transfer.{AppendsFront}
 use Rattle.drm_engine.specs.declared.ending.Ending.TheVariants as ending

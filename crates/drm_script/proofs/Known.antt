@@ -15,7 +15,6 @@ use Rattle.drm_text.specs.Reading.{Fails}
 use Rattle.drm_script.specs.Transfer.{IsReadOf, LosesAtMost, input_error_of}
 use Rattle.drm_script.specs.Run.{judge_run}
 use Rattle.drm_script.specs.Script.{judge_script}
-use Rattle.drm_script.specs.Journal.{judge_journal}
 
 -- what was read, and then more behind it
 pub reads_more : (old mid new : Option (List ℕ)) (xs ys : List ℕ) (len count : ℕ) → take len ys ≡ take len xs → Consumes old mid (take len xs)
@@ -71,14 +70,6 @@ judge_run_taken text =
     elim (cases_lt 1048576 (length text)) [
       | inl lt ↦ rw (lt-ltb 1048576 (length text) lt, lt-ltb 1048576 (length (take 1048577 text)) (omega (arith, length-take 1048577 text)))
       | inr le ↦ ap judge_run (take_all 1048577 text (omega arith))
-    ]
-
-pub judge_journal_taken : (text : List ℕ) → judge_journal (take 1048577 text) ≡ judge_journal text
-unfolding judge_journal
-judge_journal_taken text =
-    elim (cases_lt 1048576 (length text)) [
-      | inl lt ↦ rw (lt-ltb 1048576 (length text) lt, lt-ltb 1048576 (length (take 1048577 text)) (omega (arith, length-take 1048577 text)))
-      | inr le ↦ ap judge_journal (take_all 1048577 text (omega arith))
     ]
 
 -- what the text that was read says, all bytes of the reader say

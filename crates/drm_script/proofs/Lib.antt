@@ -1,16 +1,11 @@
-pub mod JournalReaders
-pub mod JournalSpelled
-pub mod Filled
 pub mod Known
 pub mod CommandReaders
 pub mod HeaderReaders
 pub mod JobReaders
 pub mod PacketReaders
 pub mod InTurn
-pub mod Records
 pub mod RingLists
 pub mod RunReaders
 pub mod ScriptReaders
-pub mod CoreJournal
 pub mod ShortNumbers
 pub mod WordKinds

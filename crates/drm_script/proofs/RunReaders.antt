@@ -26,7 +26,7 @@ use Rattle.drm_script.specs.declared.run_script.RunScript.{RunScript}
 use Rattle.drm_script.specs.Grammar.{Line, job_words, JobFits}
 use Rattle.drm_script.specs.Header.{header_at}
 use Rattle.drm_script.specs.Job.{job_at}
-use Rattle.drm_script.specs.Journal.{is_job}
+use Rattle.drm_script.specs.Job.{is_job}
 use Rattle.drm_script.specs.Run.{IsRunnable, AreRunnable, is_runnable, runnable_or, run_job_at, submitted_at, run_line, jobs_of, run_of, judge_run}
 use Rattle.drm_script.specs.RunGrammar.{submit_words, SpellsRun}
 use Rattle.drm_script.proofs.CommandReaders.{same_cons, some_lines, job_graphic}

@@ -1,5 +1,5 @@
--- The grammar of scripts and journals. A text is lines and a line is words: what is written here are the words of each
--- line, and in which order lines stand.
+-- The grammar of scripts, of which other texts have the jobs and the header. A text is lines and a line is words: what is
+-- written here are the words of each line, and in which order lines stand.
 use Rattle.std.specs.Prelude.{◌≡◌, ℕ, ◌^◌, ◌-◌, ◌<◌, ◌≤◌, List, [], ◌∷◌, ◌++◌, length, map, replicate, codes, None, ◌⊎◌, ◌↔◌, Result, Ok}
 use Rattle.std.specs.List.{AllByRecursion, join_with_byte}
 use Rattle.std.specs.Fmt.{decimal}

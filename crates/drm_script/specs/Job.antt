@@ -1,10 +1,11 @@
 -- The words of a job.
-use Rattle.std.specs.Prelude.{ℕ, Bool, false, not, ◌||◌, ◌++◌, length, ◌+◌, ◌-◌, ◌^◌, ◌==◌, List, [], ◌∷◌, codes, Option, Some, None, unwrap_or, Result, Ok, Err, if◌then◌else◌}
+use Rattle.std.specs.Prelude.{ℕ, Bool, false, is_none, not, ◌||◌, ◌++◌, length, ◌+◌, ◌-◌, ◌^◌, ◌==◌, List, [], ◌∷◌, codes, Option, Some, None, unwrap_or, Result, Ok, Err, if◌then◌else◌}
 use Rattle.std.specs.List.{list_any}
 use Rattle.std.specs.Str.{bytes_eq}
 use Rattle.drm_packet.specs.declared.Packet.{Packet}
 use Rattle.drm_packet.specs.declared.Packet.TheVariants.{Fill, Copy, Add, Stall}
 use Rattle.drm_types.specs.declared.access.Access.TheVariants as access
+use Rattle.drm_types.specs.declared.spec.DeviceSpec.{DeviceSpec}
 use Rattle.drm_text.specs.declared.fault.Fault.{Fault}
 use Rattle.drm_text.specs.declared.fault.TextFault.TheVariants as what
 use Rattle.drm_script.specs.declared.job.Kind.{Kind}
@@ -14,6 +15,7 @@ use Rattle.drm_text.specs.declared.fault.Position.{Position}
 use Rattle.drm_text.specs.Cut.{parts_of, Words}
 use Rattle.drm_text.specs.Hexadecimal.{byte_of}
 use Rattle.drm_text.specs.Reading.{◌>>=◌, ◌>>+◌, or_fault, fault_at}
+use Rattle.drm_job.specs.Fault.{job_fault}
 use Rattle.drm_job.specs.declared.Draft.{Draft}
 use Rattle.drm_types.specs.Firsts.{is_nil}
 use Rattle.drm_text.specs.Words.{number_at}
@@ -205,3 +207,7 @@ job_at words = do
   entity ← number_at (2 ^ 32 - 1) words
   credits ← number_at 65535 entity.1
   with_words (record { entity = entity.0; credits = credits.0; declared = []; after = []; packets = [] }) credits.1.line credits.1.rest.at credits.1.rest.parts
+
+-- whether the draft is a job of the device
+unfoldable pub is_job : DeviceSpec → Draft → Bool
+is_job spec draft = is_none (job_fault spec draft)

@@ -3,10 +3,6 @@ pub mod Commands
 pub mod Grammar
 pub mod Header
 pub mod Job
-pub mod Journal
-pub mod JournalGrammar
-pub mod JournalText
-pub mod Leaving
 pub mod Run
 pub mod RunGrammar
 pub mod Script

@@ -17,7 +17,7 @@ use Rattle.drm_text.specs.Reading.{◌>>=◌}
 use Rattle.drm_text.specs.Lines.{start_at, last_line, out_of_order, lines_of}
 use Rattle.drm_script.specs.Header.{header_at}
 use Rattle.drm_script.specs.Job.{job_at}
-use Rattle.drm_script.specs.Journal.{is_job}
+use Rattle.drm_script.specs.Job.{is_job}
 
 -- a job of the device that names no fence
 abbrev pub IsRunnable : DeviceSpec → Draft → Type 0

@@ -5,12 +5,10 @@ ghost use Rattle.std.specs.Io.KnownBytes.{Consumes, IsAtEnd, Keeps};
 ghost use Rattle.std.specs.IoError.{error_kind};
 ghost use Rattle.drm_types.specs.Limits.{spec_fault};
 ghost use Rattle.drm_script.specs.Commands.{AllNamesExist};
-ghost use Rattle.drm_script.specs.Journal.{IsJournal, judge_journal};
 ghost use Rattle.drm_script.specs.Run.{AreRunnable, judge_run};
 ghost use Rattle.drm_script.specs.Script.{judge_script};
 ghost use Rattle.drm_script.specs.Transfer.{IsFailure, IsReadOf, LosesAtMost, input_error_of};
 
-use crate::journal::{Journal, read_journal};
 use crate::run_script::{RunScript, read_run};
 use crate::script::{Script, read_script};
 use drm_text::{Fault, MAX_TEXT, ReadError};
@@ -40,7 +38,8 @@ impl From<io::Error> for InputError {
     }
 }
 
-fn to_input_error(error: ReadError) -> InputError
+/// The error of a text that was read, as that of its reader.
+pub fn to_input_error(error: ReadError) -> InputError
     ensures { result ≡ input_error_of error }
 {
     match error {
@@ -156,19 +155,6 @@ pub fn read_run_from<R: Read>(alloc: Global, reader: &mut R) -> Result<RunScript
     let text = read_input(alloc, reader)?;
     match read_run(alloc, &text) {
         Ok(script) => Ok(script),
-        Err(error) => Err(to_input_error(error)),
-    }
-}
-
-/// The journal that all bytes of the reader spell.
-pub fn read_journal_from<R: Read>(alloc: Global, reader: &mut R) -> Result<Journal, InputError>
-    ensures value { IsReadOf judge_journal (R.remaining reader.old) result }
-    ensures most { LosesAtMost 1048577 (R.remaining reader.old) (R.remaining reader.new) }
-    ensures stands { IfOk result IsJournal }
-{
-    let text = read_input(alloc, reader)?;
-    match read_journal(alloc, &text) {
-        Ok(journal) => Ok(journal),
         Err(error) => Err(to_input_error(error)),
     }
 }

@@ -1,17 +1,17 @@
 //! The words of a job.
 
-ghost use Rattle.std.specs.Prelude.{◌≡◌, ◌≤◌, ◌==◌, [], length};
+ghost use Rattle.std.specs.Prelude.{◌≡◌, ◌≤◌, ◌==◌, [], false, length, IfNone, IfSome, IsTrue};
 ghost use Rattle.std.specs.List.{list_any};
 ghost use Rattle.std.specs.Option.{option_map};
 ghost use Rattle.drm_text.specs.Reading.{Reads, Gives};
-ghost use Rattle.drm_script.specs.Job.{kind_read, one_of, number_first, byte_alone, number_alone, fill_from, fill_in_turn, route_from, route_in_turn, fill_at, route_at, copy_at, add_at, stall_at, packet_at, is_late, tail_at, with_item, with_word, with_words, job_at};
+ghost use Rattle.drm_script.specs.Job.{kind_read, one_of, number_first, byte_alone, number_alone, fill_from, fill_in_turn, route_from, route_in_turn, fill_at, route_at, copy_at, add_at, stall_at, packet_at, is_late, tail_at, with_item, with_word, with_words, job_at, is_job};
 
-use drm_job::Draft;
+use drm_job::{Draft, Job, check};
 use drm_packet::Packet;
 use drm_text::{
     Fault, Parts, Position, ReadError, TextFault, Words, is_word, read_byte, read_number,
 };
-use drm_types::{Access, BufferId, Sequence};
+use drm_types::{Access, BufferId, DeviceSpec, Sequence};
 use std::alloc::Global;
 
 /// What a word of a job is.
@@ -328,4 +328,16 @@ pub fn read_job(alloc: Global, words: &mut Words) -> Result<Draft, ReadError>
     let credits = words.number(65535)?;
     let draft = bare_draft(alloc, entity as u32, credits as u16);
     add_words(draft, words)
+}
+
+/// The draft as a job of the device.
+#[tactic(auto, unfolding(crate::specs::Job::is_job))]
+pub fn make_job(draft: Draft, spec: &DeviceSpec) -> Option<Job>
+    ensures some { IfSome result (λ job. (job ≡ draft) × IsTrue (is_job spec.now draft)) }
+    ensures none { IfNone result (is_job spec.now draft ≡ false) }
+{
+    match check(draft, spec) {
+        Ok(job) => Some(job),
+        Err(_) => None,
+    }
 }

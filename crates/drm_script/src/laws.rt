@@ -1,8 +1,6 @@
 //! Laws over the definitions, on functions that do nothing.
 
 ghost use Rattle.drm_script.specs.Grammar.{IsJudgedAsSpelled, SpellsOne, SpellsScript};
-ghost use Rattle.drm_script.specs.Journal.{judge_journal};
-ghost use Rattle.drm_script.specs.JournalGrammar.{SpellsJournal};
 ghost use Rattle.drm_script.specs.Run.{judge_run};
 ghost use Rattle.drm_script.specs.RunGrammar.{SpellsRun};
 ghost use Rattle.drm_script.specs.Script.{judge_script};
@@ -10,13 +8,11 @@ ghost use Rattle.drm_script.specs.Script.{judge_script};
 /// The definitions that tell the first fault of a text accept exactly the texts of the grammar, as what they spell.
 pub fn texts_are_judged_as_spelled()
     ensures scripts { IsJudgedAsSpelled judge_script SpellsScript }
-    ensures journals { IsJudgedAsSpelled judge_journal SpellsJournal }
     ensures runs { IsJudgedAsSpelled judge_run SpellsRun }
 {}
 
-/// A text spells at most one script, at most one journal, and at most one script for threads.
+/// A text spells at most one script, and at most one script for threads.
 pub fn a_text_spells_one()
     ensures script { SpellsOne SpellsScript }
-    ensures journal { SpellsOne SpellsJournal }
     ensures run { SpellsOne SpellsRun }
 {}

@@ -9,8 +9,7 @@ ghost use Rattle.drm_script.specs.Run.{AreRunnable, runnable_or, run_job_at, sub
 ghost use Rattle.drm_script.specs.RunGrammar.{SpellsRun};
 
 use crate::header::read_header;
-use crate::job::read_job;
-use crate::journal::make_job;
+use crate::job::{make_job, read_job};
 use drm_job::{Draft, Job};
 use drm_text::{
     Command, Fault, Keyword, Line, Lines, MAX_TEXT, ReadError, TextFault, Words, order_fault,

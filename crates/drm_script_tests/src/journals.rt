@@ -1,5 +1,5 @@
 use crate::joined;
-use drm_script::{Journal, read_journal, read_journal_from, write_journal};
+use drm_journal::{Journal, read_journal, read_journal_from, write_journal};
 use drm_text::{Fault, ReadError};
 use std::alloc::{AllocError, Global};
 use std::test::Fail;

@@ -6,7 +6,8 @@ use super::{Told, try_failed_reads, try_failed_writes, try_run};
 use crate::{SlowWriter, run_on};
 use drm_core::Core;
 use drm_engine::Engine;
-use drm_script::{Events, Journal, read_journal, read_script, write_journal};
+use drm_journal::{Journal, read_journal, write_journal};
+use drm_script::{Events, read_script};
 use std::alloc::Global;
 use std::test::Fail;
 

@@ -1,7 +1,7 @@
 use Rattle.std.proofs.Common.{◌≡◌, ℕ, List, length, map, refl, ap, ◌∙◌}
 use Rattle.std.proofs.lemmas.Result.{IfOk-weaker}
 use Rattle.drm_serial.specs.Serial.{serial}
-use Rattle.drm_script.specs.Leaving.{turn_of, turns_of, left_by}
+use Rattle.drm_journal.specs.Leaving.{turn_of, turns_of, left_by}
 use Rattle.drm_engine.proofs.Fitting.{turns_fit, left_sizes}
 use Rattle.drm_engine.proofs.leaving.run_journal.Goals as goal
 

@@ -1,0 +1,4 @@
+pub mod Journal
+pub mod JournalGrammar
+pub mod JournalText
+pub mod Leaving

@@ -1,0 +1,23 @@
+//! From a reader to the journal that its bytes spell.
+
+ghost use Rattle.std.specs.Prelude.{IfOk};
+ghost use Rattle.drm_script.specs.Transfer.{IsReadOf, LosesAtMost};
+ghost use Rattle.drm_journal.specs.Journal.{IsJournal, judge_journal};
+
+use crate::journal::{Journal, read_journal};
+use drm_script::{InputError, read_input, to_input_error};
+use std::alloc::Global;
+use std::io::Read;
+
+/// The journal that all bytes of the reader spell.
+pub fn read_journal_from<R: Read>(alloc: Global, reader: &mut R) -> Result<Journal, InputError>
+    ensures value { IsReadOf judge_journal (R.remaining reader.old) result }
+    ensures most { LosesAtMost 1048577 (R.remaining reader.old) (R.remaining reader.new) }
+    ensures stands { IfOk result IsJournal }
+{
+    let text = read_input(alloc, reader)?;
+    match read_journal(alloc, &text) {
+        Ok(journal) => Ok(journal),
+        Err(error) => Err(to_input_error(error)),
+    }
+}
