@@ -1,8 +1,7 @@
 -- Journals: a header, the jobs that were armed, the bytes of each buffer, and `end`.
-use Rattle.std.specs.Prelude.{◌≡◌, ℕ, Bool, true, false, not, ◌+◌, ◌-◌, ◌^◌, ◌==◌, ◌&&◌, nat_lt, nat_le, List, [], ◌∷◌, ◌++◌, length, map, take, slice_get, codes, is_none, option_map, IsTrue, Option, Some, None, Result, Ok, Err, if◌then◌else◌}
+use Rattle.std.specs.Prelude.{◌≡◌, ℕ, Bool, true, false, not, ◌+◌, ◌-◌, ◌^◌, ◌==◌, ◌&&◌, nat_lt, nat_le, List, [], ◌∷◌, ◌++◌, length, map, take, slice_get, codes, option_map, IsTrue, Option, Some, None, Result, Ok, Err, if◌then◌else◌}
 use Rattle.std.specs.List.{list_all}
 use Rattle.std.specs.Str.{bytes_eq}
-use Rattle.drm_job.specs.declared.Draft.{Draft}
 use Rattle.drm_types.specs.Firsts.{is_nil}
 use Rattle.drm_types.specs.Limits.{spec_fault}
 use Rattle.drm_types.specs.declared.outcome.Outcome.{Outcome}

@@ -3,5 +3,5 @@ use Rattle.drm_text.proofs.WordReaders.{ok_is}
 use Rattle.drm_journal.proofs.JournalReaders.{journal_again}
 use Rattle.drm_journal.proofs.laws.a_text_spells_one_journal.Goals as goal
 
-pub returns-clause : goal.returns-clause
-returns-clause c = λ text x y spells_x spells_y. ok_is x y (sym (journal_again text x spells_x) ∙ journal_again text y spells_y)
+pub returns : goal.returns
+returns c = λ text x y spells_x spells_y. ok_is x y (sym (journal_again text x spells_x) ∙ journal_again text y spells_y)
