@@ -43,3 +43,5 @@ pub mod Alike
 pub mod EventsKept
 pub mod TurnsAlike
 pub mod BytesKept
+pub mod Collected
+pub mod Covering

@@ -1,5 +1,6 @@
 -- The reservations that are held at an arming, each with its buffer.
-use Rattle.std.specs.Prelude.{◌≡◌, ℕ, List, map, Some, slice_get, IsTrue}
+use Rattle.std.specs.Prelude.{◌≡◌, ℕ, List, map, Some, slice_get, Contains, IsTrue}
+use Rattle.drm_types.specs.declared.access.Access.{Access}
 use Rattle.drm_types.specs.declared.access.Usage.{Usage}
 use Rattle.drm_job.specs.declared.Draft.{Draft}
 use Rattle.drm_resv.specs.Reservation.{Reservation, WithRoom}
@@ -14,6 +15,10 @@ buffers_of held = map (λ h. h.0) held
 -- what they keep, without their room
 abbrev pub kept_of : List (ℕ × WithRoom) → List (ℕ × Reservation)
 kept_of held = map (λ h. (h.0, h.1.kept)) held
+
+-- every buffer that the job declares is held
+abbrev pub HoldsAll : Draft → List (ℕ × Reservation) → Type 0
+HoldsAll job held = (k : ℕ) (d : ℕ × Access) → slice_get job.declared k ≡ Some d → (x : Reservation) × Contains held (d.0, x)
 
 -- each of a buffer that the job uses has room for one more use
 abbrev pub HaveRoom : Draft → List (ℕ × WithRoom) → Type 0

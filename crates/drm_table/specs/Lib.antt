@@ -30,4 +30,5 @@ pub mod Building
 pub mod Plans
 pub mod Uses
 pub mod Held
+pub mod Collected
 pub mod Keeps

@@ -1,8 +1,11 @@
 //! Laws over the definitions, on functions that do nothing.
 ghost use Rattle.drm_table.specs.Chosen.{ChoiceIsLeast};
+ghost use Rattle.drm_table.specs.Collected.{CollectedCovers};
 ghost use Rattle.drm_table.specs.Events.{DevicesStaySteady};
 ghost use Rattle.drm_table.specs.Readers.{BytesStay};
 ghost use Rattle.drm_table.specs.Writers.{ReadsWaitForWriters};
+
+use drm_job::jobs_are_the_sound_drafts;
 
 /// The job that a ring takes next is the least that may begin on it, by the priority of its entity and then by its
 /// number, and there is none exactly where none may begin.
@@ -28,3 +31,11 @@ pub fn reads_wait_for_writers()
 pub fn bytes_stay()
     ensures { BytesStay }
 {}
+
+/// What is collected for a job from reservations that are held covers, where every buffer that the job declares is held:
+/// in any lawful device that these reservations fit, each armed job that the new one has to wait for has a dependency.
+pub fn collected_covers()
+    ensures { CollectedCovers }
+{
+    jobs_are_the_sound_drafts();
+}

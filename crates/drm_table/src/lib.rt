@@ -31,10 +31,12 @@ pub use errors::{
     ArmError, CancelError, FinishError, PickError, ReadError, ReapError, StepError, TimeoutError,
 };
 pub use journal::JobRecord;
-pub use laws::{bytes_stay, choice_is_least, devices_stay_steady, reads_wait_for_writers};
+pub use laws::{
+    bytes_stay, choice_is_least, collected_covers, devices_stay_steady, reads_wait_for_writers,
+};
 pub use life::{BuildError, Closed};
 pub use loads::Loads;
-pub use plans::{Held, Plan};
+pub use plans::{Held, Plan, add_dependencies};
 pub use running::must_stall;
 pub use table::{RingJobs, Table};
 pub use uses::{add_held_uses, add_use};

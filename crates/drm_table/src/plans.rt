@@ -1,6 +1,12 @@
+ghost use Rattle.std.specs.Prelude.{◌≡◌, ℕ, List, [], ◌∷◌, ◌++◌};
+ghost use Rattle.drm_resv.specs.Reservation.{Reservation};
+ghost use Rattle.drm_table.specs.Held.{kept_of, HoldsAll};
+ghost use Rattle.drm_table.specs.Collected.{IsCollected, CoverWhereFit};
+
+use crate::laws::collected_covers;
 use drm_job::Job;
 use drm_resv::{Deps, Resv};
-use drm_types::BufferId;
+use drm_types::{BufferId, wanted};
 
 /// A job and the fences that it waits for, collected from the reservations that its context holds (`drm_sched_job`
 /// between `drm_sched_job_init` and `drm_sched_job_arm`).
@@ -14,3 +20,30 @@ pub struct Plan {
 
 /// The reservations that a context holds, each with its buffer (`ww_mutex`es of one `ww_acquire_ctx`).
 pub type Held = Vec<(BufferId, Resv)>;
+
+impl Plan {
+    /// Collects what the job waits for from the reservations that are held. It looks at no device, and what it collects
+    /// covers in each one that these reservations fit, so also in the one that the arming finds later. It takes no memory.
+    pub fn collect(job: Job, held: &[(BufferId, Resv)]) -> Plan
+        ensures job { result.job ≡ job }
+        ensures collected { IsCollected job (kept_of held.now) result.deps }
+        ensures covers { HoldsAll job (kept_of held.now) → CoverWhereFit job (kept_of held.now) result.deps }
+    {
+        collected_covers();
+        let mut deps = Deps::new();
+        for (buffer, resv) in held {
+            add_dependencies(resv, *buffer, &job, &mut deps);
+        }
+        Plan { job, deps }
+    }
+}
+
+/// Adds what the reservation of a buffer asks a job to wait for, where the job uses it
+/// (`drm_sched_job_add_implicit_dependencies`), to what was collected from others before.
+pub fn add_dependencies(resv: &Resv, buffer: BufferId, job: &Job, deps: &mut Deps)
+    ensures { (held : List (ℕ × Reservation)) → IsCollected job.now held deps.old → IsCollected job.now (held ++ (buffer, resv.now.kept) ∷ []) deps.new }
+{
+    if let Some(access) = job.access_of(buffer) {
+        resv.collect(wanted(access), deps);
+    }
+}
