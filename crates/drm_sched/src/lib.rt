@@ -16,7 +16,7 @@ pub use device_calls::Device;
 pub use drm_table::{
     Answer, ArmError, BuildError, CancelError, Closed, Expired, FinishError, Finished, Held,
     JobRecord, Phase, PickError, Picked, Plan, ReadError, ReapError, Refusal, StepError, Stepped,
-    TimeoutError, add_use, bytes_stay, choice_is_least, devices_stay_steady,
-    reads_wait_for_writers,
+    TimeoutError, add_dependencies, add_use, bytes_stay, choice_is_least, collected_covers,
+    devices_stay_steady, reads_wait_for_writers,
 };
 pub use marked::Begun;
