@@ -49,9 +49,6 @@ pub at_record_is : (P : Answer × DeviceState → Type 0) (d : DeviceState) (F :
     → slice_get d.journal f ≡ Some r → P (F f r) → P (at_record d F none (Some f))
 at_record_is P d F none f r at holds = subst (λ o. P (option_map_or (F f) o none)) (sym at) holds
 
-pub usage_trans : (a b c : Usage) → is_as_strong a b ≡ true → is_as_strong b c ≡ true → is_as_strong a c ≡ true
-usage_trans a b c p q = le-leb (place_of a) (place_of c) (omega (arith, leb-true (place_of a) (place_of b) p, leb-true (place_of b) (place_of c) q))
-
 pub goes_on_itself : (phase : Phase) → GoesOn phase phase
 goes_on_itself Queued = tt
 goes_on_itself Scheduled = tt

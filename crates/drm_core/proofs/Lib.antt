@@ -22,5 +22,4 @@ pub mod HeadlinePicks
 pub mod HeadlineKept
 pub mod CoreStands
 pub mod Lists
-pub mod Notes
 pub mod DeviceFacts

@@ -3,7 +3,6 @@ use Rattle.std.proofs.Common.{◌≡◌, ℕ, suc, List, [], ◌∷◌, length, 
 use Rattle.std.specs.List.{list_any, enumerate_from, list_all}
 use Rattle.std.proofs.lemmas.Bool.{cases_Bool, and_parts, cases_eq}
 use Rattle.std.specs.Prelude.{find, Contains, filter}
-use Rattle.std.proofs.lemmas.List.Elements.{All-contains, All-filter, All-contains_itself, filter_passes}
 use Rattle.drm_types.specs.Firsts.{when}
 use Rattle.std.proofs.lemmas.Option.{slice_get_within, get_or_from_slice_get, slice_get-get_or}
 use Rattle.std.specs.Option.{option_map_or}
@@ -68,13 +67,6 @@ get_take [] (suc n) k lt = refl
 get_take (x ∷ xs) zero k lt = absurd (omega (arith, lt))
 get_take (x ∷ xs) (suc n) zero lt = refl
 get_take (x ∷ xs) (suc n) (suc k) lt = get_take xs n k (omega (arith, lt))
-
--- what is in a filtered list
-pub in_filter : {X : Type 0} (p : X → Bool) (xs : List X) (x : X) → Contains (filter p xs) x → Contains xs x × (p x ≡ true)
-in_filter p xs x c = (
-  All-contains (Contains xs) (filter p xs) x (All-filter p (Contains xs) xs (All-contains_itself xs)) c,
-  All-contains (λ y. p y ≡ true) (filter p xs) x (filter_passes p xs) c,
-)
 
 -- a cause that was not told does not hold
 pub not_when : {F : Type 0} (b : Bool) (f : F) → when b f ≡ None → b ≡ false
@@ -173,8 +165,3 @@ at_test journal f r test is = ap (λ o. option_map_or test o false) is
 -- what an index gave stands there
 pub at_index : {X : Type 0} (xs : List X) (i : ℕ) (x : X) → x ≡ get_or xs i x → i < length xs → slice_get xs i ≡ Some x
 at_index xs i x is lt = slice_get-get_or xs i x lt ∙ ap (λ z. Some z) (sym is)
-
--- neither part of a choice that fails holds
-pub neither : (a b : Bool) → (a || b) ≡ false → (a ≡ false) × (b ≡ false)
-neither true b is = absurd (let never : true ≡ false = is in cc (never))
-neither false b is = (refl, is)

@@ -13,7 +13,7 @@ use Rattle.std.specs.Prelude.{IsTrue}
 use Rattle.std.proofs.lemmas.List.{length-set}
 use Rattle.std.proofs.lemmas.Bool.{cases_eq}
 use Rattle.drm_resv.specs.Reservation.{WithRoom}
-use Rattle.drm_core.specs.Planning.{MoreRoom, HasRoomFor, collected}
+use Rattle.drm_core.specs.Planning.{MoreRoom, HasRoomFor}
 use Rattle.drm_table.specs.Uses.{HasUse}
 use Rattle.drm_core.proofs.Lists.{get_set_same, get_set_other, get_set_cases}
 
@@ -53,15 +53,6 @@ drop_next xs i x is lt = (
   drop-cons xs i x lt ∙ (ap (λ z. z ∷ drop (suc i) xs) (sym is) ∙ ap (λ n. x ∷ drop n xs) (sym (add-one i))),
   at_index xs i x is lt,
 )
-
--- what one reservation asks for was noted
-pub collected_is : (rs : List WithRoom) (deps new : List (ℕ × ℕ)) (d : ℕ × Access) (usage : Usage) (place : ℕ) (r : WithRoom)
-    → new ≡ all_noted deps (entries_of usage r.kept.entries) → usage ≡ wanted_usage d.1 → place ≡ d.0 → r ≡ get_or rs place r → d.0 < length rs
-    → new ≡ collected rs deps d
-collected_is rs deps new d usage place r is usage_is place_is r_is lt =
-    let at : slice_get rs d.0 ≡ Some r = at_index rs d.0 r (r_is ∙ ap (λ k. get_or rs k r) place_is) lt in
-    is ∙ (ap (λ u. all_noted deps (entries_of u r.kept.entries)) usage_is
-    ∙ sym (ap (λ o. option_map_or (λ (x : WithRoom). all_noted deps (entries_of (wanted_usage d.1) x.kept.entries)) o deps) at))
 
 -- what stands in the front of a list
 pub from_take : {X : Type 0} (xs : List X) (n k : ℕ) (x : X) → slice_get (take n xs) k ≡ Some x → (slice_get xs k ≡ Some x) × (k < n)

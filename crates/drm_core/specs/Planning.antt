@@ -1,13 +1,10 @@
 -- What a plan takes from the reservations that its context holds.
-use Rattle.std.specs.Prelude.{◌≡◌, ℕ, Bool, false, ◌==◌, IsTrue, List, [], length, fold, Some, Option, is_some, option_and_then, slice_get}
+use Rattle.std.specs.Prelude.{◌≡◌, ℕ, Bool, false, ◌==◌, IsTrue, List, [], length, map, Some, Option, is_some, option_and_then, slice_get}
 use Rattle.std.specs.Option.{option_map_or}
 use Rattle.drm_types.specs.declared.access.Access.{Access}
-use Rattle.drm_types.specs.Usages.{wanted_usage}
 use Rattle.drm_types.specs.declared.access.Usage.{Usage}
 use Rattle.drm_job.specs.declared.Draft.{Draft}
-use Rattle.drm_resv.specs.Entries.{entries_of}
-use Rattle.drm_resv.specs.Noting.{all_noted}
-use Rattle.drm_resv.specs.Reservation.{WithRoom}
+use Rattle.drm_resv.specs.Reservation.{Reservation, WithRoom}
 use Rattle.drm_table.specs.Reservation.{usage_at}
 use Rattle.drm_table.specs.Uses.{HasUse}
 
@@ -19,14 +16,13 @@ is_held_in holders buffer = is_some (option_and_then (λ o. o) (slice_get holder
 abbrev pub holds_in : List (Option ℕ) → ℕ → ℕ → Bool
 holds_in holders ctx buffer = option_map_or (λ h. h == ctx) (option_and_then (λ o. o) (slice_get holders buffer)) false
 
--- the entries that a reservation asks a job with this access to wait for, noted
-abbrev pub collected : List WithRoom → List (ℕ × ℕ) → ℕ × Access → List (ℕ × ℕ)
-collected reservations deps d =
-    option_map_or (λ r. all_noted deps (entries_of (wanted_usage d.1) r.kept.entries)) (slice_get reservations d.0) deps
+-- what the reservation of a buffer keeps
+abbrev pub kept_at : List WithRoom → ℕ → Reservation
+kept_at reservations buffer = option_map_or (λ r. r.kept) (slice_get reservations buffer) (record { entries = []; history = [] })
 
--- those of all buffers that a job declares
-abbrev pub all_collected : List WithRoom → List (ℕ × Access) → List (ℕ × ℕ)
-all_collected reservations declared = fold (collected reservations) [] declared
+-- what those of the declared buffers keep, each with its buffer
+abbrev pub declared_kept : List WithRoom → List (ℕ × Access) → List (ℕ × Reservation)
+declared_kept reservations declared = map (λ d. (d.0, kept_at reservations d.0)) declared
 
 -- each reservation is as it was, with no less room
 pub record MoreRoom (old new : List WithRoom) : Type 0 where

@@ -1,13 +1,14 @@
 ghost use Rattle.std.specs.Prelude.{◌≡◌, ℕ, ◌<◌, ◌≤◌, length, map, Some, None, Option, find, IsTrue, OnOk, slice_get};
 ghost use Rattle.std.specs.List.{list_all};
 ghost use Rattle.drm_fence.specs.Fences.{has_ended_at};
-ghost use Rattle.drm_core.specs.Planning.{is_held_in, holds_in, all_collected, MoreRoom, HasRoomFor, AreRoomy, HaveUses};
+ghost use Rattle.drm_table.specs.Collected.{IsCollected};
+ghost use Rattle.drm_core.specs.Planning.{is_held_in, holds_in, declared_kept, MoreRoom, HasRoomFor, AreRoomy, HaveUses};
 
 use drm_fence::Timeline;
 use drm_job::Job;
 use drm_resv::{Deps, Resv};
-use drm_sched::add_use;
-use drm_types::{Access, BufferId, CtxId, FenceId, wanted};
+use drm_sched::{add_dependencies, add_use};
+use drm_types::{Access, BufferId, CtxId, FenceId};
 use std::alloc::AllocError;
 
 // Whether a context holds the buffer.
@@ -86,14 +87,16 @@ pub(crate) fn reserve(
     Ok(())
 }
 
-// What the reservations of these buffers ask a new job to wait for.
-pub(crate) fn collect(reservations: &[Resv], declared: &[(BufferId, Access)]) -> Deps
-    requires { (k : ℕ) (d : ℕ × Access) → slice_get declared.now k ≡ Some d → d.0 < length reservations.now }
-    ensures { result ≡ all_collected reservations.now declared.now }
+// What the reservations of the buffers that a new job declares ask it to wait for.
+pub(crate) fn collect(reservations: &[Resv], job: &Job) -> Deps
+    requires { (k : ℕ) (d : ℕ × Access) → slice_get job.now.declared k ≡ Some d → d.0 < length reservations.now }
+    ensures { IsCollected job.now (declared_kept reservations.now job.now.declared) result }
 {
     let mut deps = Deps::new();
+    let declared = job.declared();
     for use_of in declared {
-        reservations[use_of.0.number() as usize].collect(wanted(use_of.1), &mut deps);
+        let resv = &reservations[use_of.0.number() as usize];
+        add_dependencies(resv, use_of.0, job, &mut deps);
     }
     deps
 }

@@ -12,9 +12,9 @@ ghost use Rattle.drm_core.specs.Planning.{AreRoomy, ShareNoBuffer};
 use crate::cores::CoreTable;
 use crate::laws::device_laws;
 use crate::planning;
-use drm_job::{Draft, Job};
+use drm_job::{Draft, Job, jobs_are_the_sound_drafts};
 use drm_resv::Deps;
-use drm_sched::{Answer, Plan, Refusal};
+use drm_sched::{Answer, Plan, Refusal, collected_covers};
 use drm_types::FenceId;
 use std::alloc::AllocError;
 
@@ -53,6 +53,7 @@ impl CoreTable {
         ensures room { OnOk result (AreRoomy job.now self.new.reservations.items) }
         ensures core { IsCore self.new }
     {
+        jobs_are_the_sound_drafts();
         planning::reserve(&mut self.reservations, job.declared())
     }
 
@@ -62,7 +63,9 @@ impl CoreTable {
         requires core { IsCore self.now }
         ensures { DepsCover self.now.device.state job.now result }
     {
-        planning::collect(&self.reservations, job.declared())
+        jobs_are_the_sound_drafts();
+        collected_covers();
+        planning::collect(&self.reservations, job)
     }
 
     // Why the device does not take the job: its entity is stopped, the device is full, or it names a fence not armed yet.

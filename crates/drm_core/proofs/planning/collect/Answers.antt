@@ -1,16 +1,25 @@
-use Rattle.std.proofs.Common.{◌≡◌, ◌∙◌, ◌+◌, sym, ap, drop}
-use Rattle.std.specs.Prelude.{fold}
-use Rattle.drm_core.specs.Planning.{collected}
-use Rattle.drm_core.proofs.RoomFacts.{collected_is, drop_next}
+use Rattle.std.proofs.Common.{◌≡◌, ◌<◌, ◌+◌, ◌∙◌, sym, ap, subst, take, length, Some, slice_get}
+use Rattle.std.proofs.lemmas.List.{take_all}
+use Rattle.drm_table.specs.Collected.{IsCollected}
+use Rattle.drm_core.specs.Planning.{declared_kept}
+use Rattle.drm_core.proofs.Collecting.{kept_next}
+use Rattle.drm_core.proofs.RoomFacts.{drop_next}
 use Rattle.drm_core.proofs.planning.collect.Goals as goal
 
 pub loop-use_of-preserved : goal.loop-use_of-preserved
 loop-use_of-preserved c =
     let rs = c.args.reservations.now in
+    let declared = c.declared-declared.result.now in
     let i = c.loop-use_of.use_of-index in
-    let x = c.use_of-item.result in
-    let step : c.collect.new.deps ≡ collected rs c.loop-use_of.deps x =
-    collected_is rs c.loop-use_of.deps c.collect.new.deps x c.wanted.result c.number.result c.index-reservations-number.result c.collect.ensures c.wanted.ensures c.number.ensures
-    c.index-reservations-number.is (c.requires i x (drop_next c.args.declared.now i x c.use_of-item.is c.loop-use_of-test.true).1) in
-    ap (λ ds. fold (collected rs) ds (drop (i + 1) c.args.declared.now)) step
-    ∙ (sym (ap (fold (collected rs) c.loop-use_of.deps) (drop_next c.args.declared.now i x c.use_of-item.is c.loop-use_of-test.true).0) ∙ c.loop-use_of.invariant)
+    let d = c.use_of-item.result in
+    let at = (drop_next declared i d c.use_of-item.is c.loop-use_of-test.true).1 in
+    let there : d.0 < length rs = c.requires i d (subst (λ ds. slice_get ds i ≡ Some d) c.declared-declared.ensures at) in
+    subst (λ held. IsCollected c.args.job.now held c.add_dependencies.new.deps)
+    (sym (kept_next rs declared i c.number.result d c.index-reservations-number.result c.use_of-item.is c.loop-use_of-test.true c.number.ensures c.index-reservations-number.is there))
+    (c.add_dependencies.ensures (declared_kept rs (take i declared)) c.loop-use_of.invariant)
+
+pub returns : goal.returns
+returns c =
+    let rs = c.args.reservations.now in
+    subst (λ ds. IsCollected c.args.job.now (declared_kept rs ds) c.loop-use_of.deps)
+    (take_all c.loop-use_of.use_of-index c.declared-declared.result.now c.loop-use_of-test.false ∙ c.declared-declared.ensures) c.loop-use_of.invariant

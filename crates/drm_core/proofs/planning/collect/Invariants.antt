@@ -1,7 +1,7 @@
-use Rattle.std.proofs.Common.{◌≡◌, drop}
-use Rattle.std.specs.Prelude.{fold}
-use Rattle.drm_core.specs.Planning.{collected, all_collected}
+use Rattle.std.proofs.Common.{take}
+use Rattle.drm_table.specs.Collected.{IsCollected}
+use Rattle.drm_core.specs.Planning.{declared_kept}
 use Rattle.drm_core.proofs.planning.collect.Given as goal
 
 abbrev pub invariant-loop-use_of : goal.invariant-loop-use_of
-invariant-loop-use_of l = fold (collected l.reservations) l.deps (drop l.use_of-index l.declared) ≡ all_collected l.reservations l.declared
+invariant-loop-use_of l = IsCollected l.job (declared_kept l.reservations (take l.use_of-index l.declared)) l.deps

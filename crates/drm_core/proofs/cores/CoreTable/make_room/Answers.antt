@@ -7,7 +7,7 @@ use Rattle.drm_core.proofs.cores.CoreTable.make_room.Goals as goal
 pub reserve-requires : goal.reserve-requires
 reserve-requires c k d at =
     let t = c.args.self.now in
-    let below = declared_below t.device.state.spec c.args.job.now k d c.requires.job (subst (λ ds. slice_get ds k ≡ Some d) c.declared.ensures at) in
+    let below = declared_below c.jobs_are_the_sound_drafts.ensures t.device.state.spec c.args.job.now k d c.requires.job (subst (λ ds. slice_get ds k ≡ Some d) c.declared.ensures at) in
     subst (λ rs. d.0 < length rs) (sym c.deref_mut.ensures.value) (subst (λ n. d.0 < n) (sym c.requires.core.reservation_count) below)
 
 pub returns-clause-state : goal.returns-clause-state
