@@ -1,5 +1,6 @@
 //! Worked runs of a core, event by event: tables of what is done and what the core has to say.
 mod choosing;
+mod collecting;
 mod device_calls;
 mod loads;
 mod locking;

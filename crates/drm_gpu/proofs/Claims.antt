@@ -20,8 +20,7 @@ use Rattle.drm_table.specs.Reservation.{Fits}
 use Rattle.drm_gpu.specs.Passes.{Seeing, GpuState, PassState, Knows, last_of, pass_of}
 use Rattle.drm_gpu.specs.Submissions.{Submission, DeviceAcquire, Holding, TriesLock, MayWait, Claims, Locks, WentOn, submission_of}
 use Rattle.drm_gpu.proofs.Chains.{knows_same}
-use Rattle.drm_gpu.proofs.Covering.{in_kept}
-use Rattle.drm_gpu.proofs.Holders.{in_kept_of}
+use Rattle.drm_gpu.proofs.Holders.{in_kept, in_kept_of}
 use Rattle.drm_gpu.proofs.Lists.{at_in, in_last, in_left, lacks_same}
 
 -- ---- the caller goes on to hold

@@ -10,19 +10,23 @@ use Rattle.ww_lock.specs.Begun.{IsOutside}
 use Rattle.drm_types.specs.declared.spec.DeviceSpec.{DeviceSpec}
 use Rattle.drm_job.specs.declared.Draft.{Draft}
 use Rattle.drm_resv.specs.Reservation.{Reservation, WithRoom}
-use Rattle.drm_table.specs.Held.{kept_of, AllFit}
+use Rattle.drm_table.specs.Held.{kept_of, HoldsAll, AllFit}
 use Rattle.drm_table.specs.Keeps.{KeepsArmed}
-use Rattle.drm_table.specs.Reservation.{Fits, usage_at}
-use Rattle.drm_core.proofs.Collecting.{adds_declared}
+use Rattle.drm_table.specs.Reservation.{Fits}
 use Rattle.drm_sched.specs.Marks.{MarkedDevice}
 use Rattle.drm_gpu.specs.Passes.{Seeing, DeviceSeat, IsPassSeat, GpuState, PassState, Knows, IsFound, IsSameBut, Adds, Calls, GrowsTo, first_or, blank, last_of, pass_of}
-use Rattle.drm_gpu.specs.Submissions.{DeviceAcquire, Holding, HoldsAll, EnteredWith, Fitting, KeepsOthers}
+use Rattle.drm_gpu.specs.Submissions.{DeviceAcquire, Holding, EnteredWith, Fitting, KeepsOthers}
 use Rattle.drm_gpu.proofs.Chains.{knows_called, knows_same, last_is}
 use Rattle.drm_gpu.proofs.Called.{calls_of}
-use Rattle.drm_gpu.proofs.Covering.{in_kept}
-use Rattle.drm_gpu.proofs.Lists.{elem_of, key_in, in_without, at_of, in_of, one_value, place_of}
+use Rattle.drm_gpu.proofs.Lists.{elem_of, key_in, in_without, at_of, in_of, contained_in, one_value}
 
 -- ---- what is held, with its room and without
+
+pub in_kept : (b : ℕ) (x : Reservation) (hs : List (ℕ × WithRoom)) → In (b, x) (kept_of hs) → (r : WithRoom) × In (b, r) hs × (r.kept ≡ x)
+in_kept b x [] h = absurd h
+in_kept b x (y ∷ hs) h = ⊎_elim
+    (λ e. (y.1, inl (λ i. ((e i).0, y.1)), sym (ap (λ (z : ℕ × Reservation). z.1) e)))
+    (λ t. let r = in_kept b x hs t in (r.0, inr r.1, r.2)) h
 
 pub in_kept_of : (b : ℕ) (x : WithRoom) (hs : List (ℕ × WithRoom)) → In (b, x) hs → In (b, x.kept) (kept_of hs)
 in_kept_of b x [] h = absurd h
@@ -30,6 +34,14 @@ in_kept_of b x (y ∷ hs) h = ⊎_elim (λ e. inl (λ i. ((e i).0, (e i).1.kept)
 
 pub fits_kept_of : (d : MarkedDevice) (hs : List (ℕ × WithRoom)) → Fitting d (kept_of hs) → (b : ℕ) (x : WithRoom) → In (b, x) hs → Fits b d.state.journal x.kept
 fits_kept_of d hs fit b x h = fit b x.kept (in_kept_of b x hs h)
+
+-- what is held fits the device that was found
+pub held_fits : (gpu : GpuState) (a : DeviceAcquire) (d : MarkedDevice) → Holding gpu a → ((b : ℕ) (y : WithRoom) → In (b, y) (view a).lock.owes → Fits b d.state.journal y.kept)
+    → (b : ℕ) (x : Reservation) → In (b, x) (kept_of a.held.items) → Fits b d.state.journal x
+held_fits gpu a d holding owes b x has =
+    let r = in_kept b x a.held.items has in
+    let y = key_in a.held.items (view a).lock.owes (sym holding.holds.keys) b r.0 r.1 in
+    subst (Fits b d.state.journal) r.2 (holding.owed b y.0 r.0 y.1 r.1 d (owes b y.0 y.1))
 
 -- a buffer that is not owed is not held
 pub not_held : (b : ℕ) (owes held : List (ℕ × WithRoom)) → IsSameKeys owes held → ((y : WithRoom) → In (b, y) owes → ⊥) → (y : Reservation) → In (b, y) (kept_of held) → ⊥
@@ -51,27 +63,16 @@ all_fit d held fit k h at = fit h.0 h.1 (in_of held k h at)
 pub fit_after : (d e : MarkedDevice) (old new : List (ℕ × Reservation)) → (AllFit d.state.journal old → AllFit e.state.journal new) → Fitting d old → Fitting e new
 fit_after d e old new goes fit b x has = let n = at_of new (b, x) has in goes (all_fit d old fit) n.0 (b, x) n.1
 
--- a job does not use what it does not declare
-unused : (job : Draft) (held : List (ℕ × Reservation)) (b : ℕ) → HoldsAll job held → ((y : Reservation) → In (b, y) held → ⊥) → usage_at b job ≡ None
-unused job held b all none =
-    elim (usage_at b job) as (λ o. usage_at b job ≡ o → usage_at b job ≡ None) [
-      | None ↦ λ e. e
-      | Some u ↦ λ e.
-          let d = adds_declared job b u e in
-          let k = place_of job.declared d.0 d.1 in
-          let h = all k.0 d.0 k.1 in
-          absurd (none h.0 (subst (λ n. In (n, h.0) held) d.2 h.1))
-    ] refl
-
 -- an arming with what it holds leaves what others hold
 pub keeps_others : (job : Draft) (fence : ℕ) (d e : MarkedDevice) (old new : List (ℕ × WithRoom)) → HoldsAll job (kept_of old) → map number_of new ≡ map number_of old
     → KeepsArmed job fence d.state e.state → KeepsOthers (kept_of new) fence 1 d e
 keeps_others job fence d e old new all keys k = record {
   place = k.place;
-  fits = λ b x none f. k.fits b x (unused job (kept_of old) b all (λ y has.
-      let r = in_kept b y old has in
-      let n = key_in old new (sym keys) b r.0 r.1 in
-      none n.0.kept (in_kept_of b n.0 new n.1))) f;
+  fits = λ b x none f. k.fits b x (λ m d at same.
+      let h = all m d at in
+      let r = in_kept d.0 h.0 old (contained_in (kept_of old) (d.0, h.0) h.1) in
+      let n = key_in old new (sym keys) d.0 r.0 r.1 in
+      none n.0.kept (subst (λ c. In (c, n.0.kept) (kept_of new)) same (in_kept_of d.0 n.0 new n.1))) f;
   word = k.word;
   words = k.words;
 }

@@ -2,7 +2,6 @@ pub mod Lists
 pub mod Grown
 pub mod Chains
 pub mod Packets
-pub mod Covering
 pub mod Called
 pub mod Holders
 pub mod Claims

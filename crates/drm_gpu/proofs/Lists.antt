@@ -60,6 +60,13 @@ module _ {A : Type 0} where
   pub place_of : (xs : List A) (x : A) → Contains xs x → (k : ℕ) × (slice_get xs k ≡ Some x)
   place_of xs x c = (c.0, slice_get-get_or xs c.0 x c.1 ∙ ap Some c.2)
 
+  -- what is in a list is contained in it, by either word
+  pub in_contains : (xs : List A) (x : A) → In x xs → Contains xs x
+  in_contains xs x h = let p = at_of xs x h in contains_at xs p.0 x p.1
+
+  pub contained_in : (xs : List A) (x : A) → Contains xs x → In x xs
+  contained_in xs x c = let p = place_of xs x c in in_of xs p.0 x p.1
+
 -- the pair of a key, where another list has the same keys
 pub key_in : {A B : Type 0} (xs : List (ℕ × A)) (ys : List (ℕ × B)) → map number_of xs ≡ map number_of ys → (b : ℕ) (x : A) → In (b, x) xs → (y : B) × In (b, y) ys
 key_in [] ys e b x h = absurd h

@@ -1,7 +1,5 @@
 -- The states of a submission.
-use Rattle.std.specs.Prelude.{◌≡◌, ◌≢◌, ◌<◌, ◌≤◌, ℕ, false, List, [], ◌∷◌, ◌++◌, Some, None, Result, Ok, Err, All, Contains, slice_get, length, fold}
-use Rattle.std.specs.Option.{option_map_or}
-use Rattle.drm_resv.specs.Noting.{all_noted}
+use Rattle.std.specs.Prelude.{◌≡◌, ◌≢◌, ◌<◌, ◌≤◌, ℕ, false, List, [], ◌∷◌, ◌++◌, Some, None, Result, Ok, Err, length}
 use Rattle.atomic_table.specs.Seated.{TableId}
 use Rattle.ww_lock.specs.declared.acquire.Acquire.{Acquire}
 use Rattle.ww_lock.specs.declared.locks.TryLockError.{TryLockError}
@@ -12,12 +10,7 @@ use Rattle.ww_lock.specs.declared.locks.LockError.TheVariants as lock
 use Rattle.ww_lock.specs.Acquiring.{HoldsOutside, HoldsInside, IsAsOwed, view}
 use Rattle.ww_lock.specs.Held.{Lacks}
 use Rattle.ww_lock.specs.Rule.{In}
-use Rattle.drm_types.specs.declared.access.Access.{Access}
-use Rattle.drm_types.specs.Usages.{wanted_usage}
 use Rattle.drm_job.specs.declared.Draft.{Draft}
-use Rattle.drm_job.specs.Uses.{access_of}
-use Rattle.drm_resv.specs.declared.entry.Entry.{Entry}
-use Rattle.drm_resv.specs.Entries.{entries_of}
 use Rattle.drm_resv.specs.Reservation.{Reservation, WithRoom}
 use Rattle.drm_table.specs.declared.errors.ArmError.{ArmError}
 use Rattle.drm_table.specs.Arming.{armed_device}
@@ -80,22 +73,6 @@ pub record KeepsOthers (held : List (ℕ × Reservation)) (fence shown : ℕ) (o
   pub word : word_shown new fence ≡ shown
   pub words : (f : ℕ) → f ≢ fence → word_shown new f ≡ word_shown old f
 
--- every buffer that the job declares is held
-abbrev pub HoldsAll : Draft → List (ℕ × Reservation) → Type 0
-HoldsAll job held = (k : ℕ) (d : ℕ × Access) → slice_get job.declared k ≡ Some d → (x : Reservation) × In (d.0, x) held
-
--- a dependency is that of an entry that the job has to wait for
-abbrev pub Asked : Draft → List (ℕ × Reservation) → ℕ × ℕ → Type 0
-Asked job held d = (b : ℕ) × (x : Reservation) × (a : Access) × (e : Entry) × In (b, x) held × (access_of job b ≡ Some a)
-    × Contains (entries_of (wanted_usage a) x.entries) e × (d ≡ (e.entity, e.fence))
-
--- each entry that the job has to wait for stands in the dependencies, by its entity, at least as late, and each dependency is one of
--- these. No device is named
-pub record IsCollected (job : Draft) (held : List (ℕ × Reservation)) (deps : List (ℕ × ℕ)) : Type 0 where
-  pub reached : (b : ℕ) (x : Reservation) (a : Access) (e : Entry) → In (b, x) held → access_of job b ≡ Some a → Contains (entries_of (wanted_usage a) x.entries) e
-      → (f : ℕ) × Contains deps (e.entity, f) × (e.fence ≤ f)
-  pub asked : All (Asked job held) deps
-
 -- what a try to lock a buffer answers, and what is so after it
 abbrev pub TriesLock : ℕ → Submission → Submission → Result (Unit {0}) TryLockError → Type 0
 TriesLock b old new (Ok u) =
@@ -154,10 +131,3 @@ pub record ArmedSubmission : Type 0 where
   pub pass : PassState
   pub held : List (ℕ × Reservation)
   pub fence : ℕ
-
--- what these reservations ask the job to wait for
-abbrev pub collected_at : Draft → List (ℕ × ℕ) → ℕ × Reservation → List (ℕ × ℕ)
-collected_at job deps h = option_map_or (λ a. all_noted deps (entries_of (wanted_usage a) h.1.entries)) (access_of job h.0) deps
-
-abbrev pub collected_from : Draft → List (ℕ × Reservation) → List (ℕ × ℕ)
-collected_from job held = fold (collected_at job) [] held

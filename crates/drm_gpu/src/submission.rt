@@ -1,22 +1,18 @@
 //! A submission that has its locks: what it waits for is collected, and it is armed.
 ghost use Rattle.std.specs.Prelude.{◌≡◌, ℕ, [], ◌∷◌, IfOk, IfErr, OnOk, OnErr, MatchResult, IsTrue, map};
-ghost use Rattle.std.specs.Option.{option_map_or};
-ghost use Rattle.drm_types.specs.Usages.{wanted_usage};
-ghost use Rattle.drm_job.specs.Uses.{access_of};
-ghost use Rattle.drm_resv.specs.Entries.{entries_of};
-ghost use Rattle.drm_resv.specs.Noting.{all_noted};
 ghost use Rattle.drm_resv.specs.Reservation.{WithRoom};
 ghost use Rattle.drm_table.specs.Held.{HaveRoom, kept_of};
+ghost use Rattle.drm_table.specs.Collected.{IsCollected};
 ghost use Rattle.drm_gpu.specs.Passes.{Calls};
-ghost use Rattle.drm_gpu.specs.Submissions.{IsCollected, ArmIs, ArmRefused, collected_from};
+ghost use Rattle.drm_gpu.specs.Submissions.{ArmIs, ArmRefused};
 
 use crate::gpu::Gpu;
 use crate::locking::{DeviceAcquire, Locked, give_up};
 use crate::pass::Pass;
 use drm_job::Job;
-use drm_resv::{Deps, Resv};
+use drm_resv::Resv;
 use drm_sched::{ArmError, Held, Plan};
-use drm_types::{Access, BufferId, FenceId, wanted};
+use drm_types::{BufferId, FenceId};
 use std::alloc::{AllocError, Global};
 use std::marker::Model;
 use std::snapshot::Snapshot;
@@ -33,15 +29,16 @@ pub struct Planned<'g> {
 impl<'g> Model for Planned<'g> {
     ghost use Rattle.std.specs.Prelude.{◌≡◌, true};
     ghost use Rattle.drm_job.specs.Fault.{IsJob};
-    ghost use Rattle.drm_table.specs.Held.{kept_of, HaveRoom};
-    ghost use Rattle.drm_gpu.specs.Submissions.{PlannedSubmission, submission_of, Holding, HoldsAll, IsCollected};
+    ghost use Rattle.drm_table.specs.Held.{kept_of, HoldsAll, HaveRoom};
+    ghost use Rattle.drm_table.specs.Collected.{CoverWhereFit};
+    ghost use Rattle.drm_gpu.specs.Submissions.{PlannedSubmission, submission_of, Holding};
 
     ghost Value = { PlannedSubmission };
 
     ghost view = { λ l. record { submission = submission_of l.gpu.now.home l.plan.job l.acquire; deps = l.plan.deps } };
 
     ghost invariant = { λ l. Holding l.gpu.now l.acquire × (l.acquire.sealed ≡ true) × IsJob l.gpu.now.spec l.plan.job
-        × HoldsAll l.plan.job (kept_of l.acquire.held.items) × IsCollected l.plan.job (kept_of l.acquire.held.items) l.plan.deps × HaveRoom l.plan.job l.acquire.held.items };
+        × HoldsAll l.plan.job (kept_of l.acquire.held.items) × CoverWhereFit l.plan.job (kept_of l.acquire.held.items) l.plan.deps × HaveRoom l.plan.job l.acquire.held.items };
 }
 
 /// A submission whose job is armed.
@@ -85,26 +82,6 @@ fn take_all_rooms(held: &mut Held) -> Result<(), AllocError>
     take_rooms(held.as_mut_slice())
 }
 
-// What a reservation asks the job to wait for, if the job uses its buffer.
-fn collect_one(resv: &Resv, access: Option<Access>, deps: &mut Deps)
-    ensures { deps.new ≡ option_map_or (λ a. all_noted deps.old (entries_of (wanted_usage a) resv.now.kept.entries)) access deps.old }
-{
-    if let Some(access) = access {
-        resv.collect(wanted(access), deps);
-    }
-}
-
-// What these reservations ask the job to wait for.
-fn collect(held: &[(BufferId, Resv)], job: &Job) -> Deps
-    ensures { result ≡ collected_from job.now (kept_of held.now) }
-{
-    let mut deps = Deps::new();
-    for (buffer, resv) in held {
-        collect_one(resv, job.access_of(*buffer), &mut deps);
-    }
-    deps
-}
-
 impl<'g> Locked<'g> {
     /// Takes room in the reservations (`dma_resv_reserve_fences`), and collects what the job waits for from them
     /// (`drm_sched_job_add_implicit_dependencies`).
@@ -123,14 +100,12 @@ impl<'g> Locked<'g> {
         } = self;
         let mut held: Held = acquire.take_values();
         let room = take_all_rooms(&mut held);
-        let deps = collect(held.as_slice(), &job);
         acquire.put_values(held);
         match room {
-            Ok(()) => Ok(Planned {
-                gpu,
-                acquire,
-                plan: Plan { job, deps },
-            }),
+            Ok(()) => {
+                let plan = Plan::collect(job, acquire.held());
+                Ok(Planned { gpu, acquire, plan })
+            }
             Err(AllocError) => Err(Locked { gpu, acquire, job }),
         }
     }

@@ -42,6 +42,7 @@ use Rattle.drm_table.specs.Tables.{state_of, IsWhole}
 use Rattle.std.proofs.lemmas.Option.{slice_get_within}
 use Rattle.drm_table.proofs.ArmDone.{may_arm}
 use Rattle.drm_table.proofs.ChoiceIs.{choice_is}
+use Rattle.drm_table.proofs.Covering.{not_declared}
 use Rattle.drm_table.specs.Events.{IsKept}
 use Rattle.drm_table.proofs.DeviceSteps.{not_when, pick_kept, step_kept, finish_kept, timeout_kept, cancel_kept, reap_kept}
 use Rattle.drm_table.proofs.FitsKept.{fits_kept, unused_fits, get_at_push}
@@ -281,7 +282,7 @@ reap_keeps t n entity (Err e) whole ok err = unchanged t n err.1
 pub arm_keeps : (d : DeviceState) (job : Draft) → arm_refusal d job ≡ None → KeepsArmed job (length d.journal) d (armed_device d job)
 arm_keeps d job may = record {
   place = (may_arm d job may).place;
-  fits = λ b x unused f. unused_fits d job b x unused f;
+  fits = λ b x none f. unused_fits d job b x (not_declared job b none) f;
   word = ap (λ o. option_map_or (λ (z : JobRecord). word_of z.phase) o 0) (get_at_push d.journal (new_record d job));
   words = λ g ne. word_push d.journal (new_record d job) g ne;
 }

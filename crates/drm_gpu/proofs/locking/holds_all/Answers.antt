@@ -4,8 +4,9 @@ use mathlib.Core.Logic.{dite}
 use native.Mathlib.Decide.{ℕ_discrete}
 use Rattle.ww_lock.specs.Rule.{In}
 use Rattle.drm_types.specs.declared.access.Access.{Access}
-use Rattle.drm_gpu.proofs.Covering.{in_kept}
-use Rattle.drm_gpu.proofs.Holders.{in_kept_of}
+use Rattle.drm_table.specs.Held.{kept_of}
+use Rattle.drm_gpu.proofs.Holders.{in_kept, in_kept_of}
+use Rattle.drm_gpu.proofs.Lists.{in_contains, contained_in}
 use Rattle.drm_gpu.proofs.locking.holds_all.Goals as goal
 
 pub returns-then-not-has_buffer-clause-lacks : goal.returns-then-not-has_buffer-clause-lacks
@@ -15,7 +16,7 @@ returns-then-not-has_buffer-clause-lacks c t all =
     let n = c.index-declared-place.result in
     let lt : i < length xs = subst (λ l. i < length l) c.declared-place-end.ensures c.loop-place-test.true in
     let h = all i (get_or xs i n) (slice_get-get_or xs i n lt) in
-    let r = in_kept (get_or xs i n).0 h.0 c.args.held.now h.1 in
+    let r = in_kept (get_or xs i n).0 h.0 c.args.held.now (contained_in (kept_of c.args.held.now) ((get_or xs i n).0, h.0) h.1) in
     c.has_buffer.ensures.lacks c.if-not-has_buffer.true r.0 (subst (λ l. In ((get_or l i n).0, r.0) c.args.held.now) (sym c.declared.ensures) r.1)
 
 pub loop-place-preserved : goal.loop-place-preserved
@@ -37,4 +38,4 @@ returns-clause-all c t k d at =
     let within = slice_get_within xs k d at in
     let end : length xs ≤ c.loop-place.place = subst (λ l. length l ≤ c.loop-place.place) c.declared-place-end.ensures c.loop-place-test.false in
     let x = c.loop-place.invariant k d (omega (arith, within, end)) at in
-    (x.0.kept, in_kept_of d.0 x.0 c.args.held.now x.1)
+    (x.0.kept, in_contains (kept_of c.args.held.now) (d.0, x.0.kept) (in_kept_of d.0 x.0 c.args.held.now x.1))

@@ -4,9 +4,10 @@ use mathlib.Core.Logic.{dite}
 use native.Mathlib.Decide.{ℕ_discrete}
 use Rattle.ww_lock.specs.Rule.{In}
 use Rattle.drm_types.specs.declared.access.Access.{Access}
+use Rattle.drm_table.specs.Held.{kept_of}
 use Rattle.drm_gpu.proofs.Holders.{in_kept_of}
 use Rattle.drm_gpu.proofs.Claims.{went_itself, went_trans}
-use Rattle.drm_gpu.proofs.Lists.{first_half}
+use Rattle.drm_gpu.proofs.Lists.{first_half, in_contains}
 use Rattle.drm_gpu.proofs.locking.lock_declared.Goals as goal
 
 pub loop-place-init : goal.loop-place-init
@@ -61,4 +62,4 @@ returns-clause-locked g c k d at =
     let within = slice_get_within xs k d at in
     let end : length xs ≤ c.loop-place.place = subst (λ l. length l ≤ c.loop-place.place) c.declared-place-end.ensures c.loop-place-test.false in
     let x = c.loop-place.invariant.held k d (omega (arith, within, end)) at in
-    (x.0.kept, in_kept_of d.0 x.0 c.loop-place.acquire.held.items x.1)
+    (x.0.kept, in_contains (kept_of c.loop-place.acquire.held.items) (d.0, x.0.kept) (in_kept_of d.0 x.0 c.loop-place.acquire.held.items x.1))

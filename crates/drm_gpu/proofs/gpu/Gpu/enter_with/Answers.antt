@@ -3,7 +3,7 @@ use Rattle.ww_lock.specs.Acquiring.{HoldsOutside, HoldsInside, view}
 use Rattle.drm_gpu.specs.Passes.{GpuState, Seeing, last_of}
 use Rattle.drm_gpu.proofs.Called.{is_found}
 use Rattle.drm_gpu.proofs.Chains.{knows_entered, saw}
-use Rattle.drm_gpu.proofs.Covering.{held_fits}
+use Rattle.drm_gpu.proofs.Holders.{held_fits}
 use Rattle.drm_gpu.proofs.gpu.Gpu.enter_with.Goals as goal
 
 pub enter_with-requires : goal.enter_with-requires

@@ -1,8 +1,7 @@
 use Rattle.std.proofs.Common.{ap, sym, subst}
 use Rattle.ww_lock.specs.Rule.{In}
 use Rattle.drm_gpu.specs.Submissions.{Submission}
-use Rattle.drm_gpu.proofs.Covering.{in_kept}
-use Rattle.drm_gpu.proofs.Holders.{in_kept_of}
+use Rattle.drm_gpu.proofs.Holders.{in_kept, in_kept_of}
 use Rattle.drm_gpu.proofs.locking.Locking.is_held.Goals as goal
 
 pub returns-clause-held : goal.returns-clause-held

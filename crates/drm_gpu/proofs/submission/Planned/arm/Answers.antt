@@ -4,14 +4,14 @@ use Rattle.ww_lock.specs.Steps.{number_of}
 use Rattle.drm_types.specs.declared.spec.DeviceSpec.{DeviceSpec}
 use Rattle.drm_job.specs.Fault.{IsJob}
 use Rattle.drm_table.specs.declared.plans.Plan.{Plan}
-use Rattle.drm_table.specs.Held.{HaveRoom, kept_of, armed_held}
+use Rattle.drm_table.specs.Collected.{CoverWhereFit}
+use Rattle.drm_table.specs.Held.{HaveRoom, HoldsAll, kept_of, armed_held}
 use Rattle.drm_table.specs.Keeps.{Keeps}
 use Rattle.drm_sched.specs.Marks.{MarkedDevice}
 use Rattle.drm_table.specs.Errors.{refusal_of_arm}
 use Rattle.drm_table.specs.Refusals.{arm_refusal}
 use Rattle.drm_gpu.specs.Passes.{IsSameBut, pass_of}
-use Rattle.drm_gpu.specs.Submissions.{PlannedSubmission, DeviceAcquire, EnteredWith, Fitting, HoldsAll, IsCollected, KeepsOthers, ArmIs, ArmRefused}
-use Rattle.drm_gpu.proofs.Covering.{covers}
+use Rattle.drm_gpu.specs.Submissions.{PlannedSubmission, DeviceAcquire, EnteredWith, Fitting, KeepsOthers, ArmIs, ArmRefused}
 use Rattle.drm_gpu.proofs.Grown.{keeps_itself}
 use Rattle.drm_gpu.proofs.Holders.{all_fit, fit_after, keeps_others, put_back, called_with}
 use Rattle.drm_gpu.proofs.submission.Planned.arm.Goals as goal
@@ -26,9 +26,9 @@ arm-answer-requires-clause-job g c =
 pub arm-answer-requires-clause-covers : goal.arm-answer-requires-clause-covers
 arm-answer-requires-clause-covers g c =
     let job = c.self.inside.plan.job in
-    covers c.enter_with-device.result.state job (kept_of c.self.inside.acquire.held.items) c.self.inside.plan.deps c.enter_with-device.ensures.found.lawful
+    c.self.invariant.4.in_each c.enter_with-device.result.state c.enter_with-device.ensures.found.lawful
     (subst (λ (s : DeviceSpec). IsJob s job) (sym (c.enter_with-device.ensures.found.later.spec ∙ c.self.invariant.0.knows.described)) c.self.invariant.2)
-    c.self.invariant.3 c.enter_with-device.ensures.fit c.self.invariant.4
+    (all_fit c.enter_with-device.result (kept_of c.self.inside.acquire.held.items) c.enter_with-device.ensures.fit)
 
 pub arm-answer-requires-clause-room : goal.arm-answer-requires-clause-room
 arm-answer-requires-clause-room g c =
@@ -81,9 +81,9 @@ returns-in-Ok-clause-armed g c =
       number = c.in-Ok.ensures.armed.1;
       armed = c.in-Ok.ensures.armed.2;
       marks = c.arm-answer.ensures.marks;
-      covers = covers d.state job (kept_of held.items) c.self.inside.plan.deps c.enter_with-device.ensures.found.lawful
+      covers = c.self.invariant.4.in_each d.state c.enter_with-device.ensures.found.lawful
           (subst (λ (s : DeviceSpec). IsJob s job) (sym (c.enter_with-device.ensures.found.later.spec ∙ c.self.invariant.0.knows.described)) c.self.invariant.2)
-          c.self.invariant.3 c.enter_with-device.ensures.fit c.self.invariant.4;
+          (all_fit d (kept_of held.items) c.enter_with-device.ensures.fit);
       fit = all_fit d (kept_of held.items) c.enter_with-device.ensures.fit;
       held = ap (λ h. kept_of h.items) (c.show_and_leave_with.ensures.same.2 ∙ ap (λ (a : DeviceAcquire). a.held) c.put_values.ensures.values)
           ∙ (c.in-Ok.ensures.held ∙ ap (λ h. armed_held d.state.journal job (kept_of h.items)) taken);
@@ -128,7 +128,7 @@ invariant_of-result-in-Err g c =
       sealed,
       subst (λ (p : Plan). IsJob gpu.spec p.job) (sym plan) c.self.invariant.2,
       subst (λ (p : Plan). HoldsAll p.job (kept_of last.held.items)) (sym plan) (subst (λ h. HoldsAll c.self.inside.plan.job (kept_of h.items)) (sym held) c.self.invariant.3),
-      subst (λ (p : Plan). IsCollected p.job (kept_of last.held.items) p.deps) (sym plan) (subst (λ h. IsCollected c.self.inside.plan.job (kept_of h.items) c.self.inside.plan.deps) (sym held) c.self.invariant.4),
+      subst (λ (p : Plan). CoverWhereFit p.job (kept_of last.held.items) p.deps) (sym plan) (subst (λ h. CoverWhereFit c.self.inside.plan.job (kept_of h.items) c.self.inside.plan.deps) (sym held) c.self.invariant.4),
       subst (λ (p : Plan). HaveRoom p.job last.held.items) (sym plan) (subst (λ h. HaveRoom c.self.inside.plan.job h.items) (sym held) c.self.invariant.5),
     )
 
