@@ -1,5 +1,5 @@
 -- Lists with their places, one element more.
-use Rattle.std.proofs.Common.{◌≡◌, ◌∙◌, ℕ, suc, Bool, true, false, cond, List, [], ◌∷◌, ◌++◌, ◌+◌, ◌<◌, ◌≤◌, Option, Some, None, Bor, ap, append-nil, append_assoc, refl, sym, arith, find, flat_map, length, map, position, take, get_or, slice_get, unwrap_or}
+use Rattle.std.proofs.Common.{◌≡◌, ◌∙◌, ℕ, suc, Bool, true, false, cond, List, [], ◌∷◌, ◌++◌, ◌+◌, ◌<◌, ◌≤◌, Option, Some, None, Bor, ap, append-nil, append_assoc, drop, refl, reverse, sym, arith, find, flat_map, length, map, position, take, get_or, slice_get, unwrap_or}
 use Rattle.std.specs.Prelude.{nat_lt}
 use Rattle.std.specs.List.{cons_option, enumerate_from, filter_map, position_or_len}
 use Rattle.std.specs.Option.{option_copied}
@@ -9,7 +9,7 @@ use Rattle.std.proofs.lemmas.Option.{slice_get-get_or, slice_get_past}
 use Rattle.std.proofs.lemmas.List.Folds.{find_at}
 use Rattle.std.proofs.Math.Seq.{take-suc}
 use Rattle.std.proofs.lemmas.Grind.{flat_map-append}
-use Rattle.std.proofs.lemmas.List.{length-take-le, map-append}
+use Rattle.std.proofs.lemmas.List.{length-take-le, map-append, reverse-append}
 use Rattle.std.proofs.lemmas.List.Elements.{filter_map-append}
 
 pub enumerate_from-snoc : {X : Type 0} (n : ℕ) (xs : List X) (x : X) → enumerate_from n (xs ++ x ∷ []) ≡ enumerate_from n xs ++ (n + length xs, x) ∷ []
@@ -89,3 +89,15 @@ found-by xs at false past =
 -- what stands at the place of the first element that passes is the first that passes
 pub found_at : {X : Type 0} (p : X → Bool) (xs : List X) → slice_get xs (unwrap_or (position p xs) (length xs)) ≡ find p xs
 found_at p xs = found-by xs (position_or_len p xs) (nat_lt (position_or_len p xs) (length xs)) refl ∙ sym (find_at p xs)
+
+reverse-cons_option : {Y : Type 0} (ys : List Y) (found : Option Y) → reverse (ys ++ cons_option found []) ≡ cons_option found (reverse ys)
+reverse-cons_option ys None = ap reverse (append-nil ys)
+reverse-cons_option ys (Some y) = reverse-append ys (y ∷ [])
+
+-- from the end on, one element more, of which something is kept or nothing
+pub kept_before : {X Y : Type 0} (h : ℕ × X → Option Y) (xs : List X) (place : ℕ) (x : X) (ys : List Y) → drop place xs ≡ x ∷ drop (place + 1) xs
+    → reverse ys ≡ filter_map h (enumerate_from (place + 1) (drop (place + 1) xs)) → reverse (ys ++ cons_option (h (place, x)) []) ≡ filter_map h (enumerate_from place (drop place xs))
+kept_before h xs place x ys split so =
+    reverse-cons_option ys (h (place, x))
+    ∙ ap (cons_option (h (place, x))) so
+    ∙ ap (λ l. filter_map h (enumerate_from place l)) (sym split)

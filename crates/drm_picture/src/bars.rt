@@ -2,11 +2,13 @@
 
 ghost use Rattle.std.specs.List.{cons_option};
 ghost use Rattle.std.specs.Option.{option_copied};
-ghost use Rattle.std.specs.Prelude.{◌≡◌, ◌+◌, ◌<◌, ◌≤◌, ◌^◌, ◌++◌, [], find, length, option_and_then, position, reverse, IfOk, OnOk};
+ghost use Rattle.std.specs.Prelude.{◌≡◌, ◌+◌, ◌<◌, ◌≤◌, ◌^◌, ◌++◌, [], find, length, option_and_then, position, reverse, take, IfOk, OnOk};
 ghost use Rattle.drm_picture.specs.Bars.{armed, armed_job as armed_job_of, bar_at, bar_from, bars_of, cancelled_by, endless_look, ends, ends_fence, ends_job, kept_beyond, last_planned as last_planned_by, lasts_beyond, leaves_queue, locked, look_of, opening_of, packets_of, picked, plans, queued, runs, shown_by, steps_between, stopped_by, unlocks_in};
 ghost use Rattle.drm_picture.specs.Commands.{moment_of};
+ghost use Rattle.drm_picture.specs.Ends.{AreNext, none_ends};
 
 use crate::command::{Command, Request, Step};
+use crate::ends::{note_end, skipped};
 use drm_table::Answer;
 use drm_types::{Moment, Outcome};
 use std::alloc::{AllocError, Global};
@@ -377,18 +379,31 @@ fn packets(kind: Kind, fence: u32, during: &[Step]) -> usize
 }
 
 // The place of the first of these steps by which what began ends.
-fn end_place(kind: Kind, opening: Opening, behind: &[Step]) -> Option<usize>
+fn first_end(kind: Kind, opening: Opening, behind: &[Step]) -> Option<usize>
     ensures { result ≡ position (ends kind opening) behind.now }
 {
     behind.iter().position(|step| is_end(kind, opening, step))
 }
 
+// The same, where none of so many steps at the begin ends it.
+fn end_place(kind: Kind, opening: Opening, behind: &[Step], skipped: usize) -> Option<usize>
+    requires { none_ends kind opening (take skipped behind.now) }
+    ensures { result ≡ position (ends kind opening) behind.now }
+{
+    let skipped = skipped.min(behind.len());
+    match first_end(kind, opening, &behind[skipped..]) {
+        Some(more) => Some(skipped + more),
+        None => None,
+    }
+}
+
 // How many steps are between the one by which something began and the one that ends it, or the end of the run.
-fn between(kind: Kind, opening: Opening, behind: &[Step]) -> usize
+fn between(kind: Kind, opening: Opening, behind: &[Step], skipped: usize) -> usize
+    requires { none_ends kind opening (take skipped behind.now) }
     ensures value { result ≡ steps_between kind opening behind.now }
     ensures within { result ≤ length behind.now }
 {
-    match end_place(kind, opening, behind) {
+    match end_place(kind, opening, behind, skipped) {
         Some(more) => more,
         None => behind.len(),
     }
@@ -402,12 +417,20 @@ fn end_step(kind: Kind, opening: Opening, behind: &[Step], more: usize) -> Optio
     behind.get(more)
 }
 
-// The bar of what begins by the step at a place, before these.
-fn bar_of(kind: Kind, place: usize, step: &Step, behind: &[Step], opening: Opening) -> Bar
+// The bar of what begins by the step at a place, before these, of which none of so many at their begin ends it.
+fn bar_of(
+    kind: Kind,
+    place: usize,
+    step: &Step,
+    behind: &[Step],
+    skipped: usize,
+    opening: Opening,
+) -> Bar
+    requires { none_ends kind opening (take skipped behind.now) }
     ensures value { result ≡ bar_from kind place step.now behind.now opening }
     ensures within { result.from + result.span ≤ place + length behind.now + 1 }
 {
-    let more = between(kind, opening, behind);
+    let more = between(kind, opening, behind, skipped);
     let last = end_step(kind, opening, behind, more);
     Bar {
         kind,
@@ -422,12 +445,21 @@ fn bar_of(kind: Kind, place: usize, step: &Step, behind: &[Step], opening: Openi
 }
 
 // The bar of a kind that begins by the step at a place of a run, if one does and lasts beyond another place.
-fn bar_beyond(kind: Kind, from: usize, run: &[Step], place: usize, step: &Step) -> Option<Bar>
-    requires { place < length run.now }
+fn bar_beyond(
+    kind: Kind,
+    from: usize,
+    run: &[Step],
+    place: usize,
+    step: &Step,
+    next: &[usize],
+) -> Option<Bar>
+    requires within { place < length run.now }
+    requires next { AreNext kind run.now (place + 1) next.now }
     ensures { result ≡ kept_beyond from (bar_at kind run.now (place, step.now)) }
 {
     let opening = opening_at(kind, &run[..place], step)?;
-    let bar = bar_of(kind, place, step, &run[place + 1..], opening);
+    let skipped = skipped(next, kind, opening, place + 1);
+    let bar = bar_of(kind, place, step, &run[place + 1..], skipped, opening);
     if bar.is_beyond(from) { Some(bar) } else { None }
 }
 
@@ -444,7 +476,7 @@ pub(crate) fn push_bar(bars: &mut Vec<Bar>, found: Option<Bar>) -> Result<(), Al
     }
 }
 
-/// The bars of a kind that last beyond a place of the run.
+/// The bars of a kind that last beyond a place of the run. From its end on, so that the place where each ends is known.
 pub(crate) fn bars(
     alloc: Global,
     kind: Kind,
@@ -453,9 +485,13 @@ pub(crate) fn bars(
 ) -> Result<Vec<Bar>, AllocError>
     ensures { IfOk result (λ bars. bars.items ≡ bars_of kind from run.now) }
 {
+    let mut next = vec![in alloc; run.len(); run.len()]?;
     let mut bars = Vec::new(alloc);
-    for (place, step) in run.iter().enumerate() {
-        push_bar(&mut bars, bar_beyond(kind, from, run, place, step))?;
+    for place in (0..run.len()).rev() {
+        let step = &run[place];
+        push_bar(&mut bars, bar_beyond(kind, from, run, place, step, &next))?;
+        note_end(&mut next, kind, place, step);
     }
+    bars.reverse();
     Ok(bars)
 }

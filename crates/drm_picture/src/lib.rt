@@ -9,6 +9,7 @@
 mod bars;
 mod command;
 mod conflict;
+mod ends;
 mod marks;
 mod picture;
 mod waiting;

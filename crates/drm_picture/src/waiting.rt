@@ -3,7 +3,7 @@
 ghost use Rattle.std.specs.Option.{option_copied};
 ghost use Rattle.std.specs.Prelude.{◌≡◌, ◌++◌, filter_map, IfOk, OnOk};
 ghost use Rattle.drm_picture.specs.Bars.{bars_of};
-ghost use Rattle.drm_picture.specs.Waiting.{conflicts_at, holds_up, longer as longer_of, wait_for as wait_for_bar, wait_until, waiting_at, waiting_from, waiting_look as look_of_wait, waiting_of};
+ghost use Rattle.drm_picture.specs.Waiting.{conflicts_at, holds_up, longer as longer_of, wait_for as wait_for_bar, waiting_at, waiting_from, waiting_look as look_of_wait, waiting_of};
 ghost use Rattle.drm_picture.specs.declared.bars.Kind.TheVariants as kind;
 
 use crate::bars::{Bar, Kind, Lane, Look, Opening, armed_job, push_bar};
