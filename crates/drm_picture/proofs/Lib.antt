@@ -1,2 +1,4 @@
+pub mod Fences
+pub mod Latest
 pub mod Nexts
 pub mod Places

@@ -22,9 +22,9 @@ pub or_false : (a b : Bool) → (a || b) ≡ false → (a ≡ false) × (b ≡ f
 or_false true b h = cc
 or_false false b h = (refl, h)
 
-and_left : (a b : Bool) → (a && b) ≡ true → a ≡ true
-and_left true b h = refl
-and_left false b h = h
+pub left_true : (a b : Bool) → (a && b) ≡ true → a ≡ true
+left_true true b h = refl
+left_true false b h = h
 
 pub not_true : (b : Bool) → (b ≡ true → ⊥) → b ≡ false
 not_true true h = absurd (h refl)
@@ -83,11 +83,11 @@ over-only fence (answer.Reaped ended) is = ap Some (eqb-true ended fence is)
 over-only fence _ is = cc
 
 dropped-only : (buffer ctx : ℕ) (c : Command) → drops buffer ctx c ≡ true → ended_in_lock c ≡ Some buffer
-dropped-only buffer ctx (command.Drop by at) is = ap Some (eqb-true at buffer (and_left (at == buffer) (by == ctx) is))
+dropped-only buffer ctx (command.Drop by at) is = ap Some (eqb-true at buffer (left_true (at == buffer) (by == ctx) is))
 dropped-only buffer ctx _ is = cc
 
 unlocked-only : (lane : Lane) (number : ℕ) (step : Step) → unlocks_in lane number step ≡ true → ended_in_lock step.command ≡ Some (number_in lane number)
-unlocked-only (lane.Buffer buffer) number step is = dropped-only buffer number step.command (and_left (drops buffer number step.command) (granted step.answer) is)
+unlocked-only (lane.Buffer buffer) number step is = dropped-only buffer number step.command (left_true (drops buffer number step.command) (granted step.answer) is)
 unlocked-only _ number step is = cc
 
 -- a step ends only what has its number

@@ -4,4 +4,5 @@ pub mod Ends
 pub mod Marks
 pub mod Waits
 pub mod Waiting
+pub mod Latest
 pub mod Pictures

@@ -1,17 +1,20 @@
 //! Waiting: at which buffers a job waits, from where it is armed until the last fence that holds it up there has its outcome.
 
 ghost use Rattle.std.specs.Option.{option_copied};
-ghost use Rattle.std.specs.Prelude.{◌≡◌, ◌++◌, filter_map, IfOk, OnOk};
+ghost use Rattle.std.specs.List.{All};
+ghost use Rattle.std.specs.List.Sorted.{IsNonDecreasingBy};
+ghost use Rattle.std.specs.Prelude.{◌≡◌, ◌≤◌, ◌++◌, filter_map, max, if◌then◌else◌, IfOk, OnOk};
 ghost use Rattle.drm_picture.specs.Bars.{bars_of};
-ghost use Rattle.drm_picture.specs.Waiting.{conflicts_at, holds_up, longer as longer_of, wait_for as wait_for_bar, waiting_at, waiting_from, waiting_look as look_of_wait, waiting_of};
+ghost use Rattle.drm_picture.specs.Latest.{EndsIn, end_of, latest_end as latest_end_of, look_until as look_of_end, moment_until as moment_of_end, wait_to as wait_to_end};
+ghost use Rattle.drm_picture.specs.Waiting.{conflicts_at, holds_up, waiting_at, waiting_from, waiting_of};
 ghost use Rattle.drm_picture.specs.declared.bars.Kind.TheVariants as kind;
 
 use crate::bars::{Bar, Kind, Lane, Look, Opening, armed_job, push_bar};
 use crate::command::{Request, Step, run_before};
 use crate::conflict::is_conflict;
-use crate::waits::{is_open, job_of};
+use crate::waits::{armed_before, is_open, job_of};
 use drm_table::Answer;
-use drm_types::{Access, BufferId, FenceId};
+use drm_types::{Access, BufferId, FenceId, Moment};
 use std::alloc::{AllocError, Global};
 
 // Whether the earlier job conflicts with one that declares this buffer alone.
@@ -31,59 +34,79 @@ fn is_held_up(run: &[Step], place: usize, declared: &(BufferId, Access), bar: &B
     is_open(bar, place) && is_conflict_at(declared, job_of(run, bar))
 }
 
-// How a wait looks that ends with a fence's bar.
-fn waiting_look(look: Look) -> Look
-    ensures { result ≡ look_of_wait look }
+// The later of an end and that of the bar of a fence, if that one holds the job up.
+fn later_end(
+    run: &[Step],
+    place: usize,
+    declared: &(BufferId, Access),
+    bar: &Bar,
+    latest: usize,
+) -> usize
+    requires { EndsIn run.now bar.now }
+    ensures { result ≡ (if holds_up run.now place declared.now bar.now then max (end_of bar.now) latest else latest) }
 {
-    match look {
-        Look::Open => Look::Open,
-        _ => Look::Ended,
+    let end = bar.from + bar.span;
+    if latest < end && is_held_up(run, place, declared, bar) {
+        end
+    } else {
+        latest
     }
 }
 
-// The wait for the fence of a bar, if that one holds the job up.
-fn wait_for(
-    run: &[Step],
-    place: usize,
-    fence: FenceId,
-    declared: &(BufferId, Access),
-    bar: &Bar,
-) -> Option<Bar>
-    ensures { result ≡ wait_for_bar run.now place fence declared.now bar.now }
+// Where the last of the fences ends that hold up a job which is armed at this place and declares this buffer, or 0. The
+// search goes from the last fence on, and stops where none can end later.
+fn latest_end(run: &[Step], fences: &[Bar], place: usize, declared: &(BufferId, Access)) -> usize
+    requires { All (EndsIn run.now) fences.now }
+    ensures { result ≡ latest_end_of run.now place declared.now fences.now }
 {
-    if !is_held_up(run, place, declared, bar) {
-        return None;
+    let mut latest = 0;
+    for index in (0..fences.len()).rev() {
+        if latest == run.len() {
+            return latest;
+        }
+        latest = later_end(run, place, declared, &fences[index], latest);
     }
-    Some(Bar {
+    latest
+}
+
+// How a wait looks that ends at this place, or with the run.
+fn look_until(run: &[Step], end: usize) -> Look
+    ensures { result ≡ look_of_end run.now end }
+{
+    match run.get(end) {
+        Some(_) => Look::Ended,
+        None => Look::Open,
+    }
+}
+
+// The moment that is told at this place, if the run has it and one is told there.
+fn moment_until(run: &[Step], end: usize) -> Option<Moment>
+    ensures { result ≡ moment_of_end run.now end }
+{
+    match run.get(end) {
+        Some(step) => step.command.moment(),
+        None => None,
+    }
+}
+
+// The bar of a job that waits for a buffer from one place to another.
+fn wait_to(run: &[Step], place: usize, fence: FenceId, buffer: u32, end: usize) -> Bar
+    requires { place ≤ end }
+    ensures { result ≡ wait_to_end run.now place fence buffer end }
+{
+    Bar {
         kind: Kind::Waiting,
         opening: Opening {
-            lane: Lane::Buffer(declared.0.number()),
+            lane: Lane::Buffer(buffer),
             number: fence,
             skipped: false,
         },
         from: place,
-        span: bar.span - (place - bar.from),
-        look: waiting_look(bar.look),
+        span: end - place,
+        look: look_until(run, end),
         packets: 0,
         began: None,
-        ended: bar.ended,
-    })
-}
-
-// Of two waits from one place the longer, or the former where they end at once.
-fn longer(former: Option<Bar>, latter: Option<Bar>) -> Option<Bar>
-    ensures { result ≡ longer_of former latter }
-{
-    match (former, latter) {
-        (Some(first), Some(second)) => {
-            if first.span < second.span {
-                latter
-            } else {
-                former
-            }
-        }
-        (None, Some(_)) => latter,
-        _ => former,
+        ended: moment_until(run, end),
     }
 }
 
@@ -95,13 +118,15 @@ fn longest_wait(
     fence: FenceId,
     declared: &(BufferId, Access),
 ) -> Option<Bar>
+    requires { All (EndsIn run.now) fences.now }
     ensures { result ≡ waiting_at run.now fences.now place fence declared.now }
 {
-    let mut longest = None;
-    for bar in fences {
-        longest = longer(longest, wait_for(run, place, fence, declared, bar));
+    let end = latest_end(run, fences, place, declared);
+    if place < end {
+        Some(wait_to(run, place, fence, declared.0.number(), end))
+    } else {
+        None
     }
-    longest
 }
 
 // Adds the bar of a job at each of these buffers where it waits.
@@ -113,11 +138,30 @@ fn push_waiting(
     fence: FenceId,
     declared: &[(BufferId, Access)],
 ) -> Result<(), AllocError>
+    requires { All (EndsIn run.now) fences.now }
     ensures { OnOk result (bars.new.items ≡ bars.old.items ++ filter_map (waiting_at run.now fences.now place fence) declared.now) }
 {
     for declaration in declared {
         push_bar(bars, longest_wait(run, fences, place, fence, declaration))?;
     }
+    Ok(())
+}
+
+// The same, of fences of which only those that are armed before can hold the job up.
+fn push_waits(
+    bars: &mut Vec<Bar>,
+    run: &[Step],
+    fences: &[Bar],
+    place: usize,
+    fence: FenceId,
+    declared: &[(BufferId, Access)],
+) -> Result<(), AllocError>
+    requires ends { All (EndsIn run.now) fences.now }
+    requires rise { IsNonDecreasingBy (λ bar. bar.from) fences.now }
+    ensures { OnOk result (bars.new.items ≡ bars.old.items ++ filter_map (waiting_at run.now fences.now place fence) declared.now) }
+{
+    let before = armed_before(fences, place);
+    push_waiting(bars, run, before, place, fence, declared)?;
     Ok(())
 }
 
@@ -129,11 +173,13 @@ fn push_waiting_from(
     place: usize,
     step: &Step,
 ) -> Result<(), AllocError>
+    requires ends { All (EndsIn run.now) fences.now }
+    requires rise { IsNonDecreasingBy (λ bar. bar.from) fences.now }
     ensures { OnOk result (bars.new.items ≡ bars.old.items ++ waiting_from run.now fences.now (place, step.now)) }
 {
     match &step.answer {
         Answer::Armed { fence } => match armed_job(run_before(run, place), step) {
-            Some(job) => push_waiting(bars, run, fences, place, *fence, job.declared.as_slice()),
+            Some(job) => push_waits(bars, run, fences, place, *fence, job.declared.as_slice()),
             None => Ok(()),
         },
         _ => Ok(()),

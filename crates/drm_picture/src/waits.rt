@@ -1,8 +1,9 @@
 //! Waits: which earlier jobs a job waits for where it is armed.
 
-ghost use Rattle.std.specs.List.{cons_option, filter_map, list_any};
+ghost use Rattle.std.specs.List.{All, cons_option, filter_map, list_any};
 ghost use Rattle.std.specs.Option.{option_copied};
-ghost use Rattle.std.specs.Prelude.{◌≡◌, ◌==◌, ◌<◌, ◌++◌, [], length, IfOk, OnOk};
+ghost use Rattle.std.specs.List.Sorted.{IsNonDecreasingBy};
+ghost use Rattle.std.specs.Prelude.{◌≡◌, ◌==◌, ◌<◌, ◌≤◌, ◌++◌, ℕ, [], drop, length, take, IfOk, OnOk};
 ghost use Rattle.drm_picture.specs.Bars.{bars_of};
 ghost use Rattle.drm_picture.specs.Waits.{earlier_job, earlier_of, is_open_at, job_of as job_of_bar, last_of, last_of_each, waits_at, waits_of, waits_on};
 ghost use Rattle.drm_picture.specs.declared.bars.Kind.TheVariants as kind;
@@ -49,6 +50,14 @@ pub(crate) fn job_of<'a>(run: &'a [Step], bar: &Bar) -> Option<&'a Request>
         Some(step) => armed_job(run_before(run, bar.from), step),
         None => None,
     }
+}
+
+/// Those of these bars that begin before a place, as they stand in the order of their begin.
+pub(crate) fn armed_before(fences: &[Bar], place: usize) -> &[Bar]
+    requires { IsNonDecreasingBy (λ bar. bar.from) fences.now }
+    ensures { (before : ℕ) × (result.now ≡ take before fences.now) × All (λ bar. place ≤ bar.from) (drop before fences.now) }
+{
+    &fences[..fences.partition_point(|bar| bar.from < place)]
 }
 
 // The earlier job, if the later one comes after it.
