@@ -16,7 +16,7 @@ use Rattle.drm_picture.specs.declared.bars.Look.{Look}
 use Rattle.drm_picture.specs.declared.command.Step.{Step}
 use Rattle.drm_picture.proofs.Nexts.{left_true, not_true}
 
-right_true : (a b : Bool) → (a && b) ≡ true → b ≡ true
+pub right_true : (a b : Bool) → (a && b) ≡ true → b ≡ true
 right_true true b h = h
 right_true false b h = cc
 
@@ -24,7 +24,7 @@ either : (b : Bool) (x y : ℕ) → x ≡ y → cond b x y ≡ y
 either true x y same = same
 either false x y same = refl
 
-not_lt : (a b : ℕ) → b ≤ a → nat_lt a b ≡ false
+pub not_lt : (a b : ℕ) → b ≤ a → nat_lt a b ≡ false
 not_lt a b le = not_true (nat_lt a b) (λ e. let lt : a < b = ltb-true a b e in omega arith)
 
 -- none of the former fences ends later than the last of the latter

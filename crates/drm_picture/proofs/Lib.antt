@@ -1,4 +1,5 @@
 pub mod Fences
+pub mod Lasts
 pub mod Latest
 pub mod Nexts
 pub mod Places

@@ -90,7 +90,7 @@ found-by xs at false past =
 pub found_at : {X : Type 0} (p : X → Bool) (xs : List X) → slice_get xs (unwrap_or (position p xs) (length xs)) ≡ find p xs
 found_at p xs = found-by xs (position_or_len p xs) (nat_lt (position_or_len p xs) (length xs)) refl ∙ sym (find_at p xs)
 
-reverse-cons_option : {Y : Type 0} (ys : List Y) (found : Option Y) → reverse (ys ++ cons_option found []) ≡ cons_option found (reverse ys)
+pub reverse-cons_option : {Y : Type 0} (ys : List Y) (found : Option Y) → reverse (ys ++ cons_option found []) ≡ cons_option found (reverse ys)
 reverse-cons_option ys None = ap reverse (append-nil ys)
 reverse-cons_option ys (Some y) = reverse-append ys (y ∷ [])
 

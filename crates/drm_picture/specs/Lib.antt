@@ -5,4 +5,5 @@ pub mod Marks
 pub mod Waits
 pub mod Waiting
 pub mod Latest
+pub mod Lasts
 pub mod Pictures

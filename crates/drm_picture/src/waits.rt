@@ -1,11 +1,12 @@
 //! Waits: which earlier jobs a job waits for where it is armed.
 
-ghost use Rattle.std.specs.List.{All, cons_option, filter_map, list_any};
+ghost use Rattle.std.specs.List.{All, cons_option, filter_map, list_all, list_any};
 ghost use Rattle.std.specs.Option.{option_copied};
 ghost use Rattle.std.specs.List.Sorted.{IsNonDecreasingBy};
-ghost use Rattle.std.specs.Prelude.{◌≡◌, ◌==◌, ◌<◌, ◌≤◌, ◌++◌, ℕ, [], drop, length, take, IfOk, OnOk};
+ghost use Rattle.std.specs.Prelude.{◌≡◌, ◌==◌, ◌<◌, ◌≤◌, ◌++◌, ℕ, [], drop, length, reverse, take, true, Option, IfOk, OnOk};
 ghost use Rattle.drm_picture.specs.Bars.{bars_of};
-ghost use Rattle.drm_picture.specs.Waits.{earlier_job, earlier_of, is_open_at, job_of as job_of_bar, last_of, last_of_each, waits_at, waits_of, waits_on};
+ghost use Rattle.drm_picture.specs.Lasts.{any_of, is_listed as is_listed_of, unseen};
+ghost use Rattle.drm_picture.specs.Waits.{earlier_job, earlier_of, is_open_at, job_of as job_of_bar, last_of_each, waits_at, waits_of, waits_on};
 ghost use Rattle.drm_picture.specs.declared.bars.Kind.TheVariants as kind;
 
 use crate::bars::{Bar, armed_job};
@@ -90,74 +91,136 @@ fn earlier_at(run: &[Step], place: usize, later: &Request, bar: &Bar) -> Option<
     }
 }
 
-// The jobs that the later one comes after, of those whose fences have no outcome at this place.
-fn earlier_jobs(
-    alloc: Global,
-    run: &[Step],
-    fences: &[Bar],
-    place: usize,
-    later: &Request,
-) -> Result<Vec<Earlier>, AllocError>
-    ensures { IfOk result (λ jobs. jobs.items ≡ filter_map (earlier_of run.now place later.now) fences.now) }
-{
-    fences
-        .iter()
-        .filter_map(|bar| earlier_at(run, place, later, bar))
-        .collect(alloc)
-}
-
 // Whether one of these jobs is of the entity.
 fn is_any_of(entity: EntityId, jobs: &[Earlier]) -> bool
-    ensures { result ≡ list_any (λ other. other.entity == entity) jobs.now }
+    ensures { result ≡ any_of entity jobs.now }
 {
     jobs.iter().any(|other| other.entity == entity)
 }
 
-// The job at this place, if it is the last of its entity.
-fn last_at(jobs: &[Earlier], place: usize, job: Earlier) -> Option<Earlier>
-    requires { place < length jobs.now }
-    ensures { result ≡ last_of jobs.now (place, job) }
+// Whether each of these entities has one of the jobs.
+fn has_all(entities: &[EntityId], jobs: &[Earlier]) -> bool
+    ensures { result ≡ list_all (λ entity. any_of entity jobs.now) entities.now }
 {
-    if is_any_of(job.entity, &jobs[place + 1..]) {
-        None
-    } else {
-        Some(job)
+    entities.iter().all(|entity| is_any_of(*entity, jobs))
+}
+
+// Whether the entity is one of these.
+fn is_among(entity: EntityId, entities: &[EntityId]) -> bool
+    ensures { result ≡ list_any (λ other. other == entity) entities.now }
+{
+    entities.iter().any(|other| *other == entity)
+}
+
+// Whether the entity of a job, if there is one, is one of these.
+fn is_listed(entities: &[EntityId], job: Option<&Request>) -> bool
+    ensures { result ≡ is_listed_of entities.now (option_copied job.entry) }
+{
+    match job {
+        Some(request) => is_among(request.entity, entities),
+        None => true,
     }
 }
 
-// Adds a wait for the job, if there is one.
-fn push_wait(
-    waits: &mut Vec<Wait>,
-    fence: FenceId,
-    place: usize,
-    found: Option<Earlier>,
-) -> Result<(), AllocError>
-    ensures { OnOk result (waits.new.items ≡ waits.old.items ++ waits_on place fence (cons_option found [])) }
+// Adds the entity of a job, if there is one and its entity is not among these.
+fn push_entity(entities: &mut Vec<EntityId>, job: Option<&Request>) -> Result<(), AllocError>
+    ensures kept { OnOk result ((other : Option Request) → is_listed_of entities.old.items other ≡ true → is_listed_of entities.new.items other ≡ true) }
+    ensures listed { OnOk result (is_listed_of entities.new.items (option_copied job.entry) ≡ true) }
 {
-    match found {
-        Some(job) => {
-            waits.push(Wait {
-                fence,
-                earlier: job.fence,
-                place,
-            })?;
+    match job {
+        Some(request) => {
+            if !is_listed(entities, job) {
+                entities.push(request.entity)?;
+            }
             Ok(())
         }
         None => Ok(()),
     }
 }
 
-// Adds a wait for each of these jobs that is the last of its entity.
+// The entities of the jobs of these fences, each once.
+fn entities(alloc: Global, run: &[Step], fences: &[Bar]) -> Result<Vec<EntityId>, AllocError>
+    ensures { IfOk result (λ entities. All (λ bar. is_listed_of entities.items (job_of_bar run.now bar) ≡ true) fences.now) }
+{
+    let mut entities = Vec::new(alloc);
+    for bar in fences {
+        push_entity(&mut entities, job_of(run, bar))?;
+    }
+    Ok(entities)
+}
+
+// Adds the job, if there is one and none of its entity is among these.
+fn push_unseen(jobs: &mut Vec<Earlier>, found: Option<Earlier>) -> Result<(), AllocError>
+    ensures { OnOk result (jobs.new.items ≡ jobs.old.items ++ cons_option (unseen jobs.old.items found) []) }
+{
+    match found {
+        Some(job) => {
+            if !is_any_of(job.entity, jobs) {
+                jobs.push(job)?;
+            }
+            Ok(())
+        }
+        None => Ok(()),
+    }
+}
+
+// Of the jobs that the later one comes after, and whose fences have no outcome at this place, the last of each entity, the
+// last first. The search goes from the last fence on, and stops where each entity has one.
+fn lasts_from_end(
+    alloc: Global,
+    run: &[Step],
+    fences: &[Bar],
+    place: usize,
+    later: &Request,
+    entities: &[EntityId],
+) -> Result<Vec<Earlier>, AllocError>
+    requires { All (λ bar. is_listed_of entities.now (job_of_bar run.now bar) ≡ true) fences.now }
+    ensures { IfOk result (λ jobs. reverse jobs.items ≡ last_of_each (filter_map (earlier_of run.now place later.now) fences.now)) }
+{
+    let mut jobs = Vec::new(alloc);
+    for index in (0..fences.len()).rev() {
+        if entities.len() <= jobs.len() && has_all(entities, &jobs) {
+            return Ok(jobs);
+        }
+        push_unseen(&mut jobs, earlier_at(run, place, later, &fences[index]))?;
+    }
+    Ok(jobs)
+}
+
+// The same in their order, of fences of which only those that are armed before count.
+fn last_jobs(
+    alloc: Global,
+    run: &[Step],
+    fences: &[Bar],
+    place: usize,
+    later: &Request,
+    entities: &[EntityId],
+) -> Result<Vec<Earlier>, AllocError>
+    requires rise { IsNonDecreasingBy (λ bar. bar.from) fences.now }
+    requires listed { All (λ bar. is_listed_of entities.now (job_of_bar run.now bar) ≡ true) fences.now }
+    ensures { IfOk result (λ jobs. jobs.items ≡ last_of_each (filter_map (earlier_of run.now place later.now) fences.now)) }
+{
+    let before = armed_before(fences, place);
+    let mut jobs = lasts_from_end(alloc, run, before, place, later, entities)?;
+    jobs.reverse();
+    Ok(jobs)
+}
+
+// Adds a wait for each of these jobs.
 fn push_waits(
     waits: &mut Vec<Wait>,
     fence: FenceId,
     place: usize,
     jobs: &[Earlier],
 ) -> Result<(), AllocError>
-    ensures { OnOk result (waits.new.items ≡ waits.old.items ++ waits_on place fence (last_of_each jobs.now)) }
+    ensures { OnOk result (waits.new.items ≡ waits.old.items ++ waits_on place fence jobs.now) }
 {
-    for (index, job) in jobs.iter().enumerate() {
-        push_wait(waits, fence, place, last_at(jobs, index, *job))?;
+    for job in jobs {
+        waits.push(Wait {
+            fence,
+            earlier: job.fence,
+            place,
+        })?;
     }
     Ok(())
 }
@@ -169,9 +232,12 @@ fn push_waits_at(
     from: usize,
     run: &[Step],
     fences: &[Bar],
+    entities: &[EntityId],
     place: usize,
     step: &Step,
 ) -> Result<(), AllocError>
+    requires rise { IsNonDecreasingBy (λ bar. bar.from) fences.now }
+    requires listed { All (λ bar. is_listed_of entities.now (job_of_bar run.now bar) ≡ true) fences.now }
     ensures { OnOk result (waits.new.items ≡ waits.old.items ++ waits_at from run.now fences.now (place, step.now)) }
 {
     if place < from {
@@ -180,7 +246,7 @@ fn push_waits_at(
     match &step.answer {
         Answer::Armed { fence } => match armed_job(run_before(run, place), step) {
             Some(later) => {
-                let jobs = earlier_jobs(alloc, run, fences, place, later)?;
+                let jobs = last_jobs(alloc, run, fences, place, later, entities)?;
                 push_waits(waits, *fence, place, &jobs)
             }
             None => Ok(()),
@@ -199,9 +265,10 @@ pub(crate) fn waits(
     requires { fences.now ≡ bars_of kind.Fence from run.now }
     ensures { IfOk result (λ waits. waits.items ≡ waits_of from run.now) }
 {
+    let entities = entities(alloc, run, fences)?;
     let mut waits = Vec::new(alloc);
     for (place, step) in run.iter().enumerate() {
-        push_waits_at(alloc, &mut waits, from, run, fences, place, step)?;
+        push_waits_at(alloc, &mut waits, from, run, fences, &entities, place, step)?;
     }
     Ok(waits)
 }
