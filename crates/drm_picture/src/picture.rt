@@ -3,7 +3,7 @@
 ghost use Rattle.std.specs.Prelude.{◌≡◌, IfOk, take};
 ghost use Rattle.drm_picture.specs.Pictures.{IsPicture, part_of};
 
-use crate::bars::{Bar, Kind, bars};
+use crate::bars::{Bar, Kind, bars, entities};
 use crate::command::{Command, Step, commands, run_before};
 use crate::marks::{Mark, marks};
 use crate::waiting::waiting;
@@ -64,17 +64,18 @@ pub fn picture_of(
     ensures { IfOk result (λ picture. IsPicture shape from to steps.now picture) }
 {
     let run = run_before(steps, to);
-    let fences = bars(alloc, Kind::Fence, from, run)?;
+    let entities = entities(alloc, run)?;
+    let fences = bars(alloc, Kind::Fence, from, run, &entities)?;
     let waiting = waiting(alloc, from, run, &fences)?;
     let waits = waits(alloc, from, run, &fences)?;
     Ok(Picture {
         shape,
         first: from,
         columns: commands(alloc, part(steps, from, to))?,
-        jobs: bars(alloc, Kind::Job, from, run)?,
-        queued: bars(alloc, Kind::Queued, from, run)?,
-        stopped: bars(alloc, Kind::Stopped, from, run)?,
-        locks: bars(alloc, Kind::Lock, from, run)?,
+        jobs: bars(alloc, Kind::Job, from, run, &entities)?,
+        queued: bars(alloc, Kind::Queued, from, run, &entities)?,
+        stopped: bars(alloc, Kind::Stopped, from, run, &entities)?,
+        locks: bars(alloc, Kind::Lock, from, run, &entities)?,
         waiting,
         fences,
         marks: marks(alloc, from, run)?,
