@@ -552,7 +552,10 @@ pub(crate) fn bars(
     let mut bars = Vec::new(alloc);
     for place in (0..run.len()).rev() {
         let step = &run[place];
-        push_bar(&mut bars, bar_beyond(kind, from, run, entities, place, step, &next))?;
+        push_bar(
+            &mut bars,
+            bar_beyond(kind, from, run, entities, place, step, &next),
+        )?;
         note_end(&mut next, kind, place, step);
     }
     bars.reverse();

@@ -1,5 +1,5 @@
 -- The text of bars.
-use Rattle.std.specs.Prelude.{ℕ, Bool, List, [], ◌++◌, ◌+◌, ◌/◌, codes, decimal, flat_map, if◌then◌else◌, length, nat_le}
+use Rattle.std.specs.Prelude.{ℕ, Bool, List, [], Option, Some, None, ◌++◌, ◌+◌, ◌/◌, codes, decimal, flat_map, if◌then◌else◌, length, nat_le}
 use Rattle.drm_picture.specs.declared.bars.Bar.{Bar}
 use Rattle.drm_picture.specs.declared.bars.Look.{Look}
 use Rattle.drm_picture.specs.declared.bars.Look.TheVariants as look
@@ -12,20 +12,29 @@ use Rattle.drm_svg.specs.declared.bars.TheConstants.{COLOUR, GROUP_END, HALT_HEI
 use Rattle.drm_svg.specs.declared.layout.Layout.{Layout}
 use Rattle.drm_svg.specs.declared.placing.Placed.{Placed}
 
--- the number of its fence or context, and the sign of its outcome
-abbrev pub label_of : Bar → List ℕ
-label_of bar = decimal bar.opening.number ++ sign_of_look bar.look
+abbrev pub entity_label : Option ℕ → List ℕ
+entity_label (Some entity) = codes "/" ++ decimal entity
+entity_label None = []
+
+-- the number of its fence or context, the entity if there is one to tell, and the sign of its outcome
+abbrev pub label_of : Option ℕ → Bar → List ℕ
+label_of entity bar = decimal bar.opening.number ++ entity_label entity ++ sign_of_look bar.look
 
 -- a label fits into so many columns, three characters to each
 abbrev pub fits : List ℕ → ℕ → Bool
 fits label width = nat_le ((length label + 2) / 3) width
 
--- the label of a bar, where it fits
-unfoldable pub label_text : Placed → List ℕ
-label_text bar =
-    if fits (label_of bar.bar) bar.width
-    then codes "<text x='" ++ decimal bar.left ++ codes "1' y='" ++ decimal bar.row ++ codes "7'>" ++ label_of bar.bar ++ codes "</text>"
-    else []
+-- a label at the place of a bar
+unfoldable pub text_at : Placed → List ℕ → List ℕ
+text_at bar label = codes "<text x='" ++ decimal bar.left ++ codes "1' y='" ++ decimal bar.row ++ codes "7'>" ++ label ++ codes "</text>"
+
+-- the label of a bar that tells no entity, where it fits
+abbrev pub short_label_text : Placed → List ℕ
+short_label_text bar = if fits (label_of None bar.bar) bar.width then text_at bar (label_of None bar.bar) else []
+
+-- the label of a bar: with the entity of a job on its ring where that fits
+abbrev pub label_text : Placed → List ℕ
+label_text bar = if fits (label_of bar.bar.entity bar.bar) bar.width then text_at bar (label_of bar.bar.entity bar.bar) else short_label_text bar
 
 -- a job that is to be skipped is hatched
 abbrev pub class_of : Bar → List ℕ

@@ -18,6 +18,11 @@ subject_text kind.Lock lane number = name_of lane ++ codes ": context " ++ decim
 subject_text kind.Fence lane number = name_of lane
 subject_text kind.Waiting lane number = name_of lane ++ codes ": fence " ++ decimal number
 
+-- whose job it is, of a job on its ring
+abbrev pub owner_text : Option ℕ → List ℕ
+owner_text (Some entity) = codes " of entity " ++ decimal entity
+owner_text None = []
+
 -- what the command does that begins it
 abbrev pub begins_of : Kind → List ℕ
 begins_of kind.Job = codes ", picked by command "
@@ -54,9 +59,9 @@ abbrev pub packets_text : Kind → ℕ → List ℕ
 packets_text kind.Job packets = PACKETS.now ++ decimal packets
 packets_text _ packets = []
 
--- what a bar tells: what it is of, the commands that begin and end it and their moments, and how it ended
+-- what a bar tells: what it is of, whose job it is, the commands that begin and end it and their moments, and how it ended
 unfoldable pub title_of : Bar → List ℕ
 title_of bar =
-    subject_text bar.kind bar.opening.lane bar.opening.number
+    subject_text bar.kind bar.opening.lane bar.opening.number ++ owner_text bar.entity
     ++ begins_of bar.kind ++ decimal bar.from ++ moment_text bar.began
     ++ last_text bar.kind bar ++ packets_text bar.kind bar.packets ++ codes " -> " ++ word_of_look bar.look

@@ -1,7 +1,7 @@
 //! The text of bars.
 
 ghost use Rattle.std.specs.Prelude.{◌≡◌, ◌++◌, IfOk, OnOk, flat_map};
-ghost use Rattle.drm_svg.specs.Bars.{bar_text, class_of, colour_text, fits, halt_place_text, halt_text, halts_text, label_of, label_text, line_of, place_text, title_text};
+ghost use Rattle.drm_svg.specs.Bars.{bar_text, class_of, colour_text, entity_label, fits, halt_place_text, halt_text, halts_text, label_of, label_text, line_of, place_text, short_label_text, text_at, title_text};
 
 use crate::escape::put_escaped;
 use crate::layout::Layout;
@@ -10,6 +10,7 @@ use crate::signs::{kind_class, look_sign, look_word};
 use crate::text::{put_number, put_text};
 use crate::titles::title;
 use drm_picture::{Bar, Look, Picture};
+use drm_types::EntityId;
 use std::alloc::{AllocError, Global};
 
 /// What a bar tells.
@@ -27,12 +28,26 @@ const HALT_HEIGHT: &str = "0' height='1'/></g>\n";
 /// The end of a bar.
 const GROUP_END: &str = "</g>\n";
 
-// The number of a bar and the sign of its outcome.
-fn label(alloc: Global, bar: &Bar) -> Result<Vec<u8>, AllocError>
-    ensures { IfOk result (λ label. label.items ≡ label_of bar.now) }
+// Puts the entity, if there is one.
+fn put_entity(out: &mut Vec<u8>, entity: Option<EntityId>) -> Result<(), AllocError>
+    ensures { OnOk result (out.new.items ≡ out.old.items ++ entity_label entity) }
+{
+    match entity {
+        Some(entity) => {
+            put_text(out, "/")?;
+            put_number(out, u64::from(entity))
+        }
+        None => Ok(()),
+    }
+}
+
+// The number of a bar, the entity if there is one to tell, and the sign of its outcome.
+fn label(alloc: Global, bar: &Bar, entity: Option<EntityId>) -> Result<Vec<u8>, AllocError>
+    ensures { IfOk result (λ label. label.items ≡ label_of entity bar.now) }
 {
     let mut label = Vec::new(alloc);
     put_number(&mut label, u64::from(bar.opening.number))?;
+    put_entity(&mut label, entity)?;
     put_text(&mut label, look_sign(bar.look))?;
     Ok(label)
 }
@@ -44,22 +59,42 @@ fn is_fitting(label: &[u8], width: usize) -> bool
     (label.len() + 2) / 3 <= width
 }
 
-// Puts the label of a bar on it, where it fits.
-#[tactic(auto, unfolding(crate::specs::Bars::label_text))]
-fn put_label(alloc: Global, out: &mut Vec<u8>, bar: &Placed) -> Result<(), AllocError>
-    ensures { OnOk result (out.new.items ≡ out.old.items ++ label_text bar.now) }
+// Puts a label at the place of a bar.
+#[tactic(auto, unfolding(crate::specs::Bars::text_at))]
+fn put_text_at(out: &mut Vec<u8>, bar: &Placed, label: &[u8]) -> Result<(), AllocError>
+    ensures { OnOk result (out.new.items ≡ out.old.items ++ text_at bar.now label.now) }
 {
-    let label = label(alloc, &bar.bar)?;
-    if !is_fitting(&label, bar.width) {
-        return Ok(());
-    }
     put_text(out, "<text x='")?;
     put_number(out, bar.left as u64)?;
     put_text(out, "1' y='")?;
     put_number(out, bar.row as u64)?;
     put_text(out, "7'>")?;
-    out.extend_from_slice(&label)?;
+    out.extend_from_slice(label)?;
     put_text(out, "</text>")
+}
+
+// Puts the label of a bar that tells no entity, where it fits.
+fn put_short_label(alloc: Global, out: &mut Vec<u8>, bar: &Placed) -> Result<(), AllocError>
+    ensures { OnOk result (out.new.items ≡ out.old.items ++ short_label_text bar.now) }
+{
+    let label = label(alloc, &bar.bar, None)?;
+    if is_fitting(&label, bar.width) {
+        put_text_at(out, bar, &label)
+    } else {
+        Ok(())
+    }
+}
+
+// Puts the label of a bar on it: with the entity of a job on its ring where that fits.
+fn put_label(alloc: Global, out: &mut Vec<u8>, bar: &Placed) -> Result<(), AllocError>
+    ensures { OnOk result (out.new.items ≡ out.old.items ++ label_text bar.now) }
+{
+    let label = label(alloc, &bar.bar, bar.bar.entity)?;
+    if is_fitting(&label, bar.width) {
+        put_text_at(out, bar, &label)
+    } else {
+        put_short_label(alloc, out, bar)
+    }
 }
 
 // The class of a bar whose job is to be skipped, on top of the one that shows its outcome.

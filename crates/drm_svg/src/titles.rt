@@ -2,12 +2,12 @@
 
 ghost use Rattle.std.specs.Prelude.{◌≡◌, ◌++◌, IfOk, OnOk, decimal};
 ghost use Rattle.drm_svg.specs.Signs.{name_of};
-ghost use Rattle.drm_svg.specs.Titles.{begins_of, end_text, ends_of, last_text, moment_text, packets_text, subject_text, title_of};
+ghost use Rattle.drm_svg.specs.Titles.{begins_of, end_text, ends_of, last_text, moment_text, owner_text, packets_text, subject_text, title_of};
 
 use crate::signs::look_word;
 use crate::text::{put_later, put_name, put_number, put_text};
 use drm_picture::{Bar, Kind, Lane, Look};
-use drm_types::Moment;
+use drm_types::{EntityId, Moment};
 use std::alloc::{AllocError, Global};
 
 /// How many packets ran.
@@ -33,6 +33,19 @@ fn put_subject(out: &mut Vec<u8>, kind: Kind, lane: Lane, number: u32) -> Result
         Kind::Lock => put_numbered(out, lane, ": context ", number),
         Kind::Fence => put_name(out, lane),
         Kind::Waiting => put_numbered(out, lane, ": fence ", number),
+    }
+}
+
+// Puts whose job it is, of a job on its ring.
+fn put_owner(out: &mut Vec<u8>, entity: Option<EntityId>) -> Result<(), AllocError>
+    ensures { OnOk result (out.new.items ≡ out.old.items ++ owner_text entity) }
+{
+    match entity {
+        Some(entity) => {
+            put_text(out, " of entity ")?;
+            put_number(out, u64::from(entity))
+        }
+        None => Ok(()),
     }
 }
 
@@ -120,6 +133,7 @@ pub(crate) fn title(alloc: Global, bar: &Bar) -> Result<Vec<u8>, AllocError>
 {
     let mut text = Vec::new(alloc);
     put_subject(&mut text, bar.kind, bar.opening.lane, bar.opening.number)?;
+    put_owner(&mut text, bar.entity)?;
     put_text(&mut text, begins(bar.kind))?;
     put_number(&mut text, bar.from as u64)?;
     put_moment(&mut text, bar.began)?;

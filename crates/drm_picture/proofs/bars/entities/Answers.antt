@@ -1,4 +1,4 @@
-use Rattle.std.proofs.Common.{◌≡◌, ◌∙◌, ◌++◌, [], List, Option, ℕ, ap, arith}
+use Rattle.std.proofs.Common.{◌∙◌, ◌++◌, [], List, Option, ℕ, ap, arith}
 use Rattle.std.specs.List.{cons_option}
 use Rattle.drm_picture.specs.Bars.{armed_job, entity_at, entity_by}
 use Rattle.drm_picture.specs.declared.command.Step.{Step}
