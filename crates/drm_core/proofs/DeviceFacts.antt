@@ -11,9 +11,7 @@ use Rattle.std.specs.Option.{option_map_or}
 use Rattle.std.proofs.lemmas.List.{length-set}
 use Rattle.drm_table.specs.Journal.{changed_at, is_at, is_complete}
 use Rattle.drm_table.specs.Outcomes.{at_record}
-use Rattle.std.proofs.lemmas.Bool.{leb-true, le-leb, not-true}
-use Rattle.drm_types.specs.declared.access.Usage.{Usage}
-use Rattle.drm_types.specs.Usages.{place_of, is_as_strong}
+use Rattle.std.proofs.lemmas.Bool.{not-true}
 use Rattle.drm_fence.specs.declared.phase.Phase.{Phase}
 use Rattle.drm_fence.specs.declared.phase.Phase.TheVariants.{Queued, Scheduled, Ended}
 use Rattle.drm_table.specs.Grows.{GoesOn, RecordGrows, EntityGrows, EachInPlace, Grows}

@@ -2,7 +2,7 @@
 use Rattle.std.proofs.Common.{◌≡◌, ℕ, suc, List, [], ◌∷◌, length, Some, refl, sym, ap, ◌∙◌, arith, slice_get, Bool, true, false, ◌||◌, inl, inr, zero, cond, None, ◌+◌, ◌++◌, map, replicate, ◌<◌, take, set, ◌≢◌, subst, ◌⊎◌, get_or}
 use Rattle.std.specs.List.{list_any, enumerate_from, list_all}
 use Rattle.std.proofs.lemmas.Bool.{cases_Bool, and_parts, cases_eq}
-use Rattle.std.specs.Prelude.{find, Contains, filter}
+use Rattle.std.specs.Prelude.{find, Contains}
 use Rattle.drm_types.specs.Firsts.{when}
 use Rattle.std.proofs.lemmas.Option.{slice_get_within, get_or_from_slice_get, slice_get-get_or}
 use Rattle.std.specs.Option.{option_map_or}

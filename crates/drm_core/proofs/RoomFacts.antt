@@ -1,12 +1,7 @@
 -- Taking room in reservations: each stays as it was, and none has less room.
 use Rattle.std.proofs.Common.{◌≡◌, Bool, ℕ, zero, suc, ◌+◌, ◌<◌, List, [], ◌∷◌, drop, take, length, get_or, set, Some, refl, drop-cons, add-one, sym, ap, subst, ◌∙◌, inl, inr, arith, slice_get}
-use Rattle.std.specs.Option.{option_map_or}
 use Rattle.drm_types.specs.declared.access.Access.{Access}
-use Rattle.drm_types.specs.declared.access.Usage.{Usage}
-use Rattle.drm_types.specs.Usages.{wanted_usage}
 use Rattle.drm_job.specs.declared.Draft.{Draft}
-use Rattle.drm_resv.specs.Entries.{entries_of}
-use Rattle.drm_resv.specs.Noting.{all_noted}
 use Rattle.drm_core.proofs.Lists.{at_index}
 use Rattle.drm_core.proofs.Lists.{get_take}
 use Rattle.std.specs.Prelude.{IsTrue}
