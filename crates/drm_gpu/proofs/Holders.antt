@@ -1,5 +1,5 @@
 -- What a caller that holds values knows goes on to hold.
-use Rattle.std.proofs.Common.{◌≡◌, ◌<◌, ℕ, length, slice_index_or, arith, List, [], ◌∷◌, ◌++◌, map, refl, sym, ap, ◌∙◌, subst, ⊎_elim, inl, inr, false, Some, None}
+use Rattle.std.proofs.Common.{◌≡◌, ◌<◌, ℕ, length, slice_index_or, arith, List, [], ◌∷◌, ◌++◌, map, refl, sym, ap, ◌∙◌, subst, ⊎_elim, inl, inr, false}
 use Rattle.std.specs.Prelude.{Bool, true, not, ◌&&◌, ◌==◌, if◌then◌else◌}
 use Rattle.ww_lock.specs.Acquiring.{HoldsInside, HoldsOutside, IsAsOwed, view}
 use Rattle.ww_lock.specs.Held.{IsSameKeys, IsApart, HasAt}

@@ -1,5 +1,5 @@
 -- The states of a submission.
-use Rattle.std.specs.Prelude.{◌≡◌, ◌≢◌, ◌<◌, ◌≤◌, ℕ, false, List, [], ◌∷◌, ◌++◌, Some, None, Result, Ok, Err, length}
+use Rattle.std.specs.Prelude.{◌≡◌, ◌≢◌, ◌<◌, ℕ, false, List, [], ◌∷◌, ◌++◌, Some, None, Result, Ok, Err, length}
 use Rattle.atomic_table.specs.Seated.{TableId}
 use Rattle.ww_lock.specs.declared.acquire.Acquire.{Acquire}
 use Rattle.ww_lock.specs.declared.locks.TryLockError.{TryLockError}
