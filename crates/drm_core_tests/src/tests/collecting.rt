@@ -20,11 +20,7 @@ const READS_AND_WRITES: Job = Job(
 );
 
 /// A reservation with these uses, none of which has an outcome.
-fn used(
-    alloc: Global,
-    device: &Device,
-    uses: &[(FenceId, EntityId, Usage)],
-) -> Option<Resv> {
+fn used(alloc: Global, device: &Device, uses: &[(FenceId, EntityId, Usage)]) -> Option<Resv> {
     let mut resv = Resv::new(alloc);
     for (fence, entity, usage) in uses {
         if *entity >= 64 {
