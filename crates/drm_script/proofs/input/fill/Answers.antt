@@ -8,3 +8,6 @@ reads-preserved g c = first_of (search (rules, reads_more), search (rules, reads
 
 pub returns-in_err-count-clause-err : goal.returns-in_err-count-clause-err
 returns-in_err-count-clause-err g c = first_of (search (rules, reads_failed), grind (arith, common_steps, reads_failed))
+
+pub read_more-requires-clause-few : goal.read_more-requires-clause-few
+read_more-requires-clause-few g c = search rules
