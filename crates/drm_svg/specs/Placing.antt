@@ -4,6 +4,7 @@ use Rattle.drm_picture.specs.declared.bars.Bar.{Bar}
 use Rattle.drm_picture.specs.declared.bars.Lane.{Lane}
 use Rattle.drm_picture.specs.declared.picture.Picture.{Picture}
 use Rattle.drm_svg.specs.declared.placing.Placed.{Placed}
+use Rattle.drm_svg.specs.declared.placing.Taken.{Taken}
 use Rattle.drm_svg.specs.Layout.{AreApart, EachRowAboveIsTaken, end_of, is_in, left_of, placed_at, width_of}
 
 -- this row ends here now, and each other where it ended
@@ -29,6 +30,12 @@ PlacesBar picture first bar ends ends' bars bars' = (row : ℕ) × PlacesAt pict
 pub record PlacesIn (picture : Picture) (lane : Lane) (first : ℕ) (bar : Bar) (ends ends' : List ℕ) (bars bars' : List Placed) : Type 0 where
   pub inside : is_in lane bar ≡ true → PlacesBar picture first bar ends ends' bars bars'
   pub outside : is_in lane bar ≡ false → (ends' ≡ ends) × (bars' ≡ bars)
+
+-- the rows from the first on to before this one are taken up to this column
+pub record AreTaken (first : ℕ) (ends : List ℕ) (taken : Taken) : Type 0 where
+  pub behind : first ≤ taken.below
+  pub within : taken.below ≤ length ends
+  pub until : (row : ℕ) → first ≤ row → row < taken.below → taken.until ≤ slice_index ends row
 
 -- bars in the rows from the first on, which end there
 pub record AreRowed (first : ℕ) (bars : List Placed) (ends : List ℕ) : Type 0 where

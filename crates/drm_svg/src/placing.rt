@@ -1,8 +1,8 @@
 //! The rows of one lane: each bar in the first that is free where it begins.
 
-ghost use Rattle.std.specs.Prelude.{◌≡◌, ℕ, ◌+◌, ◌-◌, ◌++◌, ◌<◌, ◌≤◌, ◌^◌, OnOk, IfOk, length, slice_index};
+ghost use Rattle.std.specs.Prelude.{◌≡◌, ℕ, ◌+◌, ◌-◌, ◌++◌, ◌<◌, ◌≤◌, ◌^◌, OnOk, IfOk, length, min, slice_index};
 ghost use Rattle.drm_svg.specs.Layout.{bars_of_kind, left_of, placed_at, same_lane, width_of};
-ghost use Rattle.drm_svg.specs.Placing.{ArePlaced, PlacesBar, PlacesIn, TakesRow};
+ghost use Rattle.drm_svg.specs.Placing.{ArePlaced, AreTaken, PlacesBar, PlacesIn, TakesRow};
 
 use drm_picture::{Bar, Lane, Picture};
 use std::alloc::{AllocError, Global};
@@ -17,6 +17,15 @@ pub struct Placed {
     pub width: usize,
     /// Its row, counted from the top of the picture.
     pub row: usize,
+}
+
+// Rows of a lane, from its first on, of which none is free before a column.
+#[derive(Clone, Copy)]
+struct Taken {
+    // The row below them.
+    below: usize,
+    // That column.
+    until: usize,
 }
 
 // Whether two lanes are the same.
@@ -73,20 +82,43 @@ pub(crate) fn bar_in_row(picture: &Picture, row: usize, bar: &Bar) -> Placed
     }
 }
 
-// The first row from one on that is free from a column on, or the row below the last.
-fn first_free(ends: &[usize], first: usize, left: usize) -> usize
-    requires { first ≤ length ends.now }
-    ensures behind { first ≤ result }
-    ensures within { result ≤ length ends.now }
-    ensures taken { (row : ℕ) → first ≤ row → row < result → left < slice_index ends.now row }
-    ensures free { result < length ends.now → slice_index ends.now result ≤ left }
+// The rows of a lane that are known to be taken from its first on, where a bar begins.
+fn known_at(ends: &[usize], first: usize, taken: Taken, left: usize) -> Taken
+    requires { AreTaken first ends.now taken }
+    ensures taken { AreTaken first ends.now result }
+    ensures above { (row : ℕ) → first ≤ row → row < result.below → left < slice_index ends.now row }
 {
-    for row in first..ends.len() {
-        if ends[row] <= left {
-            return row;
+    if left < taken.until {
+        taken
+    } else {
+        Taken {
+            below: first,
+            until: usize::MAX,
         }
     }
-    ends.len()
+}
+
+// All rows of a lane that are taken from its first on, where a bar begins. Below them is the first row that is free, or
+// the row below the last.
+fn taken_at(ends: &[usize], first: usize, taken: Taken, left: usize) -> Taken
+    requires { AreTaken first ends.now taken }
+    ensures taken { AreTaken first ends.now result }
+    ensures above { (row : ℕ) → first ≤ row → row < result.below → left < slice_index ends.now row }
+    ensures free { result.below < length ends.now → slice_index ends.now result.below ≤ left }
+{
+    let known = known_at(ends, first, taken, left);
+    let mut until = known.until;
+    for row in known.below..ends.len() {
+        let end = ends[row];
+        if end <= left {
+            return Taken { below: row, until };
+        }
+        until = until.min(end);
+    }
+    Taken {
+        below: ends.len(),
+        until,
+    }
 }
 
 // Notes where a row ends now.
@@ -102,21 +134,35 @@ fn take_row(ends: &mut Vec<usize>, row: usize, end: usize) -> Result<(), AllocEr
     Ok(())
 }
 
+// The rows that are taken, with the one below them, in which a bar is now that ends here.
+fn with_row(taken: Taken, end: usize) -> Taken
+    requires { taken.below + 1 < 2 ^ 64 }
+    ensures { result ≡ record { below = taken.below + 1; until = min taken.until end } }
+{
+    Taken {
+        below: taken.below + 1,
+        until: taken.until.min(end),
+    }
+}
+
 // Puts a bar into the first row that is free where it begins.
 fn place_bar(
     picture: &Picture,
     first: usize,
     bar: &Bar,
     ends: &mut Vec<usize>,
+    taken: &mut Taken,
     bars: &mut Vec<Placed>,
 ) -> Result<(), AllocError>
-    requires { first ≤ length ends.old.items }
-    ensures { OnOk result (PlacesBar picture.now first bar.now ends.old.items ends.new.items bars.old.items bars.new.items) }
+    requires { AreTaken first ends.old.items taken.old }
+    ensures placed { OnOk result (PlacesBar picture.now first bar.now ends.old.items ends.new.items bars.old.items bars.new.items) }
+    ensures taken { OnOk result (AreTaken first ends.new.items taken.new) }
 {
-    let row = first_free(ends, first, left(picture, bar));
+    let above = taken_at(ends, first, *taken, left(picture, bar));
     let end = left(picture, bar) + width(picture, bar);
-    take_row(ends, row, end)?;
-    bars.push(bar_in_row(picture, row, bar))?;
+    take_row(ends, above.below, end)?;
+    bars.push(bar_in_row(picture, above.below, bar))?;
+    *taken = with_row(above, end);
     Ok(())
 }
 
@@ -127,13 +173,15 @@ fn place_in(
     first: usize,
     bar: &Bar,
     ends: &mut Vec<usize>,
+    taken: &mut Taken,
     bars: &mut Vec<Placed>,
 ) -> Result<(), AllocError>
-    requires { first ≤ length ends.old.items }
-    ensures { OnOk result (PlacesIn picture.now lane first bar.now ends.old.items ends.new.items bars.old.items bars.new.items) }
+    requires { AreTaken first ends.old.items taken.old }
+    ensures placed { OnOk result (PlacesIn picture.now lane first bar.now ends.old.items ends.new.items bars.old.items bars.new.items) }
+    ensures taken { OnOk result (AreTaken first ends.new.items taken.new) }
 {
     if is_same(bar.opening.lane, lane) {
-        return place_bar(picture, first, bar, ends, bars);
+        return place_bar(picture, first, bar, ends, taken, bars);
     }
     Ok(())
 }
@@ -149,12 +197,16 @@ pub(crate) fn place_bars(
 {
     let first = ends.len();
     let (all, more) = bars_for(picture, lane);
+    let mut taken = Taken {
+        below: first,
+        until: usize::MAX,
+    };
     let mut bars = Vec::new(alloc);
     for bar in all {
-        place_in(picture, lane, first, bar, ends, &mut bars)?;
+        place_in(picture, lane, first, bar, ends, &mut taken, &mut bars)?;
     }
     for next in more {
-        place_in(picture, lane, first, next, ends, &mut bars)?;
+        place_in(picture, lane, first, next, ends, &mut taken, &mut bars)?;
     }
     Ok(bars)
 }
