@@ -1,5 +1,7 @@
 ghost use Rattle.std.specs.Prelude.{◌≡◌, ℕ, ◌<◌, ◌≤◌, length, map, Some, None, Option, find, IsTrue, OnOk, slice_get};
 ghost use Rattle.std.specs.List.{list_all};
+ghost use Rattle.drm_types.specs.declared.spec.DeviceSpec.{DeviceSpec};
+ghost use Rattle.drm_job.specs.Fault.{IsJob};
 ghost use Rattle.drm_fence.specs.Fences.{has_ended_at};
 ghost use Rattle.drm_table.specs.Collected.{IsCollected};
 ghost use Rattle.drm_core.specs.Planning.{is_held_in, holds_in, declared_kept, MoreRoom, HasRoomFor, AreRoomy, HaveUses};
@@ -90,13 +92,16 @@ pub(crate) fn reserve(
 // What the reservations of the buffers that a new job declares ask it to wait for.
 pub(crate) fn collect(reservations: &[Resv], job: &Job) -> Deps
     requires { (k : ℕ) (d : ℕ × Access) → slice_get job.now.declared k ≡ Some d → d.0 < length reservations.now }
-    ensures { IsCollected job.now (declared_kept reservations.now job.now.declared) result }
+    ensures { (spec : DeviceSpec) → IsJob spec job.now → IsCollected job.now (declared_kept reservations.now job.now.declared) result }
 {
     let mut deps = Deps::new();
     let declared = job.declared();
     for use_of in declared {
-        let resv = &reservations[use_of.0.number() as usize];
-        add_dependencies(resv, use_of.0, job, &mut deps);
+        add_dependencies(
+            &reservations[use_of.0.number() as usize],
+            use_of.1,
+            &mut deps,
+        );
     }
     deps
 }

@@ -53,7 +53,7 @@ finds_declared (e ∷ es) (suc k) d once at =
     ap (λ t. cond t (Some e) (find (λ (e : ℕ × Access). e.0 == d.0) es)) other ∙ finds_declared es k d (IsDistinct-tail nat_eq e.0 firsts once) at
 
 -- a job uses what it declares as it declares it
-declared_used : JobsAreTheSoundDrafts → (spec : DeviceSpec) (job : Draft) (k : ℕ) (d : ℕ × Access) → IsJob spec job → slice_get job.declared k ≡ Some d
+pub declared_used : JobsAreTheSoundDrafts → (spec : DeviceSpec) (job : Draft) (k : ℕ) (d : ℕ × Access) → IsJob spec job → slice_get job.declared k ≡ Some d
     → access_of job d.0 ≡ Some d.1
 declared_used sound spec job k d is at = ap (option_map (λ (d : ℕ × Access). d.1)) (finds_declared job.declared k d ((sound spec job).0 is).distinct at)
 

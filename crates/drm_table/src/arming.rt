@@ -148,7 +148,7 @@ impl Table {
 
     /// Arms the job (`drm_sched_job_arm` and `drm_sched_entity_push_job` in one), which nothing refuses: it gets
     /// the next number, its fence, and its place at the end of its entity's queue.
-    pub fn arm(&mut self, plan: Plan) -> FenceId
+    pub fn arm(&mut self, mut plan: Plan) -> FenceId
         requires job { IsJob self.old.spec plan.job }
         requires covers { DepsCover (state_of self.old) plan.job plan.deps }
         requires may { arm_refusal_of (state_of self.old) plan.job ≡ None }
@@ -159,16 +159,15 @@ impl Table {
         ensures out { self.new.memory.out ≡ self.old.memory.out }
         ensures waits { (deps : _) × (self.new.waits.lists ≡ self.old.waits.lists ++ deps ∷ []) }
     {
-        let Plan { job, mut deps } = plan;
-        note_named(&self.journal, job.after(), &mut deps);
-        let entity = job.entity();
+        note_named(&self.journal, plan.job.after(), &mut plan.deps);
+        let entity = plan.job.entity();
         let ring = self.arming_ring(entity);
         let number = self.journal.len() as u32;
         self.entities.push(entity, number);
         self.loads.add(ring, entity, number);
-        self.waits.push(&deps);
+        self.waits.push(&plan.deps);
         self.journal.push_reserved(JobRecord {
-            job,
+            job: plan.job,
             ring,
             phase: Phase::Queued,
             ran: 0,

@@ -1,12 +1,15 @@
-ghost use Rattle.std.specs.Prelude.{◌≡◌, ℕ, List, [], ◌∷◌, ◌++◌};
+ghost use Rattle.std.specs.Prelude.{◌≡◌, ℕ, List, [], ◌∷◌, ◌++◌, Contains};
+ghost use Rattle.drm_types.specs.declared.spec.DeviceSpec.{DeviceSpec};
+ghost use Rattle.drm_job.specs.declared.Draft.{Draft};
+ghost use Rattle.drm_job.specs.Fault.{IsJob};
 ghost use Rattle.drm_resv.specs.Reservation.{Reservation};
 ghost use Rattle.drm_table.specs.Held.{kept_of, HoldsAll};
 ghost use Rattle.drm_table.specs.Collected.{IsCollected, CoverWhereFit};
 
 use crate::laws::collected_covers;
-use drm_job::Job;
+use drm_job::{Job, jobs_are_the_sound_drafts};
 use drm_resv::{Deps, Resv};
-use drm_types::{BufferId, wanted};
+use drm_types::{Access, BufferId, wanted};
 
 /// A job and the fences that it waits for, collected from the reservations that its context holds (`drm_sched_job`
 /// between `drm_sched_job_init` and `drm_sched_job_arm`).
@@ -30,20 +33,33 @@ impl Plan {
         ensures covers { HoldsAll job (kept_of held.now) → CoverWhereFit job (kept_of held.now) result.deps }
     {
         collected_covers();
-        let mut deps = Deps::new();
+        let mut plan = Plan {
+            job,
+            deps: Deps::new(),
+        };
         for (buffer, resv) in held {
-            add_dependencies(resv, *buffer, &job, &mut deps);
+            add_held(resv, *buffer, &plan.job, &mut plan.deps);
         }
-        Plan { job, deps }
+        plan
     }
 }
 
-/// Adds what the reservation of a buffer asks a job to wait for, where the job uses it
-/// (`drm_sched_job_add_implicit_dependencies`), to what was collected from others before.
-pub fn add_dependencies(resv: &Resv, buffer: BufferId, job: &Job, deps: &mut Deps)
+// Adds what a reservation that is held asks the job to wait for, where the job uses its buffer.
+fn add_held(resv: &Resv, buffer: BufferId, job: &Job, deps: &mut Deps)
     ensures { (held : List (ℕ × Reservation)) → IsCollected job.now held deps.old → IsCollected job.now (held ++ (buffer, resv.now.kept) ∷ []) deps.new }
 {
     if let Some(access) = job.access_of(buffer) {
         resv.collect(wanted(access), deps);
     }
+}
+
+/// Adds what the reservation of a buffer asks a job to wait for that declares the buffer with this access
+/// (`drm_sched_job_add_implicit_dependencies`), to what was collected from others before.
+#[inline]
+pub fn add_dependencies(resv: &Resv, access: Access, deps: &mut Deps)
+    ensures { (spec : DeviceSpec) (job : Draft) (held : List (ℕ × Reservation)) (buffer : ℕ) → IsJob spec job → Contains job.declared (buffer, access)
+        → IsCollected job held deps.old → IsCollected job (held ++ (buffer, resv.now.kept) ∷ []) deps.new }
+{
+    jobs_are_the_sound_drafts();
+    resv.collect(wanted(access), deps);
 }

@@ -17,7 +17,7 @@ returns c =
     let job = c.args.job.now in
     let rs = t.reservations.items in
     let held = declared_kept rs job.declared in
-    let is : IsCollected job held c.collect.result = subst (λ rs. IsCollected job (declared_kept rs job.declared) c.collect.result) c.deref.ensures.value c.collect.ensures in
+    let is : IsCollected job held c.collect.result = subst (λ rs. IsCollected job (declared_kept rs job.declared) c.collect.result) c.deref.ensures.value (c.collect.ensures t.device.state.spec c.requires.job) in
     let below = declared_below c.jobs_are_the_sound_drafts.ensures t.device.state.spec job in
     (c.collected_covers.ensures job held c.collect.result (holds_declared rs job) is).in_each t.device.state c.requires.core.steady.device.lawful c.requires.job
     (fit_declared t.device.state.journal rs job.declared (λ k d at. resv_there t c.requires.core d.0 (below k d c.requires.job at)))
