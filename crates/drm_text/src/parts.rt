@@ -9,17 +9,34 @@ ghost use Rattle.drm_text.specs.Number.{has_one_form, number_up_to};
 use crate::number::next_value;
 use memchr::memchr;
 use std::marker::Model;
+use std::simd::prelude::*;
 
 /// The most bytes of a text.
 pub const MAX_TEXT: usize = 1_048_576;
 
-/// The place of the first such byte, or the length. A line can be long, words and their pieces are short.
-fn end_of(bytes: &[u8], separator: u8) -> usize
+/// How many bytes are looked at at once.
+const LANES: usize = 16;
+
+/// The place of the first such byte among the first sixteen, or sixteen.
+#[inline(always)]
+fn end_in_lanes(bytes: &[u8], separator: u8) -> usize
+    requires { 16 ≤ length bytes.now }
+    ensures { result ≡ position_or_len (λ b. b == separator) (take 16 bytes.now) }
+{
+    let lanes = u8x16::from_slice(bytes);
+    let found = lanes.simd_eq(u8x16::splat(separator)).to_bitmask();
+    if found == 0 {
+        LANES
+    } else {
+        found.trailing_zeros() as usize
+    }
+}
+
+/// The place of the first such byte, or the length, in fewer bytes than are looked at at once.
+#[inline]
+fn end_of_few(bytes: &[u8], separator: u8) -> usize
     ensures { result ≡ position_or_len (λ b. b == separator) bytes.now }
 {
-    if separator == b'\n' {
-        return end_of_line(bytes, separator);
-    }
     let mut end = 0;
     while end < bytes.len() && bytes[end] != separator {
         end += 1;
@@ -27,11 +44,26 @@ fn end_of(bytes: &[u8], separator: u8) -> usize
     end
 }
 
+/// The place of the first such byte, or the length, where it is not near.
 #[inline(never)]
-fn end_of_line(bytes: &[u8], separator: u8) -> usize
+fn end_of_many(bytes: &[u8], separator: u8) -> usize
     ensures { result ≡ position_or_len (λ b. b == separator) bytes.now }
 {
     memchr(separator, bytes).unwrap_or(bytes.len())
+}
+
+/// The place of the first such byte, or the length. Words and most lines are short.
+fn end_of(bytes: &[u8], separator: u8) -> usize
+    ensures { result ≡ position_or_len (λ b. b == separator) bytes.now }
+{
+    if bytes.len() < LANES {
+        return end_of_few(bytes, separator);
+    }
+    let end = end_in_lanes(bytes, separator);
+    if end < LANES {
+        return end;
+    }
+    end_of_many(bytes, separator)
 }
 
 /// The number that a part spells whose digits have this value.
@@ -83,6 +115,7 @@ impl<'a> Model for Parts<'a> {
 
 impl<'a> Parts<'a> {
     /// All parts of these bytes, which the separator separates. Bytes without a separator are one part.
+    #[inline]
     pub fn new(bytes: &'a [u8], separator: u8) -> Parts<'a>
         requires { length bytes.now ≤ 1048576 }
         ensures { result ≡ cut_from separator bytes.now 0 }
@@ -95,6 +128,7 @@ impl<'a> Parts<'a> {
     }
 
     /// How many bytes lie before the next part, separators too.
+    #[inline]
     pub fn at(&self) -> u32
         ensures value { result ≡ self.now.at }
         ensures bound { result ≤ 1048577 }
@@ -103,6 +137,7 @@ impl<'a> Parts<'a> {
     }
 
     /// The next part, if one is left. It may be empty.
+    #[inline]
     pub fn next(&mut self) -> Option<&'a [u8]>
         ensures some { IfSome result (λ part. (self.old.parts ≡ part.now ∷ self.new.parts)
             × (self.new.at ≡ self.old.at + length part.now + 1) × (length part.now ≤ 1048576) × (self.new.at ≤ 1048577)) }
@@ -117,8 +152,10 @@ impl<'a> Parts<'a> {
         self.at += len + 1;
         Some(part)
     }
+
     /// The next part, if one is left, and the number of at most `most` that it spells, if it spells one. The part is
     /// cut and read in one go.
+    #[inline]
     pub fn next_number(&mut self, most: u64) -> Option<(&'a [u8], Option<u64>)>
         ensures some { IfSome result (λ read. (self.old.parts ≡ read.0.now ∷ self.new.parts)
             × (self.new.at ≡ self.old.at + length read.0.now + 1) × (length read.0.now ≤ 1048576) × (self.new.at ≤ 1048577)

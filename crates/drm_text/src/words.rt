@@ -2,12 +2,12 @@
 
 ghost use Rattle.std.specs.Prelude.{◌≡◌, ◌+◌, ◌≤◌, ◌<◌, ℕ, [], ◌∷◌, length, IfOk, IfSome, IfNone};
 ghost use Rattle.drm_text.specs.declared.fault.Fault.TheVariants.{Text};
+ghost use Rattle.drm_text.specs.declared.fault.TextFault.TheVariants as what;
 ghost use Rattle.drm_text.specs.Cut.{cut_from};
 ghost use Rattle.drm_text.specs.Reading.{Reads};
 ghost use Rattle.drm_text.specs.Words.{word_at, number_at, last_number_at, name_at, last_name_at, end_at, position_of, fault_here};
 
 use crate::fault::{Fault, Position, TextFault};
-use crate::number::read_number;
 use crate::parts::Parts;
 use std::marker::Model;
 
@@ -28,6 +28,7 @@ impl<'a> Model for Words<'a> {
 
 impl<'a> Words<'a> {
     /// The words of a line with this number.
+    #[inline]
     pub fn new(line: u32, bytes: &'a [u8]) -> Words<'a>
         requires { length bytes.now ≤ 1048576 }
         ensures { result ≡ record { line = line; rest = cut_from 32 bytes.now 0 } }
@@ -39,6 +40,7 @@ impl<'a> Words<'a> {
     }
 
     /// Where the next word begins.
+    #[inline]
     pub fn position(&self) -> Position
         ensures { result ≡ position_of self.now }
     {
@@ -49,6 +51,7 @@ impl<'a> Words<'a> {
     }
 
     /// The next word, if one is left. It may be empty.
+    #[inline]
     pub fn next(&mut self) -> Option<&'a [u8]>
         ensures some { IfSome result (λ word. (self.old.rest.parts ≡ word.now ∷ self.new.rest.parts)
             × (self.new.rest.at ≡ self.old.rest.at + length word.now + 1) × (self.new.line ≡ self.old.line) × (length word.now ≤ 1048576)) }
@@ -58,6 +61,7 @@ impl<'a> Words<'a> {
     }
 
     /// A fault of the next word.
+    #[inline]
     pub fn fault(&self, what: TextFault) -> Fault
         ensures { result ≡ fault_here self.now what }
     {
@@ -75,6 +79,17 @@ impl<'a> Words<'a> {
         }
     }
 
+    /// That a word is missing behind the last one, told at the column after the line's last byte.
+    fn missing(&self) -> Fault
+        ensures { result ≡ Text self.now.line self.now.rest.at what.Word }
+    {
+        Fault::Text {
+            line: self.line,
+            column: self.rest.at(),
+            what: TextFault::Word,
+        }
+    }
+
     /// The next word, which has to be there and may not be empty.
     #[tactic(auto, unfolding(crate::specs::Words::word_at))]
     pub fn word(&mut self) -> Result<&'a [u8], Fault>
@@ -83,28 +98,27 @@ impl<'a> Words<'a> {
         ensures bound { IfOk result (λ w. length w.now ≤ 1048576) }
     {
         let empty = self.fault(TextFault::Word);
-        let missing = self.rest.at();
         match self.rest.next() {
             Some([]) => Err(empty),
             Some(word) => Ok(word),
-            None => Err(Fault::Text {
-                line: self.line,
-                column: missing,
-                what: TextFault::Word,
-            }),
+            None => Err(self.missing()),
         }
     }
 
     /// A number of at most `most`.
-    #[tactic(auto, unfolding(crate::specs::Words::number_at))]
+    #[tactic(auto, unfolding(crate::specs::Words::number_at, crate::specs::Words::word_at))]
     pub fn number(&mut self, most: u64) -> Result<u64, Fault>
         ensures value { Reads (λ n. (n, self.new)) result (number_at most self.old) }
         ensures line { self.new.line ≡ self.old.line }
         ensures small { IfOk result (λ n. n ≤ most) }
     {
-        let fault = self.fault(TextFault::Number);
-        let word = self.word()?;
-        read_number(word, most).ok_or(fault)
+        let here = self.position();
+        match self.rest.next_number(most) {
+            Some((_, Some(number))) => Ok(number),
+            Some(([], None)) => Err(here.fault(TextFault::Word)),
+            Some((_, None)) => Err(here.fault(TextFault::Number)),
+            None => Err(self.missing()),
+        }
     }
 
     /// A number of at most `most`, which ends the line.

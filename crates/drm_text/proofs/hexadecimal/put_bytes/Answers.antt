@@ -1,5 +1,4 @@
-use Rattle.std.proofs.Common.{◌≡◌, ◌++◌, ℕ, List, append_assoc, sym, ap, ◌∙◌}
-use Rattle.drm_text.specs.Hexadecimal.{text_of_bytes}
+use Rattle.std.proofs.Common.{append_assoc}
 use Rattle.drm_text.proofs.Filled.{cut_text}
 use Rattle.drm_text.proofs.hexadecimal.put_bytes.Goals as goal
 
