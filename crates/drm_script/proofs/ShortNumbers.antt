@@ -18,8 +18,5 @@ written_short : (n : ℕ) → n < 100 → IsShort n (decimal n)
 written_short n small =
     decimal_by_steps IsShort (λ n lt. (λ _. refl, λ ten _. absurd (omega (arith, lt, ten)))) last_digit n (omega (arith, small))
 
-pub two_digits : (n : ℕ) → 10 ≤ n → n < 100 → decimal n ≡ decimal (n / 10) ++ decimal (n % 10)
-two_digits n ten small =
-    let tens : decimal (n / 10) ≡ (48 + n / 10) ∷ [] = one_digit (n / 10) (omega (arith, small)) in
-    let ones : decimal (n % 10) ≡ (48 + n % 10) ∷ [] = one_digit (n % 10) (omega arith) in
-    rw (tens, ones) ((written_short n small).1 ten small)
+pub two_digits : (n : ℕ) → 10 ≤ n → n < 100 → decimal n ≡ (48 + n / 10) ∷ (48 + n % 10) ∷ []
+two_digits n ten small = (written_short n small).1 ten small

@@ -9,32 +9,9 @@ use drm_text::put_bytes;
 use drm_types::Outcome;
 use std::alloc::{AllocError, Global};
 
-/// A number of one digit.
-#[inline]
-#[tactic(auto, using(crate::proofs::ShortNumbers::one_digit))]
-fn put_digit(out: &mut Vec<u8>, digit: u64) -> Result<(), AllocError>
-    requires { digit < 10 }
-    ensures { OnOk result (out.new.items ≡ out.old.items ++ decimal digit) }
-{
-    out.push(b'0' + digit as u8)?;
-    Ok(())
-}
-
-/// A number of two digits.
-#[inline]
-#[tactic(auto, using(crate::proofs::ShortNumbers::two_digits))]
-fn put_two_digits(out: &mut Vec<u8>, value: u64) -> Result<(), AllocError>
-    requires least { 10 ≤ value }
-    requires most { value < 100 }
-    ensures { OnOk result (out.new.items ≡ out.old.items ++ decimal value) }
-{
-    put_digit(out, value / 10)?;
-    put_digit(out, value % 10)
-}
-
-/// A number of any length. Its digits are put one by one.
+/// A number. Its digits are put one by one.
 #[inline(never)]
-fn put_digits(out: &mut Vec<u8>, value: u64) -> Result<(), AllocError>
+pub fn put_decimal(out: &mut Vec<u8>, value: u64) -> Result<(), AllocError>
     ensures { OnOk result (out.new.items ≡ out.old.items ++ decimal value) }
 {
     let mut buffer = itoa::Buffer::new();
@@ -45,18 +22,50 @@ fn put_digits(out: &mut Vec<u8>, value: u64) -> Result<(), AllocError>
     Ok(())
 }
 
-/// A number. Most have one or two digits.
+/// A separator, and a number of one digit.
+#[inline]
+#[tactic(auto, using(crate::proofs::ShortNumbers::one_digit))]
+fn put_digit(out: &mut Vec<u8>, separator: u8, value: u64) -> Result<(), AllocError>
+    requires { value < 10 }
+    ensures { OnOk result (out.new.items ≡ out.old.items ++ separator ∷ decimal value) }
+{
+    out.extend_from_slice(&[separator, b'0' + value as u8])
+}
+
+/// A separator, and a number of two digits.
+#[inline]
+#[tactic(auto, using(crate::proofs::ShortNumbers::two_digits))]
+fn put_two_digits(out: &mut Vec<u8>, separator: u8, value: u64) -> Result<(), AllocError>
+    requires least { 10 ≤ value }
+    requires most { value < 100 }
+    ensures { OnOk result (out.new.items ≡ out.old.items ++ separator ∷ decimal value) }
+{
+    let tens = b'0' + (value / 10) as u8;
+    let ones = b'0' + (value % 10) as u8;
+    out.extend_from_slice(&[separator, tens, ones])
+}
+
+/// A separator, and a number of any length.
 #[inline(never)]
-pub fn put_decimal(out: &mut Vec<u8>, value: u64) -> Result<(), AllocError>
-    ensures { OnOk result (out.new.items ≡ out.old.items ++ decimal value) }
+fn put_long(out: &mut Vec<u8>, separator: u8, value: u64) -> Result<(), AllocError>
+    ensures { OnOk result (out.new.items ≡ out.old.items ++ separator ∷ decimal value) }
+{
+    out.push(separator)?;
+    put_decimal(out, value)
+}
+
+/// A separator, and a number behind it. Most have one or two digits, which are put with one look at the room.
+#[inline]
+fn put_behind(out: &mut Vec<u8>, separator: u8, value: u64) -> Result<(), AllocError>
+    ensures { OnOk result (out.new.items ≡ out.old.items ++ separator ∷ decimal value) }
 {
     if value < 10 {
-        return put_digit(out, value);
+        return put_digit(out, separator, value);
     }
     if value < 100 {
-        return put_two_digits(out, value);
+        return put_two_digits(out, separator, value);
     }
-    put_digits(out, value)
+    put_long(out, separator, value)
 }
 
 /// A word, and numbers behind it, each after the separator. Where the word and the count of numbers are constants, as they
@@ -72,8 +81,7 @@ pub fn put_separated(
 {
     out.extend_from_slice(word)?;
     for value in values {
-        out.push(separator)?;
-        put_decimal(out, *value)?;
+        put_behind(out, separator, *value)?;
     }
     Ok(())
 }
