@@ -123,7 +123,7 @@ fn is_listed(entities: &[EntityId], job: Option<&Request>) -> bool
 }
 
 // Adds the entity of a job, if there is one and its entity is not among these.
-fn push_entity(entities: &mut Vec<EntityId>, job: Option<&Request>) -> Result<(), AllocError>
+fn push_distinct(entities: &mut Vec<EntityId>, job: Option<&Request>) -> Result<(), AllocError>
     ensures kept { OnOk result ((other : Option Request) → is_listed_of entities.old.items other ≡ true → is_listed_of entities.new.items other ≡ true) }
     ensures listed { OnOk result (is_listed_of entities.new.items (option_copied job.entry) ≡ true) }
 {
@@ -139,12 +139,16 @@ fn push_entity(entities: &mut Vec<EntityId>, job: Option<&Request>) -> Result<()
 }
 
 // The entities of the jobs of these fences, each once.
-fn entities(alloc: Global, run: &[Step], fences: &[Bar]) -> Result<Vec<EntityId>, AllocError>
+fn distinct_entities(
+    alloc: Global,
+    run: &[Step],
+    fences: &[Bar],
+) -> Result<Vec<EntityId>, AllocError>
     ensures { IfOk result (λ entities. All (λ bar. is_listed_of entities.items (job_of_bar run.now bar) ≡ true) fences.now) }
 {
     let mut entities = Vec::new(alloc);
     for bar in fences {
-        push_entity(&mut entities, job_of(run, bar))?;
+        push_distinct(&mut entities, job_of(run, bar))?;
     }
     Ok(entities)
 }
@@ -265,7 +269,7 @@ pub(crate) fn waits(
     requires { fences.now ≡ bars_of kind.Fence from run.now }
     ensures { IfOk result (λ waits. waits.items ≡ waits_of from run.now) }
 {
-    let entities = entities(alloc, run, fences)?;
+    let entities = distinct_entities(alloc, run, fences)?;
     let mut waits = Vec::new(alloc);
     for (place, step) in run.iter().enumerate() {
         push_waits_at(alloc, &mut waits, from, run, fences, &entities, place, step)?;

@@ -6,7 +6,7 @@ use Rattle.drm_picture.specs.Lasts.{is_listed}
 use Rattle.drm_picture.specs.Waits.{job_of}
 use Rattle.drm_picture.specs.declared.bars.Bar.{Bar}
 use Rattle.drm_picture.specs.declared.command.Request.{Request}
-use Rattle.drm_picture.proofs.waits.entities.Goals as goal
+use Rattle.drm_picture.proofs.waits.distinct_entities.Goals as goal
 
 pub loop-bar-preserved : goal.loop-bar-preserved
 loop-bar-preserved c =
@@ -14,9 +14,9 @@ loop-bar-preserved c =
     let fences = c.args.fences.now in
     let index = c.loop-bar.bar-index in
     let before = λ (bar : Bar). is_listed c.loop-bar.entities.items (job_of run bar) ≡ true in
-    let after = λ (bar : Bar). is_listed c.push_entity.new.entities.items (job_of run bar) ≡ true in
-    let kept : All after (take index fences) = All-weaker before after (λ bar. c.in_ok-push_entity.ensures.kept (job_of run bar)) (take index fences) c.loop-bar.invariant in
-    All-more after fences index _ (omega arith) kept (subst (λ (job : Option Request). is_listed c.push_entity.new.entities.items job ≡ true) c.job_of.ensures c.in_ok-push_entity.ensures.listed)
+    let after = λ (bar : Bar). is_listed c.push_distinct.new.entities.items (job_of run bar) ≡ true in
+    let kept : All after (take index fences) = All-weaker before after (λ bar. c.in_ok-push_distinct.ensures.kept (job_of run bar)) (take index fences) c.loop-bar.invariant in
+    All-more after fences index _ (omega arith) kept (subst (λ (job : Option Request). is_listed c.push_distinct.new.entities.items job ≡ true) c.job_of.ensures c.in_ok-push_distinct.ensures.listed)
 
 pub returns : goal.returns
 returns c =
