@@ -10,6 +10,7 @@ ghost use Rattle.drm_core.specs.Cores.{core_state, IsCore};
 use crate::cores::{ContextRow, CoreTable};
 use crate::planning;
 use drm_job::Draft;
+use drm_resv::Deps;
 use drm_sched::{Answer, Plan, Refusal};
 use drm_types::CtxId;
 
@@ -71,7 +72,8 @@ impl CoreTable {
         if self.make_room(&job).is_err() {
             return Answer::Refused(Refusal::Memory);
         }
-        let deps = self.collect(&job);
+        let mut deps = Deps::new();
+        self.collect(&job, &mut deps);
         set_plan(&mut self.contexts[ctx as usize], Plan { job, deps });
         Answer::Planned
     }
@@ -88,8 +90,8 @@ impl CoreTable {
             return Answer::Refused(refusal);
         }
         match take_plan(&mut self.contexts[ctx as usize]) {
-            Some(plan) => {
-                let fence = self.arm_job(plan);
+            Some(mut plan) => {
+                let fence = self.arm_job(plan.job, &mut plan.deps);
                 Answer::Armed { fence }
             }
             None => Answer::Refused(Refusal::NotPlanned),

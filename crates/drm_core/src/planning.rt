@@ -1,4 +1,4 @@
-ghost use Rattle.std.specs.Prelude.{◌≡◌, ℕ, ◌<◌, ◌≤◌, length, map, Some, None, Option, find, IsTrue, OnOk, slice_get};
+ghost use Rattle.std.specs.Prelude.{◌≡◌, ℕ, ◌<◌, ◌≤◌, [], length, map, Some, None, Option, find, IsTrue, OnOk, slice_get};
 ghost use Rattle.std.specs.List.{list_all};
 ghost use Rattle.drm_types.specs.declared.spec.DeviceSpec.{DeviceSpec};
 ghost use Rattle.drm_job.specs.Fault.{IsJob};
@@ -89,21 +89,16 @@ pub(crate) fn reserve(
     Ok(())
 }
 
-// What the reservations of the buffers that a new job declares ask it to wait for.
-pub(crate) fn collect(reservations: &[Resv], job: &Job) -> Deps
-    requires { (k : ℕ) (d : ℕ × Access) → slice_get job.now.declared k ≡ Some d → d.0 < length reservations.now }
-    ensures { (spec : DeviceSpec) → IsJob spec job.now → IsCollected job.now (declared_kept reservations.now job.now.declared) result }
+// What the reservations of the buffers that a new job declares ask it to wait for, in a list that is empty before.
+pub(crate) fn collect(reservations: &[Resv], job: &Job, deps: &mut Deps)
+    requires none { deps.old ≡ [] }
+    requires there { (k : ℕ) (d : ℕ × Access) → slice_get job.now.declared k ≡ Some d → d.0 < length reservations.now }
+    ensures { (spec : DeviceSpec) → IsJob spec job.now → IsCollected job.now (declared_kept reservations.now job.now.declared) deps.new }
 {
-    let mut deps = Deps::new();
     let declared = job.declared();
     for use_of in declared {
-        add_dependencies(
-            &reservations[use_of.0.number() as usize],
-            use_of.1,
-            &mut deps,
-        );
+        add_dependencies(&reservations[use_of.0.number() as usize], use_of.1, deps);
     }
-    deps
 }
 
 // The uses of a new job are added to the reservations of its buffers.

@@ -1,4 +1,4 @@
-ghost use Rattle.std.specs.Prelude.{◌≡◌, ℕ, length, Some, None, OnOk};
+ghost use Rattle.std.specs.Prelude.{◌≡◌, ℕ, [], length, Some, None, OnOk};
 ghost use Rattle.drm_core.specs.declared.event.Event.TheVariants as event;
 ghost use Rattle.drm_core.specs.Step.{Step};
 ghost use Rattle.drm_job.specs.Fault.{IsJob};
@@ -14,32 +14,27 @@ use crate::laws::device_laws;
 use crate::planning;
 use drm_job::{Draft, Job, jobs_are_the_sound_drafts};
 use drm_resv::Deps;
-use drm_sched::{Answer, Plan, Refusal, collected_covers};
+use drm_sched::{Answer, Refusal, collected_covers};
 use drm_types::FenceId;
 use std::alloc::AllocError;
 
 impl CoreTable {
     // Arms the job, and adds its uses to the reservations of its buffers.
-    pub(crate) fn arm_job(&mut self, plan: Plan) -> FenceId
-        requires job { IsJob self.old.device.state.spec plan.job }
-        requires covers { DepsCover self.old.device.state plan.job plan.deps }
-        requires may { arm_refusal self.old.device.state plan.job ≡ None }
-        requires roomy { AreRoomy plan.job self.old.reservations.items }
-        requires apart { (ctx : ℕ) (other : PlanOf) → planned_by self.old ctx ≡ Some other → ShareNoBuffer plan.job other.job }
+    pub(crate) fn arm_job(&mut self, job: Job, deps: &mut Deps) -> FenceId
+        requires job { IsJob self.old.device.state.spec job }
+        requires covers { DepsCover self.old.device.state job deps.old }
+        requires may { arm_refusal self.old.device.state job ≡ None }
+        requires roomy { AreRoomy job self.old.reservations.items }
+        requires apart { (ctx : ℕ) (other : PlanOf) → planned_by self.old ctx ≡ Some other → ShareNoBuffer job other.job }
         requires core { IsCore self.old }
         ensures number { result ≡ length self.old.device.state.journal }
-        ensures armed { core_state self.new ≡ armed_core (core_state self.old) plan.job }
+        ensures armed { core_state self.new ≡ armed_core (core_state self.old) job }
         ensures core { IsCore self.new }
     {
         device_laws();
         let fence = self.device.armed();
-        planning::add_uses(
-            &mut self.reservations,
-            &plan.job,
-            fence,
-            self.device.fences(),
-        );
-        self.device.arm_job(plan)
+        planning::add_uses(&mut self.reservations, &job, fence, self.device.fences());
+        self.device.arm_job(job, deps)
     }
 
     // Room in the reservations of all buffers that the job declares.
@@ -57,15 +52,16 @@ impl CoreTable {
         planning::reserve(&mut self.reservations, job.declared())
     }
 
-    // What the reservations of the job's buffers ask it to wait for.
-    pub(crate) fn collect(&self, job: &Job) -> Deps
+    // What the reservations of the job's buffers ask it to wait for, in a list that is empty before.
+    pub(crate) fn collect(&self, job: &Job, deps: &mut Deps)
+        requires none { deps.old ≡ [] }
         requires job { IsJob self.now.device.state.spec job.now }
         requires core { IsCore self.now }
-        ensures { DepsCover self.now.device.state job.now result }
+        ensures { DepsCover self.now.device.state job.now deps.new }
     {
         jobs_are_the_sound_drafts();
         collected_covers();
-        planning::collect(&self.reservations, job)
+        planning::collect(&self.reservations, job, deps);
     }
 
     // Why the device does not take the job: its entity is stopped, the device is full, or it names a fence not armed yet.
@@ -97,8 +93,9 @@ impl CoreTable {
         if let Some(refusal) = self.arm_refusal(&job) {
             return Answer::Refused(refusal);
         }
-        let deps = self.collect(&job);
-        let fence = self.arm_job(Plan { job, deps });
+        let mut deps = Deps::new();
+        self.collect(&job, &mut deps);
+        let fence = self.arm_job(job, &mut deps);
         Answer::Armed { fence }
     }
 }

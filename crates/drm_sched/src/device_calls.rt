@@ -9,7 +9,7 @@ ghost use Rattle.drm_table.specs.declared.answer.Answer.TheVariants as answer;
 ghost use Rattle.drm_table.specs.Answers.{picked, stepped, finished, timed_out};
 ghost use Rattle.drm_table.specs.Arming.{armed_device, load as load_of};
 ghost use Rattle.drm_table.specs.Building.{RefusesToBuild};
-ghost use Rattle.drm_table.specs.Plans.{DepsCover};
+ghost use Rattle.drm_table.specs.Plans.{DepsCover, all_named};
 ghost use Rattle.drm_table.specs.Grows.{Grows};
 ghost use Rattle.drm_table.specs.Lawful.{IsLawfulDevice};
 ghost use Rattle.drm_table.specs.Held.{HaveRoom, buffers_of, kept_of, armed_held, AllFit};
@@ -32,7 +32,7 @@ use crate::scheduler::Scheduler;
 use drm_buffer::Buffer;
 use drm_fence::Timeline;
 use drm_job::Job;
-use drm_resv::Resv;
+use drm_resv::{Deps, Resv};
 use drm_table::{
     ArmError, BuildError, CancelError, Closed, Expired, FinishError, Finished, Held, JobRecord,
     PickError, Picked, Plan, ReadError, ReapError, StepError, Stepped, Table, TimeoutError,
@@ -249,7 +249,7 @@ impl Device {
     ///
     /// The plan, given back, and why the device does not take the job: its entity is stopped, the device is full, or
     /// the job names a fence that is not armed yet.
-    pub fn arm(&mut self, plan: Plan, held: &mut Held) -> Result<FenceId, (Plan, ArmError)>
+    pub fn arm(&mut self, mut plan: Plan, held: &mut Held) -> Result<FenceId, (Plan, ArmError)>
         requires job { IsJob self.old.state.spec plan.job }
         requires covers { DepsCover self.old.state plan.job plan.deps }
         requires room { HaveRoom plan.job held.old.items }
@@ -269,7 +269,7 @@ impl Device {
         let fence = self.armed();
         let parts = &mut *self.parts;
         add_held_uses(held, &plan.job, fence, &parts.marked.table.fences);
-        Ok(parts.arm(plan))
+        Ok(parts.arm(plan.job, &mut plan.deps))
     }
 
     /// Why the device does not take the job: its entity is stopped, the device is full, or the job names a fence that is
@@ -280,20 +280,22 @@ impl Device {
         self.parts.marked.table.arm_refusal(job)
     }
 
-    /// Arms the job of a plan that nothing refuses, for an owner of reservations that adds its uses to them itself
-    /// (`add_use`, with the number that `armed` tells before).
-    pub fn arm_job(&mut self, plan: Plan) -> FenceId
-        requires job { IsJob self.old.state.spec plan.job }
-        requires covers { DepsCover self.old.state plan.job plan.deps }
-        requires may { arm_refusal self.old.state plan.job ≡ None }
+    /// Arms a job that nothing refuses, for an owner of reservations that adds its uses to them itself (`add_use`, with
+    /// the number that `armed` tells before). It waits for what was collected from them, which the fences that it names
+    /// join.
+    pub fn arm_job(&mut self, job: Job, deps: &mut Deps) -> FenceId
+        requires job { IsJob self.old.state.spec job }
+        requires covers { DepsCover self.old.state job deps.old }
+        requires may { arm_refusal self.old.state job ≡ None }
         ensures number { result ≡ length self.old.state.journal }
-        ensures armed { self.new.state ≡ armed_device self.old.state plan.job }
+        ensures armed { self.new.state ≡ armed_device self.old.state job }
+        ensures named { deps.new ≡ all_named self.old.state.journal deps.old job.after }
         ensures marks { self.new.marks ≡ self.old.marks }
         ensures lawful { IsLawfulDevice self.new.state }
         ensures grows { Grows self.old.state self.new.state }
-        ensures keeps { KeepsArmed plan.job result self.old.state self.new.state }
+        ensures keeps { KeepsArmed job result self.old.state self.new.state }
     {
-        self.parts.arm(plan)
+        self.parts.arm(job, deps)
     }
 
     /// Copies the buffer's bytes, for one who holds its reservation, once every armed job that writes it has ended

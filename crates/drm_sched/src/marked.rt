@@ -3,7 +3,7 @@ ghost use Rattle.drm_types.specs.Limits.{spec_fault};
 ghost use Rattle.drm_job.specs.Fault.{IsJob};
 ghost use Rattle.drm_table.specs.declared.answer.Answer.TheVariants as answer;
 ghost use Rattle.drm_table.specs.Arming.{armed_device};
-ghost use Rattle.drm_table.specs.Plans.{DepsCover};
+ghost use Rattle.drm_table.specs.Plans.{DepsCover, all_named};
 ghost use Rattle.drm_table.specs.State.{opened_device};
 ghost use Rattle.drm_table.specs.Answers.{picked, stepped, finished, timed_out};
 ghost use Rattle.drm_table.specs.Choice.{choice};
@@ -17,10 +17,12 @@ ghost use Rattle.drm_table.specs.Tables.{state_of, IsWhole};
 ghost use Rattle.drm_table.specs.Errors.{refusal_of_cancel, refusal_of_finish, refusal_of_pick, refusal_of_reap, refusal_of_step, refusal_of_timeout};
 
 use drm_buffer::Buffer;
+use drm_job::Job;
 use drm_packet::{Packet, packets_fit_their_parts};
+use drm_resv::Deps;
 use drm_table::{
-    CancelError, Expired, FinishError, Finished, PickError, Picked, Plan, ReapError, StepError,
-    Stepped, Table, TimeoutError, must_stall,
+    CancelError, Expired, FinishError, Finished, PickError, Picked, ReapError, StepError, Stepped,
+    Table, TimeoutError, must_stall,
 };
 use drm_types::{DeviceSpec, EntityId, FenceId, Moment, RingId};
 use std::alloc::{AllocError, Global};
@@ -257,19 +259,20 @@ impl MarkedTable {
         self.table.reap(entity)
     }
 
-    /// Arms the job of the plan.
-    pub(crate) fn arm(&mut self, plan: Plan) -> FenceId
-        requires job { IsJob self.old.table.spec plan.job }
-        requires covers { DepsCover (state_of self.old.table) plan.job plan.deps }
-        requires may { arm_refusal (state_of self.old.table) plan.job ≡ None }
+    /// Arms the job, which waits for these and for the fences that it names.
+    pub(crate) fn arm(&mut self, job: Job, deps: &mut Deps) -> FenceId
+        requires job { IsJob self.old.table.spec job }
+        requires covers { DepsCover (state_of self.old.table) job deps.old }
+        requires may { arm_refusal (state_of self.old.table) job ≡ None }
         requires whole { IsWholeMarked self.old }
         ensures number { result ≡ length self.old.table.journal.items }
-        ensures armed { state_of self.new.table ≡ armed_device (state_of self.old.table) plan.job }
+        ensures armed { state_of self.new.table ≡ armed_device (state_of self.old.table) job }
         ensures marks { self.new.marks ≡ self.old.marks }
-        ensures waits { (deps : _) × (self.new.table.waits.lists ≡ self.old.table.waits.lists ++ deps ∷ []) }
+        ensures waits { self.new.table.waits.lists ≡ self.old.table.waits.lists ++ deps.new ∷ [] }
+        ensures named { deps.new ≡ all_named self.old.table.journal.items deps.old job.after }
         ensures whole { IsWholeMarked self.new }
     {
-        self.table.arm(plan)
+        self.table.arm(job, deps)
     }
 
     /// The tables of a device on which no job was armed, and of which nothing is out.

@@ -8,7 +8,7 @@ ghost use Rattle.drm_sched.specs.Begun.{HasBegun, IsReport, HasReported, MayRun,
 ghost use Rattle.drm_sched.specs.Marks.{ring_out, is_in_way, unmarked};
 ghost use Rattle.drm_sched.specs.MarkedTables.{marked_of, IsWholeMarked};
 ghost use Rattle.drm_table.specs.Outcomes.{step_outcome, finish_outcome, timeout_outcome, pick_outcome, cancelled_device, reap_outcome};
-ghost use Rattle.drm_table.specs.Plans.{DepsCover};
+ghost use Rattle.drm_table.specs.Plans.{DepsCover, all_named};
 ghost use Rattle.drm_table.specs.Refusals.{step_refusal, finish_refusal, pick_refusal, cancel_refusal, reap_refusal, arm_refusal};
 ghost use Rattle.drm_sched.specs.Schedulers.{HasHeads};
 ghost use Rattle.drm_table.specs.State.{opened_device};
@@ -18,9 +18,11 @@ ghost use Rattle.drm_table.specs.Errors.{refusal_of_cancel, refusal_of_finish, r
 use crate::heads::Heads;
 use crate::marked::{Begun, MarkedTable};
 use drm_buffer::Buffer;
+use drm_job::Job;
+use drm_resv::Deps;
 use drm_table::{
-    CancelError, Expired, FinishError, Finished, PickError, Picked, Plan, ReapError, StepError,
-    Stepped, TimeoutError,
+    CancelError, Expired, FinishError, Finished, PickError, Picked, ReapError, StepError, Stepped,
+    TimeoutError,
 };
 use drm_types::{DeviceSpec, EntityId, FenceId, Moment, RingId};
 use std::alloc::{AllocError, Global};
@@ -177,26 +179,27 @@ impl Scheduler {
         }
     }
 
-    /// Arms the job of the plan.
-    pub(crate) fn arm(&mut self, plan: Plan) -> FenceId
-        requires job { IsJob self.old.marked.table.spec plan.job }
-        requires covers { DepsCover (state_of self.old.marked.table) plan.job plan.deps }
-        requires may { arm_refusal (state_of self.old.marked.table) plan.job ≡ None }
+    /// Arms the job, which waits for these and for the fences that it names.
+    pub(crate) fn arm(&mut self, job: Job, deps: &mut Deps) -> FenceId
+        requires job { IsJob self.old.marked.table.spec job }
+        requires covers { DepsCover (state_of self.old.marked.table) job deps.old }
+        requires may { arm_refusal (state_of self.old.marked.table) job ≡ None }
         requires whole { IsWholeMarked self.old.marked }
         requires heads { HasHeads self.old }
         ensures number { result ≡ length self.old.marked.table.journal.items }
-        ensures armed { state_of self.new.marked.table ≡ armed_device (state_of self.old.marked.table) plan.job }
+        ensures armed { state_of self.new.marked.table ≡ armed_device (state_of self.old.marked.table) job }
+        ensures named { deps.new ≡ all_named self.old.marked.table.journal.items deps.old job.after }
         ensures marks { self.new.marked.marks ≡ self.old.marked.marks }
         ensures whole { IsWholeMarked self.new.marked }
         ensures heads { HasHeads self.new }
     {
-        let entity = plan.job.entity();
+        let entity = job.entity();
         if self.marked.table.entities.is_empty(entity) {
-            let fence = self.marked.arm(plan);
+            let fence = self.marked.arm(job, deps);
             self.heads.place(&self.marked.table, entity);
             return fence;
         }
-        self.marked.arm(plan)
+        self.marked.arm(job, deps)
     }
 
     /// The tables and the heads of a device on which no job was armed, and of which nothing is out.

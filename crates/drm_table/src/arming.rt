@@ -8,7 +8,6 @@ ghost use Rattle.drm_table.specs.Errors.{refusal_of_arm};
 
 use crate::errors::ArmError;
 use crate::journal::JobRecord;
-use crate::plans::Plan;
 use crate::table::Table;
 use drm_fence::Phase;
 use drm_job::Job;
@@ -147,27 +146,29 @@ impl Table {
     }
 
     /// Arms the job (`drm_sched_job_arm` and `drm_sched_entity_push_job` in one), which nothing refuses: it gets
-    /// the next number, its fence, and its place at the end of its entity's queue.
-    pub fn arm(&mut self, mut plan: Plan) -> FenceId
-        requires job { IsJob self.old.spec plan.job }
-        requires covers { DepsCover (state_of self.old) plan.job plan.deps }
-        requires may { arm_refusal_of (state_of self.old) plan.job ≡ None }
+    /// the next number, its fence, and its place at the end of its entity's queue. The fences that it names join those
+    /// that it waits for.
+    pub fn arm(&mut self, job: Job, deps: &mut Deps) -> FenceId
+        requires job { IsJob self.old.spec job }
+        requires covers { DepsCover (state_of self.old) job deps.old }
+        requires may { arm_refusal_of (state_of self.old) job ≡ None }
         requires whole { IsWhole self.old }
         ensures number { result ≡ length self.old.journal.items }
-        ensures armed { state_of self.new ≡ armed_device (state_of self.old) plan.job }
+        ensures armed { state_of self.new ≡ armed_device (state_of self.old) job }
         ensures whole { IsWhole self.new }
         ensures out { self.new.memory.out ≡ self.old.memory.out }
-        ensures waits { (deps : _) × (self.new.waits.lists ≡ self.old.waits.lists ++ deps ∷ []) }
+        ensures waits { self.new.waits.lists ≡ self.old.waits.lists ++ deps.new ∷ [] }
+        ensures named { deps.new ≡ all_named self.old.journal.items deps.old job.after }
     {
-        note_named(&self.journal, plan.job.after(), &mut plan.deps);
-        let entity = plan.job.entity();
+        note_named(&self.journal, job.after(), deps);
+        let entity = job.entity();
         let ring = self.arming_ring(entity);
         let number = self.journal.len() as u32;
         self.entities.push(entity, number);
         self.loads.add(ring, entity, number);
-        self.waits.push(&plan.deps);
+        self.waits.push(deps);
         self.journal.push_reserved(JobRecord {
-            job: plan.job,
+            job,
             ring,
             phase: Phase::Queued,
             ran: 0,

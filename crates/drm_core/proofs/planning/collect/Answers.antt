@@ -16,7 +16,7 @@ loop-use_of-preserved c spec is =
     let at = (drop_next declared i d c.use_of-item.is c.loop-use_of-test.true).1 in
     let declared_at : slice_get c.args.job.now.declared i ≡ Some d = subst (λ ds. slice_get ds i ≡ Some d) c.declared-declared.ensures at in
     subst (λ held. IsCollected c.args.job.now held c.add_dependencies.new.deps)
-    (sym (kept_next rs declared i c.number.result d c.index-reservations-number.result c.use_of-item.is c.loop-use_of-test.true c.number.ensures c.index-reservations-number.is (c.requires i d declared_at)))
+    (sym (kept_next rs declared i c.number.result d c.index-reservations-number.result c.use_of-item.is c.loop-use_of-test.true c.number.ensures c.index-reservations-number.is (c.requires.there i d declared_at)))
     (c.add_dependencies.ensures spec c.args.job.now (declared_kept rs (take i declared)) d.0 is (contains_at c.args.job.now.declared i d declared_at) (c.loop-use_of.invariant spec is))
 
 pub returns : goal.returns

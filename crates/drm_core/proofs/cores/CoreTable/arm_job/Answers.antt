@@ -11,14 +11,14 @@ pub returns-clause-armed : goal.returns-clause-armed
 returns-clause-armed c =
     let t = c.args.self.now in
     let fs = c.fences.result.now.list in
-    (core_armed c.device_laws.ensures t c.arm_job.new.self (with_items t.reservations c.add_uses.new.reservations) c.args.plan.job fs c.requires.core c.requires.job c.fences.ensures
-    (uses_in_vector t (has_ended_at fs) c.armed-fence.result c.args.plan.job c.deref_mut.result.now c.add_uses.new.reservations c.armed-fence.ensures c.deref_mut.ensures.value c.add_uses.ensures)
+    (core_armed c.device_laws.ensures t c.arm_job.new.self (with_items t.reservations c.add_uses.new.reservations) c.args.job fs c.requires.core c.requires.job c.fences.ensures
+    (uses_in_vector t (has_ended_at fs) c.armed-fence.result c.args.job c.deref_mut.result.now c.add_uses.new.reservations c.armed-fence.ensures c.deref_mut.ensures.value c.add_uses.ensures)
     c.arm_job.ensures.armed c.arm_job.ensures.marks c.requires.apart).0
 
 pub returns-clause-core : goal.returns-clause-core
 returns-clause-core c =
     let t = c.args.self.now in
     let fs = c.fences.result.now.list in
-    (core_armed c.device_laws.ensures t c.arm_job.new.self (with_items t.reservations c.add_uses.new.reservations) c.args.plan.job fs c.requires.core c.requires.job c.fences.ensures
-    (uses_in_vector t (has_ended_at fs) c.armed-fence.result c.args.plan.job c.deref_mut.result.now c.add_uses.new.reservations c.armed-fence.ensures c.deref_mut.ensures.value c.add_uses.ensures)
+    (core_armed c.device_laws.ensures t c.arm_job.new.self (with_items t.reservations c.add_uses.new.reservations) c.args.job fs c.requires.core c.requires.job c.fences.ensures
+    (uses_in_vector t (has_ended_at fs) c.armed-fence.result c.args.job c.deref_mut.result.now c.add_uses.new.reservations c.armed-fence.ensures c.deref_mut.ensures.value c.add_uses.ensures)
     c.arm_job.ensures.armed c.arm_job.ensures.marks c.requires.apart).1

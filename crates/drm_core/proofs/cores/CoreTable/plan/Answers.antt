@@ -31,18 +31,18 @@ pub returns-clause-step : goal.returns-clause-step
 returns-clause-step c =
     let t = c.args.self.now in
     let m = c.make_room.new.self in
-    (plan_done (core_state t) m c.args.ctx c.args.draft (record { job = c.in-Ok.job; deps = c.collect-deps.result }) c.index_mut.result.now c.set_plan.new.context
+    (plan_done (core_state t) m c.args.ctx c.args.draft (record { job = c.in-Ok.job; deps = c.collect.new.deps }) c.index_mut.result.now c.set_plan.new.context
     c.make_room.ensures.core c.make_room.ensures.state c.requires.ctx c.in-Ok.ensures.0 (begun_is _ c.has_begun.result c.has_begun.ensures c.if-not-has_begun.false) (subst (λ (p : DeviceSpec). job_fault p c.args.draft ≡ None) c.spec.ensures.value c.in-Ok.ensures.1)
     (held_all t c.args.ctx c.args.draft c.in-Ok.job c.deref.result.now c.declared.result.now c.holds_all.result c.holds_all.ensures c.deref.ensures.value c.declared.ensures c.in-Ok.ensures.0 ∙ c.if-not-holds_all.false)
-    c.collect-deps.ensures (went_well c.make_room.result c.is_err.result c.is_err.ensures.value c.if-is_err.false c.make_room.ensures.room)
+    c.collect.ensures (went_well c.make_room.result c.is_err.result c.is_err.ensures.value c.if-is_err.false c.make_room.ensures.room)
     c.index_mut.ensures.value c.set_plan.ensures).0
 
 pub returns-clause-core : goal.returns-clause-core
 returns-clause-core c =
     let t = c.args.self.now in
     let m = c.make_room.new.self in
-    (plan_done (core_state t) m c.args.ctx c.args.draft (record { job = c.in-Ok.job; deps = c.collect-deps.result }) c.index_mut.result.now c.set_plan.new.context
+    (plan_done (core_state t) m c.args.ctx c.args.draft (record { job = c.in-Ok.job; deps = c.collect.new.deps }) c.index_mut.result.now c.set_plan.new.context
     c.make_room.ensures.core c.make_room.ensures.state c.requires.ctx c.in-Ok.ensures.0 (begun_is _ c.has_begun.result c.has_begun.ensures c.if-not-has_begun.false) (subst (λ (p : DeviceSpec). job_fault p c.args.draft ≡ None) c.spec.ensures.value c.in-Ok.ensures.1)
     (held_all t c.args.ctx c.args.draft c.in-Ok.job c.deref.result.now c.declared.result.now c.holds_all.result c.holds_all.ensures c.deref.ensures.value c.declared.ensures c.in-Ok.ensures.0 ∙ c.if-not-holds_all.false)
-    c.collect-deps.ensures (went_well c.make_room.result c.is_err.result c.is_err.ensures.value c.if-is_err.false c.make_room.ensures.room)
+    c.collect.ensures (went_well c.make_room.result c.is_err.result c.is_err.ensures.value c.if-is_err.false c.make_room.ensures.room)
     c.index_mut.ensures.value c.set_plan.ensures).1

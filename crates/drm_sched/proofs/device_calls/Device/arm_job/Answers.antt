@@ -12,11 +12,11 @@ use Rattle.drm_sched.proofs.device_calls.Device.arm_job.Goals as goal
 
 pub returns-clause-grows : goal.returns-clause-grows
 returns-clause-grows c =
-    subst (Grows c.args.self.now.state) (sym (c.arm.ensures.armed ∙ ap (λ (d : MarkedDevice). armed_device d.state c.args.plan.job) (view_read c.deref_mut.ensures.value c.self.view_is))) (arm_grows c.args.self.now.state c.args.plan.job)
+    subst (Grows c.args.self.now.state) (sym (c.arm.ensures.armed ∙ ap (λ (d : MarkedDevice). armed_device d.state c.args.job) (view_read c.deref_mut.ensures.value c.self.view_is))) (arm_grows c.args.self.now.state c.args.job)
 
 pub returns-clause-keeps : goal.returns-clause-keeps
 returns-clause-keeps c =
-    let job = c.args.plan.job in
+    let job = c.args.job in
     let d : DeviceState = c.args.self.now.state in
     let fence : c.arm.result ≡ length d.journal = c.arm.ensures.number ∙ ap (λ (d : MarkedDevice). length d.state.journal) (view_read c.deref_mut.ensures.value c.self.view_is) in
     let new : state_of c.arm.new.self.marked.table ≡ armed_device d job = c.arm.ensures.armed ∙ ap (λ (d : MarkedDevice). armed_device d.state job) (view_read c.deref_mut.ensures.value c.self.view_is) in

@@ -4,12 +4,10 @@ use Rattle.drm_sched.proofs.scheduler.Scheduler.arm.Goals as goal
 
 pub place-requires-clause-others : goal.place-requires-clause-others
 place-requires-clause-others c =
-    let waits = c.arm-fence.ensures.waits in
-    (armed_but c.args.self.now.marked c.arm-fence.new.self c.args.self.now.heads c.args.plan.job c.entity-entity.result waits.0 c.requires.whole c.requires.job c.entity-entity.ensures
-    (sym c.is_empty.ensures ∙ c.if-is_empty.true) c.arm-fence.ensures.armed waits.1 c.requires.heads).1
+    (armed_but c.args.self.now.marked c.arm-fence.new.self c.args.self.now.heads c.args.job c.entity-entity.result c.arm-fence.new.deps c.requires.whole c.requires.job c.entity-entity.ensures
+    (sym c.is_empty.ensures ∙ c.if-is_empty.true) c.arm-fence.ensures.armed c.arm-fence.ensures.waits c.requires.heads).1
 
 pub returns-clause-heads : goal.returns-clause-heads
 returns-clause-heads c =
-    let waits = c.arm.ensures.waits in
-    armed_beside c.args.self.now.marked c.arm.new.self c.args.self.now.heads c.args.plan.job c.entity-entity.result waits.0 c.requires.whole c.requires.job c.entity-entity.ensures
-    (sym c.is_empty.ensures ∙ c.if-is_empty.false) c.arm.ensures.armed waits.1 c.requires.heads
+    armed_beside c.args.self.now.marked c.arm.new.self c.args.self.now.heads c.args.job c.entity-entity.result c.arm.new.deps c.requires.whole c.requires.job c.entity-entity.ensures
+    (sym c.is_empty.ensures ∙ c.if-is_empty.false) c.arm.ensures.armed c.arm.ensures.waits c.requires.heads
