@@ -1,7 +1,7 @@
 -- How short numbers are written.
-use Rattle.std.proofs.Common.{◌≡◌, ℕ, ◌+◌, ◌<◌, ◌≤◌, ◌/◌, ◌%◌, List, [], ◌∷◌, ◌++◌, refl, arith}
+use Rattle.std.proofs.Common.{◌≡◌, ℕ, ◌+◌, ◌<◌, ◌≤◌, ◌/◌, ◌%◌, List, [], ◌∷◌, ◌++◌, refl, arith, ap, ◌∙◌}
 use Rattle.std.specs.Fmt.{decimal}
-use Rattle.std.proofs.lemmas.Fmt.{decimal_by_steps}
+use Rattle.std.proofs.lemmas.Fmt.{decimal_by_steps, decimal_step}
 
 pub one_digit : (n : ℕ) → n < 10 → decimal n ≡ (48 + n) ∷ []
 one_digit n small =
@@ -20,3 +20,14 @@ written_short n small =
 
 pub two_digits : (n : ℕ) → 10 ≤ n → n < 100 → decimal n ≡ (48 + n / 10) ∷ (48 + n % 10) ∷ []
 two_digits n ten small = (written_short n small).1 ten small
+
+-- a number is written as its tens, and its last digit behind them
+pub three_digits : (n : ℕ) → 100 ≤ n → n < 1000 → decimal n ≡ (48 + n / 10 / 10) ∷ (48 + n / 10 % 10) ∷ (48 + n % 10) ∷ []
+three_digits n least most =
+    let tens = two_digits (n / 10) (omega (arith, least)) (omega (arith, most)) in
+    decimal_step n (omega (arith, least)) (omega (arith, most)) ∙ ap (λ ds. ds ++ (48 + n % 10) ∷ []) tens
+
+pub four_digits : (n : ℕ) → 1000 ≤ n → n < 10000 → decimal n ≡ (48 + n / 10 / 10 / 10) ∷ (48 + n / 10 / 10 % 10) ∷ (48 + n / 10 % 10) ∷ (48 + n % 10) ∷ []
+four_digits n least most =
+    let tens = three_digits (n / 10) (omega (arith, least)) (omega (arith, most)) in
+    decimal_step n (omega (arith, least)) (omega (arith, most)) ∙ ap (λ ds. ds ++ (48 + n % 10) ∷ []) tens

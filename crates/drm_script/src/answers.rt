@@ -45,11 +45,56 @@ fn put_two_digits(out: &mut Vec<u8>, separator: u8, value: u64) -> Result<(), Al
     out.extend_from_slice(&[separator, tens, ones])
 }
 
-/// A separator, and a number of any length.
-#[inline(never)]
-fn put_long(out: &mut Vec<u8>, separator: u8, value: u64) -> Result<(), AllocError>
+/// A separator, and a number of three digits.
+#[inline]
+#[tactic(auto, using(crate::proofs::ShortNumbers::three_digits))]
+fn put_three_digits(out: &mut Vec<u8>, separator: u8, value: u64) -> Result<(), AllocError>
+    requires least { 100 ≤ value }
+    requires most { value < 1000 }
     ensures { OnOk result (out.new.items ≡ out.old.items ++ separator ∷ decimal value) }
 {
+    let tens = value / 10;
+    let hundreds = tens / 10;
+    out.extend_from_slice(&[
+        separator,
+        b'0' + hundreds as u8,
+        b'0' + (tens % 10) as u8,
+        b'0' + (value % 10) as u8,
+    ])
+}
+
+/// A separator, and a number of four digits.
+#[inline]
+#[tactic(auto, using(crate::proofs::ShortNumbers::four_digits))]
+fn put_four_digits(out: &mut Vec<u8>, separator: u8, value: u64) -> Result<(), AllocError>
+    requires least { 1000 ≤ value }
+    requires most { value < 10000 }
+    ensures { OnOk result (out.new.items ≡ out.old.items ++ separator ∷ decimal value) }
+{
+    let tens = value / 10;
+    let hundreds = tens / 10;
+    let thousands = hundreds / 10;
+    out.extend_from_slice(&[
+        separator,
+        b'0' + thousands as u8,
+        b'0' + (hundreds % 10) as u8,
+        b'0' + (tens % 10) as u8,
+        b'0' + (value % 10) as u8,
+    ])
+}
+
+/// A separator, and a number of three digits or more.
+#[inline(never)]
+fn put_long(out: &mut Vec<u8>, separator: u8, value: u64) -> Result<(), AllocError>
+    requires { 100 ≤ value }
+    ensures { OnOk result (out.new.items ≡ out.old.items ++ separator ∷ decimal value) }
+{
+    if value < 1000 {
+        return put_three_digits(out, separator, value);
+    }
+    if value < 10_000 {
+        return put_four_digits(out, separator, value);
+    }
     out.push(separator)?;
     put_decimal(out, value)
 }

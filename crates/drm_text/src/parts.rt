@@ -76,8 +76,22 @@ fn number_of(part: &[u8], value: u64) -> Option<u64>
     }
 }
 
-/// Where the first part ends, and the number of at most `most` that it spells, if it spells one.
-fn cut_number(bytes: &[u8], separator: u8, most: u64) -> (usize, Option<u64>)
+/// Whether the first part is one byte.
+#[inline]
+fn is_one_byte(bytes: &[u8], separator: u8) -> bool
+    ensures { result ≡ (position_or_len (λ b. b == separator) bytes.now == 1) }
+{
+    match bytes {
+        [] => false,
+        [first] => *first != separator,
+        [first, second, ..] => *first != separator && *second == separator,
+    }
+}
+
+/// Where the first part ends, and the number of at most `most` that it spells, if it spells one. It is read digit by
+/// digit.
+#[inline(never)]
+fn cut_digits(bytes: &[u8], separator: u8, most: u64) -> (usize, Option<u64>)
     ensures end { result.0 ≡ position_or_len (λ b. b == separator) bytes.now }
     ensures number { result.1 ≡ number_up_to most (take result.0 bytes.now) }
 {
@@ -92,6 +106,19 @@ fn cut_number(bytes: &[u8], separator: u8, most: u64) -> (usize, Option<u64>)
     }
     let (part, _) = bytes.split_at(end);
     (end, number_of(part, value))
+}
+
+/// Where the first part ends, and the number of at most `most` that it spells, if it spells one. Most numbers have one
+/// digit.
+#[inline]
+fn cut_number(bytes: &[u8], separator: u8, most: u64) -> (usize, Option<u64>)
+    ensures end { result.0 ≡ position_or_len (λ b. b == separator) bytes.now }
+    ensures number { result.1 ≡ number_up_to most (take result.0 bytes.now) }
+{
+    if is_one_byte(bytes, separator) {
+        return (1, next_value(0, bytes[0], most));
+    }
+    cut_digits(bytes, separator, most)
 }
 
 /// What is left of a text that is cut at each separator.

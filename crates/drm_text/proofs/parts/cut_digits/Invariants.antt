@@ -1,7 +1,7 @@
 use Rattle.std.proofs.Common.{◌≡◌, ◌+◌, ◌-◌, ◌≤◌, ◌==◌, Some, drop, take, length}
 use Rattle.std.specs.List.{position_or_len}
 use Rattle.drm_text.specs.Number.{with_digits, digits_up_to}
-use Rattle.drm_text.proofs.parts.cut_number.Given as goal
+use Rattle.drm_text.proofs.parts.cut_digits.Given as goal
 
 abbrev pub invariant-loop-end : goal.invariant-loop-end
 invariant-loop-end l =

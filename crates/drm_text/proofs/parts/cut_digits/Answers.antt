@@ -2,7 +2,7 @@ use Rattle.std.proofs.Common.{ℕ, Option, arith, ap, sym, ◌+◌, ◌∙◌, d
 use Rattle.drm_text.specs.Number.{with_digits}
 use Rattle.drm_text.proofs.CutNumbers.{first_of, one_more_byte}
 use Rattle.drm_text.proofs.Digits.{no_number}
-use Rattle.drm_text.proofs.parts.cut_number.Goals as goal
+use Rattle.drm_text.proofs.parts.cut_digits.Goals as goal
 
 pub returns-in-None-clause-number : goal.returns-in-None-clause-number
 returns-in-None-clause-number c =
