@@ -3,10 +3,11 @@
 ghost use Rattle.std.specs.Prelude.{◌≡◌, ◌<◌, ◌≤◌, length, IfOk, IsTrue};
 ghost use Rattle.drm_core.specs.Names.{names_exist};
 ghost use Rattle.drm_text.specs.Reading.{Reads, Gives};
+ghost use Rattle.drm_script.specs.Kept.{event_of};
 ghost use Rattle.drm_script.specs.Commands.{context_and_buffer_at, ring_and_moment_at, names_ring, names_context, command_of, event_at, event_line};
 
 use crate::job::read_job;
-use drm_core::Event;
+use crate::kept::Kept;
 use drm_text::{Command, Fault, Keyword, Line, ReadError, Words, order_fault};
 use drm_types::{BufferId, CtxId, DeviceSpec, Moment, RingId};
 use std::alloc::Global;
@@ -36,26 +37,26 @@ fn read_ring_and_moment(spec: &DeviceSpec, words: &mut Words) -> Result<(RingId,
 
 /// The event of a command that names a ring.
 #[tactic(auto, unfolding(crate::specs::Commands::event_at))]
-fn read_ring_event(spec: &DeviceSpec, command: Command, words: &mut Words) -> Result<Event, Fault>
+fn read_ring_event(spec: &DeviceSpec, command: Command, words: &mut Words) -> Result<Kept, Fault>
     requires { IsTrue (names_ring command) }
-    ensures value { Reads (λ event. event) result (event_at spec.now command words.old) }
-    ensures exist { IfOk result (λ event. IsTrue (names_exist spec.now event)) }
+    ensures value { Reads (λ kept. event_of kept) result (event_at spec.now command words.old) }
+    ensures exist { IfOk result (λ kept. IsTrue (names_exist spec.now (event_of kept))) }
 {
     match command {
         Command::Pick => {
             let (ring, now) = read_ring_and_moment(spec, words)?;
-            Ok(Event::Pick { ring, now })
+            Ok(Kept::Pick { ring, now })
         }
-        Command::Step => Ok(Event::Step {
+        Command::Step => Ok(Kept::Step {
             ring: words.last_name(spec.rings.len())?,
         }),
         Command::Finish => {
             let (ring, now) = read_ring_and_moment(spec, words)?;
-            Ok(Event::Finish { ring, now })
+            Ok(Kept::Finish { ring, now })
         }
         Command::Timeout => {
             let (ring, now) = read_ring_and_moment(spec, words)?;
-            Ok(Event::Timeout { ring, now })
+            Ok(Kept::Timeout { ring, now })
         }
         _ => unreachable!(),
     }
@@ -63,39 +64,35 @@ fn read_ring_event(spec: &DeviceSpec, command: Command, words: &mut Words) -> Re
 
 /// The event of a command that names a context, and no job.
 #[tactic(auto, unfolding(crate::specs::Commands::event_at))]
-fn read_context_event(
-    spec: &DeviceSpec,
-    command: Command,
-    words: &mut Words,
-) -> Result<Event, Fault>
+fn read_context_event(spec: &DeviceSpec, command: Command, words: &mut Words) -> Result<Kept, Fault>
     requires { IsTrue (names_context command) }
-    ensures value { Reads (λ event. event) result (event_at spec.now command words.old) }
-    ensures exist { IfOk result (λ event. IsTrue (names_exist spec.now event)) }
+    ensures value { Reads (λ kept. event_of kept) result (event_at spec.now command words.old) }
+    ensures exist { IfOk result (λ kept. IsTrue (names_exist spec.now (event_of kept))) }
 {
     match command {
-        Command::Begin => Ok(Event::Begin {
+        Command::Begin => Ok(Kept::Begin {
             ctx: words.last_name(CONTEXTS)?,
         }),
         Command::Try => {
             let (ctx, buffer) = read_context_and_buffer(spec, words)?;
-            Ok(Event::Try { ctx, buffer })
+            Ok(Kept::Try { ctx, buffer })
         }
-        Command::Done => Ok(Event::Done {
+        Command::Done => Ok(Kept::Done {
             ctx: words.last_name(CONTEXTS)?,
         }),
         Command::Drop => {
             let (ctx, buffer) = read_context_and_buffer(spec, words)?;
-            Ok(Event::Drop { ctx, buffer })
+            Ok(Kept::Drop { ctx, buffer })
         }
-        Command::End => Ok(Event::End {
+        Command::End => Ok(Kept::End {
             ctx: words.last_name(CONTEXTS)?,
         }),
-        Command::Arm => Ok(Event::Arm {
+        Command::Arm => Ok(Kept::Arm {
             ctx: words.last_name(CONTEXTS)?,
         }),
         Command::Read => {
             let (ctx, buffer) = read_context_and_buffer(spec, words)?;
-            Ok(Event::Read { ctx, buffer })
+            Ok(Kept::Read { ctx, buffer })
         }
         _ => unreachable!(),
     }
@@ -107,31 +104,31 @@ fn read_event(
     spec: &DeviceSpec,
     command: Command,
     words: &mut Words,
-) -> Result<Event, ReadError>
-    ensures value { Gives (λ event. event) result (event_at spec.now command words.old) }
-    ensures exist { IfOk result (λ event. IsTrue (names_exist spec.now event)) }
+) -> Result<Kept, ReadError>
+    ensures value { Gives (λ kept. event_of kept) result (event_at spec.now command words.old) }
+    ensures exist { IfOk result (λ kept. IsTrue (names_exist spec.now (event_of kept))) }
 {
     match command {
-        Command::Submit => Ok(Event::Submit {
-            draft: read_job(alloc, words)?,
+        Command::Submit => Ok(Kept::Submit {
+            draft: Box::new(alloc, read_job(alloc, words)?)?,
         }),
-        Command::Plan => Ok(Event::Plan {
+        Command::Plan => Ok(Kept::Plan {
             ctx: words.name(CONTEXTS)?,
-            draft: read_job(alloc, words)?,
+            draft: Box::new(alloc, read_job(alloc, words)?)?,
         }),
         Command::Pick | Command::Step | Command::Finish | Command::Timeout => {
             Ok(read_ring_event(spec, command, words)?)
         }
-        Command::Cancel => Ok(Event::Cancel {
+        Command::Cancel => Ok(Kept::Cancel {
             entity: words.last_name(spec.entities.len())?,
         }),
-        Command::Reap => Ok(Event::Reap {
+        Command::Reap => Ok(Kept::Reap {
             entity: words.last_name(spec.entities.len())?,
         }),
-        Command::Fence => Ok(Event::Status {
+        Command::Fence => Ok(Kept::Status {
             fence: words.last_number(u64::from(u32::MAX))? as u32,
         }),
-        Command::Dump => Ok(Event::Dump {
+        Command::Dump => Ok(Kept::Dump {
             buffer: BufferId::new(words.last_name(spec.buffers.len())?),
         }),
         _ => Ok(read_context_event(spec, command, words)?),
@@ -147,11 +144,15 @@ fn find_command(keyword: Keyword) -> Option<Command>
     }
 }
 
-/// The event of a line.
+/// The event of a line, as it is kept.
 #[tactic(auto, unfolding(crate::specs::Commands::event_line))]
-pub fn read_event_line(alloc: Global, spec: &DeviceSpec, line: &Line) -> Result<Event, ReadError>
-    ensures value { Gives (λ event. event) result (event_line spec.now line.now.number line.now.bytes) }
-    ensures exist { IfOk result (λ event. IsTrue (names_exist spec.now event)) }
+pub(crate) fn read_event_line(
+    alloc: Global,
+    spec: &DeviceSpec,
+    line: &Line,
+) -> Result<Kept, ReadError>
+    ensures value { Gives (λ kept. event_of kept) result (event_line spec.now line.now.number line.now.bytes) }
+    ensures exist { IfOk result (λ kept. IsTrue (names_exist spec.now (event_of kept))) }
 {
     let (keyword, mut words) = line.start()?;
     let command = find_command(keyword).ok_or(order_fault(line.number()))?;

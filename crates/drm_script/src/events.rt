@@ -1,6 +1,7 @@
 //! The events of a script: a list that takes little memory, and the events that are left of it.
 
 ghost use Rattle.std.specs.Prelude.{◌≡◌, [], ◌∷◌, ◌++◌, length, IfSome, IfNone, OnOk, OnErr};
+ghost use Rattle.drm_script.specs.Kept.{event_of};
 
 use crate::kept::Kept;
 use drm_core::Event;
@@ -36,11 +37,10 @@ impl Events {
 
     /// Adds an event at the end. A refusal of memory leaves the list as it was and drops the event.
     #[inline]
-    pub fn push(&mut self, alloc: Global, event: Event) -> Result<(), AllocError>
-        ensures ok { OnOk result (self.new ≡ self.old ++ event ∷ []) }
+    pub(crate) fn push(&mut self, kept: Kept) -> Result<(), AllocError>
+        ensures ok { OnOk result (self.new ≡ self.old ++ event_of kept ∷ []) }
         ensures err { OnErr result (self.new ≡ self.old) }
     {
-        let kept = Kept::of_event(alloc, event)?;
         self.kept.push(kept)?;
         Ok(())
     }

@@ -1,12 +1,11 @@
 //! The events of a script, as they are kept until they happen.
 
-ghost use Rattle.std.specs.Prelude.{◌≡◌, IfOk};
+ghost use Rattle.std.specs.Prelude.{◌≡◌};
 ghost use Rattle.drm_script.specs.Kept.{event_of};
 
 use drm_core::Event;
 use drm_job::Draft;
 use drm_types::{BufferId, CtxId, EntityId, FenceId, Moment, RingId};
-use std::alloc::{AllocError, Global};
 
 /// An event in the memory that it needs. A job takes five times that of all other events, so it is kept in a place of its
 /// own.
@@ -32,37 +31,6 @@ pub enum Kept {
 }
 
 impl Kept {
-    /// The event, to be kept.
-    #[inline]
-    pub fn of_event(alloc: Global, event: Event) -> Result<Kept, AllocError>
-        ensures { IfOk result (λ kept. event_of kept ≡ event) }
-    {
-        match event {
-            Event::Submit { draft } => Ok(Kept::Submit {
-                draft: Box::new(alloc, draft)?,
-            }),
-            Event::Begin { ctx } => Ok(Kept::Begin { ctx }),
-            Event::Try { ctx, buffer } => Ok(Kept::Try { ctx, buffer }),
-            Event::Done { ctx } => Ok(Kept::Done { ctx }),
-            Event::Drop { ctx, buffer } => Ok(Kept::Drop { ctx, buffer }),
-            Event::End { ctx } => Ok(Kept::End { ctx }),
-            Event::Plan { ctx, draft } => Ok(Kept::Plan {
-                ctx,
-                draft: Box::new(alloc, draft)?,
-            }),
-            Event::Arm { ctx } => Ok(Kept::Arm { ctx }),
-            Event::Pick { ring, now } => Ok(Kept::Pick { ring, now }),
-            Event::Step { ring } => Ok(Kept::Step { ring }),
-            Event::Finish { ring, now } => Ok(Kept::Finish { ring, now }),
-            Event::Timeout { ring, now } => Ok(Kept::Timeout { ring, now }),
-            Event::Cancel { entity } => Ok(Kept::Cancel { entity }),
-            Event::Reap { entity } => Ok(Kept::Reap { entity }),
-            Event::Read { ctx, buffer } => Ok(Kept::Read { ctx, buffer }),
-            Event::Status { fence } => Ok(Kept::Status { fence }),
-            Event::Dump { buffer } => Ok(Kept::Dump { buffer }),
-        }
-    }
-
     /// The event, given back.
     #[inline]
     pub fn into_event(self) -> Event

@@ -31,8 +31,8 @@ fn read_events(alloc: Global, spec: &DeviceSpec, lines: &mut Lines) -> Result<Ev
 {
     let mut events = Events::new(alloc);
     while let Some(line) = lines.next() {
-        let event = read_event_line(alloc, spec, &line)?;
-        events.push(alloc, event)?;
+        let kept = read_event_line(alloc, spec, &line)?;
+        events.push(kept)?;
     }
     lines.end()?;
     Ok(events)
