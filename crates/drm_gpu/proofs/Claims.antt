@@ -20,7 +20,7 @@ use Rattle.drm_table.specs.Reservation.{Fits}
 use Rattle.drm_gpu.specs.Passes.{Seeing, GpuState, PassState, Knows, last_of, pass_of}
 use Rattle.drm_gpu.specs.Submissions.{Submission, DeviceAcquire, Holding, TriesLock, MayWait, Claims, Locks, WentOn, submission_of}
 use Rattle.drm_gpu.proofs.Chains.{knows_same}
-use Rattle.drm_gpu.proofs.Holders.{in_kept, in_kept_of}
+use Rattle.drm_gpu.proofs.Holders.{in_kept, in_kept_of, still_holds}
 use Rattle.drm_gpu.proofs.Lists.{at_in, in_last, in_left, lacks_same}
 
 -- ---- the caller goes on to hold
@@ -39,15 +39,6 @@ claimed_one gpu b x a a' k h lacks pivot task owes held = record {
       (in_last (d, y) (b, x) (view a).lock.owes (subst (In (d, y)) owes i));
 }
 
--- it has met others
-met_others : (gpu : GpuState) (a a' : DeviceAcquire) → Holding gpu a → HoldsOutside gpu.home a' → (view a').pivot ≡ (view a).pivot → (view a').task ≡ (view a).task → (view a').lock.owes ≡ (view a).lock.owes → a'.held ≡ a.held
-    → Holding gpu a'
-met_others gpu a a' k h pivot task owes held = record {
-  holds = h;
-  knows = knows_same gpu.spec (last_of (view a)) (view a) (view a') k.knows pivot task;
-  owed = λ d y w i j p f. k.owed d y w (subst (In (d, y)) owes i) (subst (λ l. In (d, w) l.items) held j) p f;
-}
-
 abbrev IsOn : GpuState → DeviceAcquire → DeviceAcquire → Type 0
 IsOn gpu a a' = Holding gpu a' × (a'.sealed ≡ a.sealed)
 
@@ -63,15 +54,15 @@ tried gpu b a a' (Ok u) k h t = let v = t.3.1 in
     (claimed_one gpu b t.3.0 a a' k h t.1 (ap (λ (z : Seeing). z.pivot) v) (ap (λ (z : Seeing). z.task) v) (ap (λ (z : Seeing). z.lock.owes) v) t.3.2, t.2.1)
 tried gpu b a a' (Err Sealed) k h t = same_on gpu a a' k t.1
 tried gpu b a a' (Err Already) k h t = same_on gpu a a' k t.2
-tried gpu b a a' (Err (Older n)) k h t = let v = t.4 in (met_others gpu a a' k h (ap (λ (z : Seeing). z.pivot) v) (ap (λ (z : Seeing). z.task) v) (ap (λ (z : Seeing). z.lock.owes) v) t.5, t.2.1)
-tried gpu b a a' (Err (Younger n)) k h t = let v = t.4 in (met_others gpu a a' k h (ap (λ (z : Seeing). z.pivot) v) (ap (λ (z : Seeing). z.task) v) (ap (λ (z : Seeing). z.lock.owes) v) t.5, t.2.1)
+tried gpu b a a' (Err (Older n)) k h t = let v = t.4 in (still_holds gpu a a' k h (ap (λ (z : Seeing). z.pivot) v) (ap (λ (z : Seeing). z.task) v) (ap (λ (z : Seeing). z.lock.owes) v) t.5, t.2.1)
+tried gpu b a a' (Err (Younger n)) k h t = let v = t.4 in (still_holds gpu a a' k h (ap (λ (z : Seeing). z.pivot) v) (ap (λ (z : Seeing). z.task) v) (ap (λ (z : Seeing). z.lock.owes) v) t.5, t.2.1)
 
 pub locked : (gpu : GpuState) (b : ℕ) (a a' : DeviceAcquire) (r : Result (Unit {0}) LockError) → Holding gpu a → HoldsOutside gpu.home a' → AnswersLock b a a' r → IsOn gpu a a'
 locked gpu b a a' (Ok u) k h t = claimed gpu b a a' k h t
 locked gpu b a a' (Err lock.Sealed) k h t = same_on gpu a a' k t.1
 locked gpu b a a' (Err lock.Already) k h t = same_on gpu a a' k t.2
 locked gpu b a a' (Err (lock.Backoff n)) k h t = let w = t.4.2 in
-    (met_others gpu a a' k h (ap (λ (z : Seeing). z.pivot) w.2) (ap (λ (z : Seeing). z.task) w.2) (ap (λ (z : Seeing). z.lock.owes) w.2) w.1, w.0.1)
+    (still_holds gpu a a' k h (ap (λ (z : Seeing). z.pivot) w.2) (ap (λ (z : Seeing). z.task) w.2) (ap (λ (z : Seeing). z.lock.owes) w.2) w.1, w.0.1)
 
 -- ---- what its submission shows
 

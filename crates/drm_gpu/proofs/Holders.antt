@@ -126,6 +126,15 @@ called_with does gpu old v s t d f e view before found same is on out adds holds
     (sym (ap (λ (o : PassState). o.gpu) view) ∙ ap (λ (z : DeviceSpec). record { home = gpu.home; spec = z }) before.described)
     found same is on (ap (λ (z : DeviceSpec). record { home = gpu.home; spec = z }) out.0.described) out.1 adds holds
 
+-- a caller that holds and owes what it did goes on to hold
+pub still_holds : (gpu : GpuState) (a a' : DeviceAcquire) → Holding gpu a → HoldsOutside gpu.home a' → (view a').pivot ≡ (view a).pivot → (view a').task ≡ (view a).task → (view a').lock.owes ≡ (view a).lock.owes → a'.held ≡ a.held
+    → Holding gpu a'
+still_holds gpu a a' k h pivot task owes held = record {
+  holds = h;
+  knows = knows_same gpu.spec (last_of (view a)) (view a) (view a') k.knows pivot task;
+  owed = λ d y w i j p f. k.owed d y w (subst (In (d, y)) owes i) (subst (λ l. In (d, w) l.items) held j) p f;
+}
+
 -- ---- giving back
 
 -- what is first among what is held

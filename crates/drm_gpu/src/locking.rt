@@ -9,16 +9,17 @@ ghost use Rattle.drm_job.specs.Fault.{IsJob};
 ghost use Rattle.ww_lock.specs.Acquiring.{view};
 ghost use Rattle.drm_gpu.specs.Passes.{pass_of};
 ghost use Rattle.drm_gpu.specs.Submissions.{Holding, IsNewTicket, TriesLock, Claims, Locks, GoesOn, WentOn};
+ghost use Rattle.drm_gpu.specs.Status.{AnswersStatus};
 ghost use Rattle.drm_gpu.specs.Begun.{IsBack, IsBackFromRead};
 
 use crate::driver::Task;
 use crate::gpu::Gpu;
-use crate::pass::Pass;
+use crate::pass::{NoFence, Pass};
 use crate::reading::Reading;
 use drm_job::{Job, jobs_are_the_sound_drafts};
 use drm_resv::Resv;
 use drm_sched::Device;
-use drm_types::{BufferId, Ticket};
+use drm_types::{BufferId, FenceId, Ticket};
 use std::alloc::Global;
 use std::marker::Model;
 use std::sync::Wait;
@@ -304,6 +305,20 @@ impl<'g> Locking<'g> {
         &self.job
     }
 
+    /// The status of a job's finished fence (`dma_fence_get_status`), as `Gpu::status` tells it, while the caller takes its locks. It is
+    /// one look at the fence's word and never waits.
+    ///
+    /// # Errors
+    ///
+    /// Where no job of this number is armed.
+    pub fn status(&mut self, fence: FenceId) -> Result<i32, NoFence>
+        ensures status { AnswersStatus self.old.pass.gpu.spec.max_jobs fence result self.old.pass self.new.pass }
+        ensures same { self.new ≡ record self.old { pass = self.new.pass } }
+    {
+        let gpu = self.gpu;
+        gpu.status_with(&mut self.acquire, fence)
+    }
+
     /// Whether the buffer is held.
     pub fn is_held(&self, buffer: BufferId) -> bool
         ensures held { result ≡ true → (x : Reservation) × In (buffer, x) self.now.held }
@@ -429,6 +444,20 @@ impl<'g> Locked<'g> {
         ensures { result.now ≡ self.now.job }
     {
         &self.job
+    }
+
+    /// The status of a job's finished fence (`dma_fence_get_status`), as `Gpu::status` tells it, while the buffers are held. It is
+    /// one look at the fence's word and never waits.
+    ///
+    /// # Errors
+    ///
+    /// Where no job of this number is armed.
+    pub fn status(&mut self, fence: FenceId) -> Result<i32, NoFence>
+        ensures status { AnswersStatus self.old.pass.gpu.spec.max_jobs fence result self.old.pass self.new.pass }
+        ensures same { self.new ≡ record self.old { pass = self.new.pass } }
+    {
+        let gpu = self.gpu;
+        gpu.status_with(&mut self.acquire, fence)
     }
 
     /// Gives everything back, and the job unchanged.

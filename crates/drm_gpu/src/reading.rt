@@ -3,13 +3,14 @@ ghost use Rattle.std.specs.Prelude.{◌≡◌, length};
 ghost use Rattle.drm_buffer.specs.Memory.{bytes_of};
 ghost use Rattle.drm_gpu.specs.Passes.{Calls};
 ghost use Rattle.drm_gpu.specs.Reading.{ReadIs, ReadbacksAgree};
+ghost use Rattle.drm_gpu.specs.Status.{AnswersStatus};
 
 use crate::gpu::Gpu;
 use crate::locking::{DeviceAcquire, give_up};
-use crate::pass::Pass;
+use crate::pass::{NoFence, Pass};
 use crate::waiting::Needs;
 use drm_sched::{ReadError, bytes_stay};
-use drm_types::BufferId;
+use drm_types::{BufferId, FenceId};
 use std::marker::Model;
 use std::snapshot::Snapshot;
 use std::sync::Wait;
@@ -57,6 +58,20 @@ impl<'g> Reading<'g> {
         let answer = device.read_into(self.buffer, &self.acquire.held()[0].1, out);
         gpu.leave_with(&mut self.acquire, device, &found);
         answer
+    }
+
+    /// The status of a job's finished fence (`dma_fence_get_status`), as `Gpu::status` tells it, while the buffer is held. It is
+    /// one look at the fence's word and never waits.
+    ///
+    /// # Errors
+    ///
+    /// Where no job of this number is armed.
+    pub fn status(&mut self, fence: FenceId) -> Result<i32, NoFence>
+        ensures status { AnswersStatus self.old.pass.gpu.spec.max_jobs fence result self.old.pass self.new.pass }
+        ensures same { self.new ≡ record self.old { pass = self.new.pass } }
+    {
+        let gpu = self.gpu;
+        gpu.status_with(&mut self.acquire, fence)
     }
 
     /// Gives the buffer back.

@@ -4,11 +4,12 @@ ghost use Rattle.drm_resv.specs.Reservation.{WithRoom};
 ghost use Rattle.drm_table.specs.Held.{HaveRoom, kept_of};
 ghost use Rattle.drm_table.specs.Collected.{IsCollected};
 ghost use Rattle.drm_gpu.specs.Passes.{Calls};
+ghost use Rattle.drm_gpu.specs.Status.{AnswersStatus};
 ghost use Rattle.drm_gpu.specs.Submissions.{ArmIs, ArmRefused};
 
 use crate::gpu::Gpu;
 use crate::locking::{DeviceAcquire, Locked, give_up};
-use crate::pass::Pass;
+use crate::pass::{NoFence, Pass};
 use drm_job::Job;
 use drm_resv::Resv;
 use drm_sched::{ArmError, Held, Plan};
@@ -155,6 +156,20 @@ impl<'g> Planned<'g> {
         &self.plan.job
     }
 
+    /// The status of a job's finished fence (`dma_fence_get_status`), as `Gpu::status` tells it, while the buffers are held. It is
+    /// one look at the fence's word and never waits.
+    ///
+    /// # Errors
+    ///
+    /// Where no job of this number is armed.
+    pub fn status(&mut self, fence: FenceId) -> Result<i32, NoFence>
+        ensures status { AnswersStatus self.old.submission.pass.gpu.spec.max_jobs fence result self.old.submission.pass self.new.submission.pass }
+        ensures same { self.new ≡ record self.old { submission = record self.old.submission { pass = self.new.submission.pass } } }
+    {
+        let gpu = self.gpu;
+        gpu.status_with(&mut self.acquire, fence)
+    }
+
     /// Gives everything back, and the job unchanged.
     pub fn abandon(self) -> (Pass, Job)
         ensures { (result.0 ≡ self.entry.submission.pass) × (result.1 ≡ self.entry.submission.job) }
@@ -171,6 +186,20 @@ impl<'g> Armed<'g> {
         ensures { result ≡ self.now.fence }
     {
         self.fence
+    }
+
+    /// The status of a job's finished fence (`dma_fence_get_status`), as `Gpu::status` tells it, while the buffers are held. It is
+    /// one look at the fence's word and never waits.
+    ///
+    /// # Errors
+    ///
+    /// Where no job of this number is armed.
+    pub fn status(&mut self, fence: FenceId) -> Result<i32, NoFence>
+        ensures status { AnswersStatus self.old.pass.gpu.spec.max_jobs fence result self.old.pass self.new.pass }
+        ensures same { self.new ≡ record self.old { pass = self.new.pass } }
+    {
+        let gpu = self.gpu;
+        gpu.status_with(&mut self.acquire, fence)
     }
 
     /// Gives the reservations back (`drm_exec_fini`).

@@ -20,6 +20,8 @@ mod calls;
 #[cfg(test)]
 mod locking;
 #[cfg(test)]
+mod looking;
+#[cfg(test)]
 mod outside;
 #[cfg(test)]
 mod passes;

@@ -8,7 +8,7 @@ use drm_types::{FenceId, RingId};
 use std::alloc::Global;
 use std::sync::Wait;
 
-/// How far a submission goes before it is given up.
+/// How far a submission goes. One that is given up looks at the first fence before.
 #[derive(Clone, Copy)]
 pub(crate) enum Reach {
     /// It has its ticket.
@@ -39,12 +39,15 @@ fn plan<R: Wait>(locked: Locked, reach: Reach, rt: &R) -> Pass
     ensures { result.gpu ≡ locked.entry.pass.gpu }
 {
     if matches!(reach, Reach::Locked) {
+        let mut locked = locked;
+        let _status = locked.status(0);
         let (pass, _job) = locked.abandon();
         return pass;
     }
     match locked.plan() {
-        Ok(planned) => {
+        Ok(mut planned) => {
             if matches!(reach, Reach::Planned) {
+                let _status = planned.status(0);
                 let (pass, _job) = planned.abandon();
                 return pass;
             }
@@ -63,12 +66,13 @@ fn submit<R: Wait>(gpu: &Gpu, pass: Pass, job: Job, reach: Reach, rt: &R, alloc:
     requires job { IsJobOf gpu.now.spec job }
     ensures { result.gpu ≡ gpu.now }
 {
-    let locking = match gpu.begin(alloc, pass, job, rt) {
+    let mut locking = match gpu.begin(alloc, pass, job, rt) {
         Ok(locking) => locking,
         Err(BeginError::Memory(pass, _job)) => return pass,
         Err(BeginError::TicketsOut(pass, _job)) => return pass,
     };
     if matches!(reach, Reach::Begun) {
+        let _status = locking.status(0);
         let (pass, _job) = locking.abandon();
         return pass;
     }

@@ -223,6 +223,24 @@ impl<W: Ward> Board<W> {
         look(&self.table.shared, &mut seat.place, word, fence)
     }
 
+    /// `look` for a caller that holds values: outside, with its ticket. What it holds and owes stays as it is.
+    pub fn look_with(
+        &self,
+        acquire: &mut Acquire<W::Pivot, W::Value, W::Task>,
+        fence: FenceId,
+    ) -> u64
+        requires { HoldsOutside (table_of self.now) acquire.old × (fence < self.now.posts) }
+        ensures holds { HoldsOutside (table_of self.now) acquire.new }
+        ensures same { IsSameAcquire acquire.old acquire.new × (acquire.new.held ≡ acquire.old.held) }
+        ensures view { view acquire.new ≡ with_look fence result (view acquire.old) }
+        ensures shown { (p : W.Pivot) × IsLater W.good W.grows W.posted W.busy (view acquire.old) p × (result ≡ W.posted p fence) }
+        ensures looked { (x : ℕ) → In (fence, x) (view acquire.old).looked → NotBack x result }
+        ensures ready { IsReady W.fits (table_of self.now) acquire.old → IsReady W.fits (table_of self.now) acquire.new }
+    {
+        let word = self.buffers as usize + 2 + fence as usize;
+        look(&self.table.shared, &mut acquire.place, word, fence)
+    }
+
     /// Shows what becomes of the pivot by the word of a fence, before the pivot is brought home. At most once before
     /// the caller leaves, which then leaves this very pivot.
     pub fn post(
