@@ -305,8 +305,8 @@ impl<'g> Locking<'g> {
         &self.job
     }
 
-    /// The status of a job's finished fence (`dma_fence_get_status`), as `Gpu::status` tells it, while the caller takes its locks. It is
-    /// one look at the fence's word and never waits.
+    /// The status of a job's finished fence, while the caller takes its locks (`dma_fence_get_status` within a
+    /// `drm_exec` context), as `Gpu::status` tells it: one look at the fence's word, which never waits.
     ///
     /// # Errors
     ///
@@ -446,8 +446,8 @@ impl<'g> Locked<'g> {
         &self.job
     }
 
-    /// The status of a job's finished fence (`dma_fence_get_status`), as `Gpu::status` tells it, while the buffers are held. It is
-    /// one look at the fence's word and never waits.
+    /// The status of a job's finished fence, while every declared buffer is held (`dma_fence_get_status` within a
+    /// `drm_exec` context), as `Gpu::status` tells it: one look at the fence's word, which never waits.
     ///
     /// # Errors
     ///

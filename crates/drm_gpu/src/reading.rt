@@ -60,8 +60,8 @@ impl<'g> Reading<'g> {
         answer
     }
 
-    /// The status of a job's finished fence (`dma_fence_get_status`), as `Gpu::status` tells it, while the buffer is held. It is
-    /// one look at the fence's word and never waits.
+    /// The status of a job's finished fence, while the buffer is held (`dma_fence_get_status`), as `Gpu::status` tells
+    /// it: one look at the fence's word, which never waits.
     ///
     /// # Errors
     ///

@@ -156,8 +156,8 @@ impl<'g> Planned<'g> {
         &self.plan.job
     }
 
-    /// The status of a job's finished fence (`dma_fence_get_status`), as `Gpu::status` tells it, while the buffers are held. It is
-    /// one look at the fence's word and never waits.
+    /// The status of a job's finished fence, before the job is armed (`dma_fence_get_status` within a `drm_exec`
+    /// context), as `Gpu::status` tells it: one look at the fence's word, which never waits.
     ///
     /// # Errors
     ///
@@ -188,8 +188,8 @@ impl<'g> Armed<'g> {
         self.fence
     }
 
-    /// The status of a job's finished fence (`dma_fence_get_status`), as `Gpu::status` tells it, while the buffers are held. It is
-    /// one look at the fence's word and never waits.
+    /// The status of a job's finished fence, before the buffers are given back (`dma_fence_get_status` within a
+    /// `drm_exec` context), as `Gpu::status` tells it: one look at the fence's word, which never waits.
     ///
     /// # Errors
     ///

@@ -4,7 +4,7 @@ ghost use Rattle.drm_gpu_tests.specs.Pairs.{IsPair};
 
 use crate::calls::{begun, made, runs, submitted};
 use crate::{fill, opened};
-use drm_gpu::{Gpu, Locking, NoFence, Pass, Planned};
+use drm_gpu::{Armed, Gpu, Locked, Locking, NoFence, Pass, Planned};
 use drm_types::Access::Write;
 use drm_types::BufferId;
 use std::alloc::Global;
@@ -12,37 +12,58 @@ use std::process::Abort;
 use std::sync::Wait;
 use std::test::Fail;
 
-// The first job goes on, and there is no second one.
-fn only_the_first<R: Abort>(first: Result<i32, NoFence>, second: Result<i32, NoFence>, rt: &R) {
-    assert!(rt; first == Ok(0));
-    assert!(rt; second == Err(NoFence { fence: 1 }));
+// The first job goes on.
+fn looks_locking<R: Abort>(locking: &mut Locking, rt: &R)
+    ensures { locking.new.pass.gpu ≡ locking.old.pass.gpu }
+{
+    assert!(rt; locking.status(0) == Ok(0));
 }
 
-// A second submission, until it is planned.
-fn looks_unarmed<'g, R: Wait + Abort>(locking: Locking<'g>, rt: &R) -> Planned<'g>
+// There is no second one.
+fn looks_locked<R: Abort>(locked: &mut Locked, rt: &R)
+    ensures { locked.new.pass.gpu ≡ locked.old.pass.gpu }
+{
+    assert!(rt; locked.status(1) == Err(NoFence { fence: 1 }));
+}
+
+// The device has eight fences.
+fn looks_planned<R: Abort>(planned: &mut Planned, rt: &R)
+    ensures { planned.new.submission.pass.gpu ≡ planned.old.submission.pass.gpu }
+{
+    assert!(rt; planned.status(8) == Err(NoFence { fence: 8 }));
+}
+
+// The second job is armed.
+fn looks_armed<R: Abort>(armed: &mut Armed, rt: &R)
+    ensures { armed.new.pass.gpu ≡ armed.old.pass.gpu }
+{
+    assert!(rt; armed.status(1) == Ok(0));
+}
+
+// A second submission, which looks at a fence in each of its states.
+fn planned_looking<'g, R: Wait + Abort>(locking: Locking<'g>, rt: &R) -> Planned<'g>
     ensures { result.submission.pass.gpu ≡ locking.entry.pass.gpu }
 {
     let mut locking = locking;
-    only_the_first(locking.status(0), locking.status(1), rt);
+    looks_locking(&mut locking, rt);
     let mut locked = locking.lock_all(rt);
-    only_the_first(locked.status(0), locked.status(1), rt);
-    let Ok(mut planned) = locked.plan() else {
+    looks_locked(&mut locked, rt);
+    let Ok(planned) = locked.plan() else {
         panic!(rt; "no memory")
     };
-    only_the_first(planned.status(0), planned.status(1), rt);
     planned
 }
 
-// And once it is armed. The device has eight fences.
-fn looks_armed<R: Wait + Abort>(planned: Planned, rt: &R) -> Pass
+// It goes on, and is armed.
+fn armed_looking<R: Wait + Abort>(planned: Planned, rt: &R) -> Pass
     ensures { result.gpu ≡ planned.entry.submission.pass.gpu }
 {
+    let mut planned = planned;
+    looks_planned(&mut planned, rt);
     let Ok(mut armed) = planned.arm(rt) else {
         panic!(rt; "not armed")
     };
-    assert!(rt; armed.status(0) == Ok(0));
-    assert!(rt; armed.status(1) == Ok(0));
-    assert!(rt; armed.status(8) == Err(NoFence { fence: 8 }));
+    looks_armed(&mut armed, rt);
     armed.release()
 }
 
@@ -67,8 +88,8 @@ fn fences_are_looked_at_while_buffers_are_held(rt: HostRuntime) -> Result<(), Fa
         panic!(rt; "no device")
     };
     let pass = submitted(&gpu, pass, first, 0, &rt, alloc);
-    let planned = looks_unarmed(begun(&gpu, pass, second, &rt, alloc), &rt);
-    let mut pass = looks_armed(planned, &rt);
+    let planned = planned_looking(begun(&gpu, pass, second, &rt, alloc), &rt);
+    let mut pass = armed_looking(planned, &rt);
     runs(&gpu, &mut pass, 0, 0, (0, 1), &rt);
     looks_while_it_reads(&gpu, pass, &rt, alloc);
     Ok(())
