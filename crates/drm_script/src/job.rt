@@ -294,16 +294,15 @@ fn add_item(draft: &mut Draft, position: Position, word: &[u8], kind: Kind) -> R
     Ok(())
 }
 
-fn add_words(draft: Draft, words: &mut Words) -> Result<Draft, ReadError>
-    ensures { Gives (λ d. d) result (with_words draft words.old.line words.old.rest.at words.old.rest.parts) }
+fn add_words(draft: &mut Draft, words: &mut Words) -> Result<(), ReadError>
+    ensures { Gives (λ _. draft.new) result (with_words draft.old words.old.line words.old.rest.at words.old.rest.parts) }
 {
-    let mut draft = draft;
     let mut position = words.position();
     while let Some(word) = words.next() {
-        add_word(&mut draft, position, word)?;
+        add_word(draft, position, word)?;
         position = words.position();
     }
-    Ok(draft)
+    Ok(())
 }
 
 /// A draft that declares nothing, waits for nothing and runs nothing.
@@ -326,8 +325,9 @@ pub fn read_job(alloc: Global, words: &mut Words) -> Result<Draft, ReadError>
 {
     let entity = words.number(u64::from(u32::MAX))?;
     let credits = words.number(65535)?;
-    let draft = bare_draft(alloc, entity as u32, credits as u16);
-    add_words(draft, words)
+    let mut draft = bare_draft(alloc, entity as u32, credits as u16);
+    add_words(&mut draft, words)?;
+    Ok(draft)
 }
 
 /// The draft as a job of the device.

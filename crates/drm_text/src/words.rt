@@ -122,6 +122,7 @@ impl<'a> Words<'a> {
     }
 
     /// A number of at most `most`, which ends the line.
+    #[inline]
     #[tactic(auto, unfolding(crate::specs::Words::last_number_at))]
     pub fn last_number(&mut self, most: u64) -> Result<u64, Fault>
         ensures value { Reads (λ n. n) result (last_number_at most self.old) }
@@ -134,6 +135,7 @@ impl<'a> Words<'a> {
     }
 
     /// The number of one of `count` things.
+    #[inline]
     #[tactic(auto, unfolding(crate::specs::Words::name_at))]
     pub fn name(&mut self, count: usize) -> Result<u32, Fault>
         ensures value { Reads (λ n. (n, self.new)) result (name_at count self.old) }
@@ -149,6 +151,7 @@ impl<'a> Words<'a> {
     }
 
     /// The number of one of `count` things, which ends the line.
+    #[inline]
     #[tactic(auto, unfolding(crate::specs::Words::last_name_at))]
     pub fn last_name(&mut self, count: usize) -> Result<u32, Fault>
         ensures value { Reads (λ n. n) result (last_name_at count self.old) }
@@ -161,6 +164,7 @@ impl<'a> Words<'a> {
     }
 
     /// That no word is left.
+    #[inline]
     #[tactic(auto, unfolding(crate::specs::Words::end_at))]
     pub fn end(&mut self) -> Result<(), Fault>
         ensures value { Reads (λ _. tt) result (end_at self.old) }
