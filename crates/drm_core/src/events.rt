@@ -10,7 +10,7 @@ use std::alloc::Global;
 
 impl CoreTable {
     /// One event. It names only what the device has.
-    #[inline]
+    #[inline(always)]
     pub(crate) fn apply(&mut self, alloc: Global, event: Event) -> Answer
         requires names { IsTrue (names_exist_in self.old.device.state.spec event) }
         requires core { IsCore self.old }

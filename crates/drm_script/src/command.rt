@@ -4,10 +4,12 @@ ghost use Rattle.std.specs.Prelude.{◌≡◌, ◌<◌, ◌≤◌, length, IfOk,
 ghost use Rattle.drm_core.specs.Names.{names_exist};
 ghost use Rattle.drm_text.specs.Reading.{Reads, Gives};
 ghost use Rattle.drm_script.specs.Kept.{event_of};
+ghost use Rattle.drm_script.specs.Job.{job_at};
 ghost use Rattle.drm_script.specs.Commands.{context_and_buffer_at, ring_and_moment_at, names_ring, names_context, command_of, event_at, event_line};
 
 use crate::job::read_job;
 use crate::kept::Kept;
+use drm_job::Draft;
 use drm_text::{Command, Fault, Keyword, Line, ReadError, Words, order_fault};
 use drm_types::{BufferId, CtxId, DeviceSpec, Moment, RingId};
 use std::alloc::Global;
@@ -98,6 +100,15 @@ fn read_context_event(spec: &DeviceSpec, command: Command, words: &mut Words) ->
     }
 }
 
+/// The job that the words left spell, in a place of its own. Few commands have one, so its room is not made for all.
+#[inline(never)]
+fn read_draft(alloc: Global, words: &mut Words) -> Result<Box<Draft>, ReadError>
+    ensures { Gives (λ draft. draft.value) result (job_at words.old) }
+{
+    let draft = read_job(alloc, words)?;
+    Ok(Box::new(alloc, draft)?)
+}
+
 #[tactic(auto, unfolding(crate::specs::Commands::event_at))]
 fn read_event(
     alloc: Global,
@@ -110,11 +121,11 @@ fn read_event(
 {
     match command {
         Command::Submit => Ok(Kept::Submit {
-            draft: Box::new(alloc, read_job(alloc, words)?)?,
+            draft: read_draft(alloc, words)?,
         }),
         Command::Plan => Ok(Kept::Plan {
             ctx: words.name(CONTEXTS)?,
-            draft: Box::new(alloc, read_job(alloc, words)?)?,
+            draft: read_draft(alloc, words)?,
         }),
         Command::Pick | Command::Step | Command::Finish | Command::Timeout => {
             Ok(read_ring_event(spec, command, words)?)

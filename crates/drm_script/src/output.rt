@@ -8,6 +8,7 @@ use std::io::{self, ErrorKind, Write};
 
 /// Writes all of the bytes, and tries again where a write was interrupted. It fails only before all are written: what
 /// was written then is a front of the bytes.
+#[inline(never)]
 pub fn put_all<W: Write>(writer: &mut W, bytes: &[u8]) -> io::Result<()>
     ensures ok { OnOk result (Appends (W.contents writer.old) (W.contents writer.new) bytes.now) }
     ensures err { OnErr result (AppendsFront (W.contents writer.old) (W.contents writer.new) bytes.now) }

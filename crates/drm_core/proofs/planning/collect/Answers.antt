@@ -1,4 +1,4 @@
-use Rattle.std.proofs.Common.{◌≡◌, ◌<◌, ◌∙◌, sym, subst, take, length, Some, slice_get}
+use Rattle.std.proofs.Common.{◌≡◌, ◌∙◌, sym, subst, take, Some, slice_get}
 use Rattle.std.proofs.lemmas.List.{take_all}
 use Rattle.drm_table.specs.Collected.{IsCollected}
 use Rattle.drm_core.specs.Planning.{declared_kept}
