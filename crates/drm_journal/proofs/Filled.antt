@@ -3,14 +3,11 @@ use Rattle.std.proofs.Common.{◌≡◌, ℕ, ◌+◌, Bool, true, false, List, 
 use Rattle.std.specs.Prelude.{not, nat_le, option_map, position}
 use Rattle.std.specs.List.{AllByRecursion, position_from}
 use Rattle.std.proofs.lemmas.Bool.{and_parts, leb-true}
-use Rattle.std.proofs.lemmas.Iterator.Adapters.{position_from-zero}
-use Rattle.drm_types.specs.declared.spec.BadSpec.{BadSpec}
 use Rattle.drm_types.specs.declared.spec.DeviceSpec.{DeviceSpec}
 use Rattle.drm_types.specs.declared.spec.EntitySpec.{EntitySpec}
-use Rattle.drm_types.specs.Limits.{is_between, are_rings, each, spec_fault}
+use Rattle.drm_types.specs.Limits.{is_between, are_rings, each, spec_fault, spec_tests}
 use Rattle.drm_text.specs.Grammar.{AreBytes}
-use Rattle.drm_types.proofs.Firsts.{none_at}
-use Rattle.drm_table.proofs.PickDone.{spec_tests}
+use Rattle.drm_types.proofs.Firsts.{none_at, each_passes}
 use Rattle.drm_script.specs.Grammar.{IsNumber, EntityFits}
 use Rattle.drm_journal.specs.JournalGrammar.{HasBytes}
 
@@ -18,26 +15,10 @@ use Rattle.drm_journal.specs.JournalGrammar.{HasBytes}
 abbrev IsSized : List ℕ → Type 0
 IsSized bytes = is_between 1 4096 (length bytes) ≡ true
 
-passed_over : {A : Type 0} (b : Bool) (a : A) (rest : Option A) → cond (not b) (Some a) rest ≡ None → (b ≡ true) × (rest ≡ None)
-passed_over true a rest is = (refl, is)
-passed_over false a rest is = absurd (cc (is))
-
--- where none fails, each list_all
-each_passes : {X : Type 0} (p : X → Bool) (n : ℕ) (xs : List X) → position_from (λ y. not (p y)) n xs ≡ None → AllByRecursion (λ x. p x ≡ true) xs
-each_passes p n [] none = tt
-each_passes p n (x ∷ xs) none =
-    let h = passed_over (p x) n (position_from (λ z. not (p z)) (n + 1) xs) none in (h.0, each_passes p (n + 1) xs h.1)
-
-no_place : (f : ℕ → BadSpec) (o : Option ℕ) → option_map f o ≡ None → o ≡ None
-no_place f None is = refl
-no_place f (Some i) is = absurd (cc (is))
-
 pub buffers_sized : (spec : DeviceSpec) → spec_fault spec ≡ None → AllByRecursion IsSized spec.buffers
 buffers_sized spec none =
-    each_passes (λ (bytes : List ℕ). is_between 1 4096 (length bytes)) 0 spec.buffers
-    (sym (position_from-zero (λ (bytes : List ℕ). not (is_between 1 4096 (length bytes))) spec.buffers)
-    ∙ no_place (λ i. record { part = 1; index = i }) (position (λ (bytes : List ℕ). not (is_between 1 4096 (length bytes))) spec.buffers)
-    (none_at (spec_tests spec) 1 (each 1 (λ bytes. is_between 1 4096 (length bytes)) spec.buffers) none refl))
+    each_passes (λ (bytes : List ℕ). is_between 1 4096 (length bytes)) spec.buffers (λ i. record { part = 1; index = i })
+    (none_at (spec_tests spec) 1 (each 1 (λ bytes. is_between 1 4096 (length bytes)) spec.buffers) none refl)
 
 -- the list of an entity's rings is one for so many rings
 abbrev IsListed : ℕ → EntitySpec → Type 0
@@ -46,10 +27,8 @@ IsListed count entity = are_rings count entity.rings ≡ true
 pub rings_listed : (spec : DeviceSpec) → spec_fault spec ≡ None → AllByRecursion (IsListed (length spec.rings)) spec.entities
 rings_listed spec none =
     let listed : EntitySpec → Bool = λ entity. are_rings (length spec.rings) entity.rings in
-    each_passes listed 0 spec.entities
-    (sym (position_from-zero (λ (entity : EntitySpec). not (listed entity)) spec.entities)
-    ∙ no_place (λ i. record { part = 7; index = i }) (position (λ (entity : EntitySpec). not (listed entity)) spec.entities)
-    (none_at (spec_tests spec) 7 (each 7 listed spec.entities) none refl))
+    each_passes listed spec.entities (λ i. record { part = 7; index = i })
+    (none_at (spec_tests spec) 7 (each 7 listed spec.entities) none refl)
 
 -- so each lists one ring or more
 pub entities_fit : (count : ℕ) (es : List EntitySpec) → AllByRecursion (IsListed count) es → AllByRecursion (λ entity. AllByRecursion IsNumber entity.rings) es

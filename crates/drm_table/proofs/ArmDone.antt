@@ -11,7 +11,7 @@ use Rattle.std.proofs.lemmas.List.Elements.{All-weaker}
 use Rattle.drm_types.specs.declared.spec.DeviceSpec.{DeviceSpec}
 use Rattle.drm_types.specs.declared.spec.EntitySpec.{EntitySpec}
 use Rattle.drm_types.specs.Firsts.{when, first}
-use Rattle.drm_types.specs.Limits.{spec_fault, whole, is_between}
+use Rattle.drm_types.specs.Limits.{spec_fault, spec_tests, whole, is_between}
 use Rattle.drm_job.specs.declared.Draft.{Draft}
 use Rattle.drm_job.specs.declared.JobFault.TheVariants.{NoEntity}
 use Rattle.drm_job.specs.Conflicts.{conflicts}
@@ -36,7 +36,7 @@ use Rattle.drm_table.specs.Loads.{LoadsOf}
 use Rattle.drm_table.specs.Tables.{state_of, fence_state_of, IsWhole}
 use Rattle.drm_table.specs.Plans.{MeetsPlan, DepsCover, all_named, entity_at}
 use Rattle.drm_table.proofs.PickLawful.{get_push_cases}
-use Rattle.drm_table.proofs.PickDone.{spec_tests, rings_there}
+use Rattle.drm_table.proofs.PickDone.{rings_there}
 use Rattle.drm_table.proofs.Homes.{arming_listed, listed_there}
 use Rattle.drm_table.proofs.LoadsKept.{loads_armed}
 use Rattle.drm_table.proofs.ArmLawful.{arm_steady, get_before_push}

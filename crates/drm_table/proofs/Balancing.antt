@@ -5,7 +5,7 @@ use Rattle.std.proofs.lemmas.Option.{slice_get_within, slice_get-get_or}
 use Rattle.std.proofs.lemmas.List.{length-map, drop_more}
 use Rattle.std.proofs.lemmas.Bool.{both_ways, and_parts, and_from, cases_lt, eqb-true, eq-eqb, leb-true}
 use Rattle.drm_types.specs.declared.spec.DeviceSpec.{DeviceSpec}
-use Rattle.drm_types.specs.Limits.{spec_fault, whole, is_between}
+use Rattle.drm_types.specs.Limits.{spec_fault, spec_tests, whole, is_between}
 use Rattle.drm_types.proofs.Firsts.{none_at, none_when}
 use Rattle.drm_fence.specs.Phases.{has_ended}
 use Rattle.drm_table.specs.declared.journal.JobRecord.{JobRecord}
@@ -16,7 +16,6 @@ use Rattle.drm_table.specs.Tables.{state_of, IsWhole}
 use Rattle.drm_table.proofs.Records.{to_map, stands_within}
 use Rattle.drm_table.proofs.Pairs.{find_first}
 use Rattle.drm_table.proofs.Pending.{contains_at}
-use Rattle.drm_table.proofs.PickDone.{spec_tests}
 use Rattle.drm_table.proofs.ArmDone.{ring_of_entity_there}
 use Rattle.drm_table.proofs.Homes.{one_ring, none_passes}
 use Rattle.drm_table.proofs.LoadsKept.{load_is, few_live, few_ended}

@@ -4,21 +4,18 @@ use Rattle.std.specs.declared.alloc.Global.{Global}
 use Rattle.std.specs.Prelude.{vec_capacity, Vec, sum_by, position, nat_lt, nat_le, option_map, ◌||◌, ◌==◌, IfSome, IfNone}
 use Rattle.std.specs.Option.{option_map_or}
 use Rattle.std.specs.Vec.{with_item}
-use Rattle.std.specs.List.{position_from}
-use Rattle.std.proofs.lemmas.Iterator.Adapters.{position_from-zero}
 use Rattle.std.proofs.lemmas.Option.{slice_get_within, slice_get-get_or}
 use Rattle.std.proofs.lemmas.List.Sums.{sum_by-cons}
 use Rattle.std.proofs.lemmas.Bool.{cases_Bool, and_parts, leb-true, ltb-false, ltb-true, lt-ltb, eqb-false}
 use Rattle.drm_types.specs.declared.spec.DeviceSpec.{DeviceSpec}
 use Rattle.drm_types.specs.declared.spec.RingSpec.{RingSpec}
 use Rattle.drm_types.specs.declared.spec.EntitySpec.{EntitySpec}
-use Rattle.drm_types.specs.declared.spec.BadSpec.{BadSpec}
 use Rattle.drm_types.specs.Firsts.{when}
-use Rattle.drm_types.specs.Limits.{spec_fault, whole, each, is_between, are_rings}
+use Rattle.drm_types.specs.Limits.{spec_fault, spec_tests, each, is_between, are_rings}
 use Rattle.drm_job.specs.declared.Draft.{Draft}
 use Rattle.drm_job.specs.declared.JobFault.TheVariants.{NoCredits}
 use Rattle.drm_job.specs.Fault.{job_tests, IsJob}
-use Rattle.drm_types.proofs.Firsts.{none_at}
+use Rattle.drm_types.proofs.Firsts.{none_at, passes_at}
 use Rattle.drm_fence.specs.declared.phase.Phase.TheVariants.{Scheduled}
 use Rattle.drm_fence.specs.Fences.{Fences}
 use Rattle.drm_fence.specs.Phases.{is_queued}
@@ -52,40 +49,6 @@ use Rattle.drm_table.specs.State.{RingState}
 use Rattle.std.specs.VecDeque.{deque_capacity, deque_len}
 use Rattle.drm_ring.specs.Counted.{need_of}
 
--- a choice of which none is taken was not the first
-passed_over : {A : Type 0} (b : Bool) (a : A) (rest : Option A) → cond (not b) (Some a) rest ≡ None → (b ≡ true) × (rest ≡ None)
-passed_over true a rest is = (refl, is)
-passed_over false a rest is = absurd (cc (is))
-
--- where none is bad, each is good
-none_bad : {X : Type 0} (p : X → Bool) (n : ℕ) (xs : List X) (k : ℕ) (x : X) → position_from (λ y. not (p y)) n xs ≡ None → slice_get xs k ≡ Some x → p x ≡ true
-none_bad p n [] k x none at = absurd (cc (at))
-none_bad p n (y ∷ xs) zero x none at =
-    let same : y ≡ x = cc (at) in ap p (sym same) ∙ (passed_over (p y) n (position_from (λ z. not (p z)) (n + 1) xs) none).0
-none_bad p n (y ∷ xs) (suc k) x none at =
-    none_bad p (n + 1) xs k x (passed_over (p y) n (position_from (λ z. not (p z)) (n + 1) xs) none).1 at
-
--- what is tested of a description, in order
-abbrev pub spec_tests : DeviceSpec → List (Option BadSpec)
-spec_tests spec =
-    whole 0 (is_between 1 64 (length spec.buffers))
-    ∷ each 1 (λ bytes. is_between 1 4096 (length bytes)) spec.buffers
-    ∷ whole 2 (is_between 1 8 (length spec.rings))
-    ∷ each 3 (λ ring. is_between 1 65535 ring.credit_limit) spec.rings
-    ∷ each 4 (λ ring. is_between 1 4294967295 ring.timeout) spec.rings
-    ∷ each 5 (λ ring. is_between 0 1000 ring.hang_limit) spec.rings
-    ∷ whole 6 (is_between 1 64 (length spec.entities))
-    ∷ each 7 (λ entity. are_rings (length spec.rings) entity.rings) spec.entities
-    ∷ whole 8 (is_between 1 65535 spec.max_jobs)
-    ∷ []
-
-no_place : (f : ℕ → BadSpec) (o : Option ℕ) → option_map f o ≡ None → o ≡ None
-no_place f None is = refl
-no_place f (Some i) is = absurd (cc (is))
-
-position_from-zero-none : {X : Type 0} (p : X → Bool) (xs : List X) → position p xs ≡ None → position_from p 0 xs ≡ None
-position_from-zero-none p xs is = sym (position_from-zero p xs) ∙ is
-
 -- a ring of a device has a credit at least
 pub some_limit : (spec : DeviceSpec) (ring : ℕ) → spec_fault spec ≡ None → ring < length spec.rings → 0 < option_map_or (λ (r : RingSpec). r.credit_limit) (slice_get spec.rings ring) 0
 some_limit spec ring none there =
@@ -93,10 +56,8 @@ some_limit spec ring none there =
     let r = get_or spec.rings ring blank in
     let at = slice_get-get_or spec.rings ring blank there in
     let passes : is_between 1 65535 r.credit_limit ≡ true =
-    none_bad (λ (x : RingSpec). is_between 1 65535 x.credit_limit) 0 spec.rings ring r
-    (position_from-zero-none (λ (x : RingSpec). not (is_between 1 65535 x.credit_limit)) spec.rings
-    (no_place (λ i. record { part = 3; index = i }) (position (λ (x : RingSpec). not (is_between 1 65535 x.credit_limit)) spec.rings)
-    (none_at (spec_tests spec) 3 (each 3 (λ ring. is_between 1 65535 ring.credit_limit) spec.rings) none refl))) at in
+    passes_at (λ (x : RingSpec). is_between 1 65535 x.credit_limit) spec.rings (λ i. record { part = 3; index = i }) ring r
+    (none_at (spec_tests spec) 3 (each 3 (λ ring. is_between 1 65535 ring.credit_limit) spec.rings) none refl) at in
     let least = leb-true 1 r.credit_limit (and_parts (nat_le 1 r.credit_limit) (nat_le r.credit_limit 65535) passes).0 in
     subst (λ o. 0 < option_map_or (λ (x : RingSpec). x.credit_limit) o 0) (sym at) least
 
@@ -105,10 +66,8 @@ pub rings_there : (spec : DeviceSpec) (entity : ℕ) (e : EntitySpec) → spec_f
     → are_rings (length spec.rings) e.rings ≡ true
 rings_there spec entity e none at =
     let is_there : EntitySpec → Bool = λ x. are_rings (length spec.rings) x.rings in
-    (none_bad is_there 0 spec.entities entity e
-    (position_from-zero-none (λ x. not (is_there x)) spec.entities
-    (no_place (λ i. record { part = 7; index = i }) (position (λ x. not (is_there x)) spec.entities)
-    (none_at (spec_tests spec) 7 (each 7 is_there spec.entities) none refl))) at)
+    passes_at is_there spec.entities (λ i. record { part = 7; index = i }) entity e
+    (none_at (spec_tests spec) 7 (each 7 is_there spec.entities) none refl) at
 
 -- a job counts a credit at least
 pub some_credits : (spec : DeviceSpec) (job : Draft) → IsJob spec job → 0 < job.credits

@@ -1,8 +1,9 @@
 -- Tests of which none finds a fault, and the first element that passes a test.
-use Rattle.std.proofs.Common.{◌≡◌, ℕ, zero, suc, Bool, true, false, not, cond, List, [], ◌∷◌, Some, None, Option, refl, sym, ap, ◌∙◌, slice_get, arith}
-use Rattle.std.specs.Prelude.{Contains, find, option_map}
-use Rattle.std.specs.List.{AllByRecursion}
-use Rattle.drm_types.specs.Firsts.{when, first_of}
+use Rattle.std.proofs.Common.{◌≡◌, ℕ, zero, suc, ◌+◌, Bool, true, false, not, cond, List, [], ◌∷◌, Some, None, Option, refl, sym, ap, ◌∙◌, slice_get, arith}
+use Rattle.std.specs.Prelude.{Contains, find, option_map, position}
+use Rattle.std.specs.List.{AllByRecursion, position_from}
+use Rattle.std.proofs.lemmas.Iterator.Adapters.{position_from-zero}
+use Rattle.drm_types.specs.Firsts.{when, first_of, first_failing}
 
 -- where no test finds a fault, the first and the others find none
 pub none_first : {F : Type 0} (o : Option F) (rest : List (Option F)) → first_of (o ∷ rest) ≡ None → (o ≡ None) × (first_of rest ≡ None)
@@ -43,6 +44,30 @@ false_where false fault e = refl
 pub none_of_map : {X F : Type 0} (f : X → F) (o : Option X) → option_map f o ≡ None → o ≡ None
 none_of_map f None e = refl
 none_of_map f (Some x) e = absurd (cc (e))
+
+-- where no place is found behind n, each passes
+passes_from : {X : Type 0} (p : X → Bool) (n : ℕ) (xs : List X) → position_from (λ x. not (p x)) n xs ≡ None → AllByRecursion (λ x. p x ≡ true) xs
+passes_from p n [] none = tt
+passes_from p n (x ∷ xs) none =
+    elim (p x) as (λ b. cond (not b) (Some n) (position_from (λ y. not (p y)) (n + 1) xs) ≡ None → (b ≡ true) × AllByRecursion (λ y. p y ≡ true) xs) [
+      | true ↦ λ rest. (refl, passes_from p (n + 1) xs rest)
+      | false ↦ λ found. absurd (cc (found))
+    ] none
+
+-- where no element fails a test, each passes it
+pub each_passes : {X F : Type 0} (p : X → Bool) (xs : List X) (fault : ℕ → F) → first_failing p xs fault ≡ None → AllByRecursion (λ x. p x ≡ true) xs
+each_passes p xs fault none =
+    passes_from p 0 xs (sym (position_from-zero (λ x. not (p x)) xs) ∙ none_of_map fault (position (λ x. not (p x)) xs) none)
+
+-- what each passes, the one at a place passes
+all_at : {X : Type 0} (p : X → Bool) (xs : List X) (k : ℕ) (x : X) → AllByRecursion (λ y. p y ≡ true) xs → slice_get xs k ≡ Some x → p x ≡ true
+all_at p [] k x pass at = absurd (cc (at))
+all_at p (y ∷ ys) zero x pass at = let same : y ≡ x = cc (at) in ap p (sym same) ∙ pass.0
+all_at p (y ∷ ys) (suc k) x pass at = all_at p ys k x pass.1 at
+
+-- so does the one at a place
+pub passes_at : {X F : Type 0} (p : X → Bool) (xs : List X) (fault : ℕ → F) (k : ℕ) (x : X) → first_failing p xs fault ≡ None → slice_get xs k ≡ Some x → p x ≡ true
+passes_at p xs fault k x none at = all_at p xs k x (each_passes p xs fault none) at
 
 -- where nothing is found, no element passes the test
 pub none_found : {X : Type 0} (p : X → Bool) (xs : List X) → find p xs ≡ None → AllByRecursion (λ x. p x ≡ false) xs
