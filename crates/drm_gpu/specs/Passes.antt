@@ -2,7 +2,7 @@
 use Rattle.std.specs.Prelude.{◌≡◌, ◌||◌, ℕ, Bool, false, List, [], ◌∷◌, ◌++◌, Option, Some, None, IsPermutation}
 use Rattle.atomic_table.specs.Seated.{TableId}
 use Rattle.ww_lock.specs.declared.board.View.{View}
-use Rattle.ww_lock.specs.declared.lifetime.Seat.{Seat}
+use Rattle.ww_lock.specs.declared.seat.Seat.{Seat}
 use Rattle.ww_lock.specs.Begun.{IsIdle, IsOutside, IsInside, sees}
 use Rattle.ww_lock.specs.Fences.{NotBack}
 use Rattle.ww_lock.specs.Rule.{In}

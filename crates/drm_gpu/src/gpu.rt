@@ -15,12 +15,14 @@ use drm_sched::{BuildError, Device, JobRecord};
 use drm_types::{DeviceSpec, RingId, Sequence};
 use std::alloc::{AllocError, Global};
 use std::marker::Model;
-use ww_lock::{Board, Inside};
+use ww_lock::{Board, Inside, WaitQueue};
 
 /// A device that threads share by reference (`drm_device`).
 #[derive(Drop)]
 pub struct Gpu {
     pub(crate) board: Board<Driver>,
+    // Who waits for a packet that is out.
+    pub(crate) packets: WaitQueue,
 }
 
 impl Model for Gpu {
@@ -103,7 +105,13 @@ impl Gpu {
             return Err(BuildError::Memory);
         };
         match Board::new(alloc, device, values, fences) {
-            Ok((board, seat)) => Ok((Gpu { board }, Pass { seat })),
+            Ok((board, seat)) => Ok((
+                Gpu {
+                    board,
+                    packets: WaitQueue::new(),
+                },
+                Pass { seat },
+            )),
             Err(AllocError) => Err(BuildError::Memory),
         }
     }
@@ -145,7 +153,7 @@ impl Gpu {
         let Ok(mut resvs) = Vec::with_capacity(alloc, self.board.buffers() as usize) else {
             return Err(CloseError::Memory(self, pass));
         };
-        let Gpu { board } = self;
+        let Gpu { board, packets: _ } = self;
         let Pass { seat } = pass;
         let device = match board.close(seat, &mut resvs) {
             Ok(device) => device,

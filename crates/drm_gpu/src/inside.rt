@@ -92,7 +92,7 @@ impl Gpu {
         self.board.enter(seat, rt)
     }
 
-    // Brings the device home with the packet that the caller had out.
+    // Brings the device home with the packet that the caller had out, and wakes who waits for one.
     pub(crate) fn leave_reported(
         &self,
         seat: &mut DeviceSeat,
@@ -111,6 +111,7 @@ impl Gpu {
     {
         let _waiting = task;
         self.board.leave(seat, device, &TaskChange::Ends, true);
+        self.packets.wake_all();
     }
 
     // Shows a fence, and then brings the device home.

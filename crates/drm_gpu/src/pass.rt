@@ -15,8 +15,8 @@ pub struct NoFence {
     pub fence: FenceId,
 }
 
-/// A pass to a device, for one caller (an open file of a `drm_device`). It has no bytes; contracts see what the caller
-/// knows of the device.
+/// A pass to a device, for one caller (an open file of a `drm_device`). Contracts see what the caller knows of the device;
+/// its only bytes are the emptied list of what its last submission held.
 #[derive(Drop)]
 pub struct Pass {
     pub(crate) seat: DeviceSeat,

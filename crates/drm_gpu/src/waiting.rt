@@ -10,11 +10,11 @@ ghost use Rattle.drm_gpu.specs.Submissions.{EnteredWith, Fitting, Holding, IsSam
 use crate::gpu::Gpu;
 use crate::locking::DeviceAcquire;
 use crate::pass::DeviceSeat;
-use crossbeam_utils::Backoff;
 use drm_sched::Device;
 use drm_types::{BufferId, RingId};
 use std::snapshot::Snapshot;
 use std::sync::Wait;
+use ww_lock::WaitEntry;
 
 /// What a caller needs to be at home.
 #[derive(Drop)]
@@ -71,12 +71,13 @@ impl Gpu {
         ensures free { is_kept needs.now result ≡ false }
         ensures same { IsSameBut (sees seat.old) (sees seat.new) }
     {
-        let backoff = Backoff::new();
+        let mut entry = WaitEntry::new();
         for _ in rt.forever() {
+            self.packets.prepare(&mut entry);
             if let Some(device) = self.try_enter(seat, needs, rt) {
                 return device;
             }
-            backoff.snooze();
+            self.packets.sleep(&mut entry, rt);
         }
         unreachable!()
     }
@@ -118,12 +119,13 @@ impl Gpu {
         ensures free { is_kept needs.now result ≡ false }
         ensures same { IsSameHolder acquire.old acquire.new × IsSameBut (view acquire.old) (view acquire.new) }
     {
-        let backoff = Backoff::new();
+        let mut entry = WaitEntry::new();
         for _ in rt.forever() {
+            self.packets.prepare(&mut entry);
             if let Some(device) = self.try_enter_with(acquire, needs, rt) {
                 return device;
             }
-            backoff.snooze();
+            self.packets.sleep(&mut entry, rt);
         }
         unreachable!()
     }

@@ -12,7 +12,7 @@ use Rattle.ww_lock.specs.declared.board.View.{View}
 use Rattle.ww_lock.specs.Steps.{with_release, with_ticket, without}
 use Rattle.ww_lock.specs.Held.{IsApart, Lacks}
 use Rattle.ww_lock.specs.Acquiring.{HoldsOutside, IsReady, IsSameAcquire, Claimed, AnswersTry, view}
-use Rattle.ww_lock.specs.declared.lifetime.Seat.{Seat}
+use Rattle.ww_lock.specs.declared.seat.Seat.{Seat}
 use Rattle.ww_lock.specs.Begun.{IsOutside, IsIdle, GivesBack, seat_back, sees}
 use Rattle.ww_lock.specs.declared.begin.BeginError.{BeginError}
 use Rattle.ww_lock.specs.declared.begin.BeginError.TheVariants.{Memory, TicketsOut}

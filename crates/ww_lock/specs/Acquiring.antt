@@ -11,7 +11,7 @@ use Rattle.ww_lock.specs.declared.locks.LockError.TheVariants.{Backoff}
 use Rattle.ww_lock.specs.declared.locks.LockError.TheVariants as lock
 use Rattle.ww_lock.specs.declared.board.Slot.TheVariants.{Gone}
 use Rattle.ww_lock.specs.Rule.{In}
-use Rattle.ww_lock.specs.declared.lifetime.Seat.{Seat}
+use Rattle.ww_lock.specs.declared.seat.Seat.{Seat}
 use Rattle.ww_lock.specs.Steps.{HasSeen, with_claim, with_met, with_mets}
 use Rattle.ww_lock.specs.Held.{IsSameKeys, IsApart, Lacks, HasAt, emptied}
 

@@ -2,7 +2,7 @@
 use Rattle.std.specs.Prelude.{◌≡◌, ℕ, List, [], ◌∷◌, ◌++◌, true, false, None, IsPermutation}
 use Rattle.ww_lock.specs.declared.board.Slot.TheVariants.{Gone}
 use Rattle.atomic_table.specs.Seated.{TableId}
-use Rattle.ww_lock.specs.declared.lifetime.Seat.{Seat}
+use Rattle.ww_lock.specs.declared.seat.Seat.{Seat}
 use Rattle.ww_lock.specs.declared.board.View.{View}
 use Rattle.ww_lock.specs.Rule.{In}
 use Rattle.ww_lock.specs.Steps.{IsChain, HasSeen, joined, with_end}

@@ -11,7 +11,7 @@ ghost use mathlib.Core.Option.{some};
 ghost use lib.ListN.{get_elem?};
 
 use crate::board::Place;
-use crate::lifetime::Seat;
+use crate::seat::Seat;
 use drm_types::{BufferId, Ticket};
 use std::mem;
 
@@ -112,9 +112,9 @@ impl<P, X: Drop, T> Acquire<P, X, T> {
             place,
             ticket: _,
             sealed: _,
-            held: _,
+            held,
         } = self;
-        Seat { place }
+        Seat { place, spare: held }
     }
 
     /// Puts back what was taken out, for the same buffers in the same order.

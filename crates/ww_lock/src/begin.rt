@@ -1,5 +1,5 @@
 //! How a seat draws a ticket.
-ghost use Rattle.std.specs.Prelude.{◌≡◌, ◌<◌, ◌^◌, [], false, None, MatchResult, IfOk, IfErr};
+ghost use Rattle.std.specs.Prelude.{◌≡◌, ◌<◌, ◌≤◌, ◌^◌, [], false, None, MatchResult, OnOk, IfOk, IfErr, vec_capacity};
 ghost use Rattle.ww_lock.specs.Acquiring.{HoldsOutside, IsReady, caller_id, view};
 ghost use Rattle.ww_lock.specs.Begun.{IsOutside, IsIdle, GivesBack, seat_back, seat_id, sees};
 ghost use Rattle.ww_lock.specs.Boards.{table_of};
@@ -7,7 +7,7 @@ ghost use Rattle.ww_lock.specs.Steps.{with_ticket, IsNext};
 
 use crate::acquire::Acquire;
 use crate::board::Board;
-use crate::lifetime::Seat;
+use crate::seat::Seat;
 use crate::steps::{draw, exhaust};
 use crate::ward::Ward;
 use std::alloc::{AllocError, Global};
@@ -22,9 +22,22 @@ pub enum BeginError<P: Drop, X: Drop, T: Drop> {
     TicketsOut(Seat<P, X, T>),
 }
 
+impl<P, X: Drop, T> Seat<P, X, T> {
+    // Room for so many values, in the list that is there or in a new one.
+    fn take_room(&mut self, alloc: Global, count: usize) -> Result<(), AllocError>
+        ensures same { self.new.place ≡ self.old.place }
+        ensures room { OnOk result (count ≤ vec_capacity self.new.spare) }
+    {
+        if self.spare.capacity() < count {
+            self.spare = Vec::with_capacity(alloc, count)?;
+        }
+        Ok(())
+    }
+}
+
 impl<W: Ward> Board<W> {
-    /// Draws the next ticket (`ww_acquire_init`), with room for every value of the board taken before. It is above each
-    /// ticket that the seat knows of.
+    /// Draws the next ticket (`ww_acquire_init`), with room for every value of the board taken before: that of the seat's
+    /// last ticket, or at first memory. It is above each ticket that the seat knows of.
     pub fn begin<R: Wait>(
         &self,
         seat: Seat<W::Pivot, W::Value, W::Task>,
@@ -41,15 +54,19 @@ impl<W: Ward> Board<W> {
         ensures refused { IfErr result (λ e. GivesBack seat e) }
         ensures idle { IfErr result (λ e. (sees seat).task ≡ None → IsIdle (table_of self.now) (seat_back e)) }
     {
-        let Ok(held) = Vec::with_capacity(alloc, self.buffers as usize) else {
+        let mut seat = seat;
+        if let Err(AllocError) = seat.take_room(alloc, self.buffers as usize) {
             return Err(BeginError::Memory(seat));
-        };
-        let Seat { mut place } = seat;
+        }
+        let Seat {
+            mut place,
+            spare: held,
+        } = seat;
         for _ in rt.forever() {
             let next = self.table.shared.peek(0);
             if next >= 1 << 63 {
                 if exhaust(&self.table.shared, &mut place) == 1 << 63 {
-                    return Err(BeginError::TicketsOut(Seat { place }));
+                    return Err(BeginError::TicketsOut(Seat { place, spare: held }));
                 }
                 continue;
             }

@@ -5,6 +5,7 @@
 ghost use Rattle.std.specs.Prelude.{◌≡◌, ◌+◌, ◌≤◌};
 
 use crate::sleepers::Sleepers;
+use crate::wait_queue::WaitQueue;
 use crate::ward::Ward;
 use atomic_table::{Seat, Table, TableRule};
 use drm_types::BufferId;
@@ -137,8 +138,10 @@ pub struct Board<W: Ward> {
     pub(crate) buffers: u32,
     // How many fence words.
     pub(crate) posts: u32,
-    // Who waits for a word.
+    // Who waits for a value.
     pub(crate) sleepers: Sleepers,
+    // Who waits for the pivot.
+    pub(crate) waiters: WaitQueue,
     // For the list of a caller that holds nothing, which takes no memory.
     pub(crate) alloc: Global,
     ghost sized: { (table.shared.table_id.words ≡ buffers + 2 + posts) × (table.shared.key.posts ≡ posts) × (table.shared.table_id.slots ≡ buffers + 1) × (buffers ≤ 64) },

@@ -1,7 +1,7 @@
 //! What of a board may cross threads.
 ghost use denote.Param.Send.{IsSend, IsSync};
 ghost use Rattle.ww_lock.specs.contracts.board.Board as BoardRow;
-ghost use Rattle.ww_lock.specs.contracts.lifetime.Seat as SeatRow;
+ghost use Rattle.ww_lock.specs.contracts.seat.Seat as SeatRow;
 
 use crate::board::Board;
 use crate::ward::Ward;

@@ -1,6 +1,6 @@
 //! How seats are split and joined, how a caller takes the pivot and brings it home, and how fence words are shown and
 //! read.
-ghost use Rattle.std.specs.Prelude.{◌≡◌, ◌≢◌, ◌<◌, ◌+◌, ℕ, List, [], ◌∷◌, true, false, Option, Some, None};
+ghost use Rattle.std.specs.Prelude.{◌≡◌, ◌≢◌, ◌<◌, ◌+◌, ℕ, List, [], ◌∷◌, true, false, Option, Some, None, MatchOption, IfSome};
 ghost use Rattle.atomic_table.specs.Table.{rest};
 ghost use Rattle.ww_lock.specs.Boards.{table_of};
 ghost use Rattle.ww_lock.specs.Fences.{NotBack};
@@ -14,19 +14,43 @@ ghost use Rattle.ww_lock.specs.declared.board.Slot.TheVariants.{Gone};
 
 use crate::acquire::Acquire;
 use crate::board::{Board, Place, Slot, TaskChange};
-use crate::lifetime::Seat;
-use crate::sleepers::Sleepers;
+use crate::seat::Seat;
 use crate::steps::{SharedTable, enter, join, leave, look, post, read_back, settle, split};
+use crate::wait_queue::{WaitEntry, WaitQueue};
 use crate::ward::Ward;
-use crossbeam_utils::Backoff;
 use drm_types::{BufferId, FenceId};
 use std::snapshot::Snapshot;
 use std::sync::Wait;
 
-// Waits until the pivot is at home, and takes it.
-fn take_pivot<W: Ward, R: Wait>(
+// Takes the pivot, if it is at home.
+fn try_pivot<W: Ward>(
     shared: &SharedTable<W>,
-    sleepers: &Sleepers,
+    place: &mut Place<W::Pivot, W::Value, W::Task>,
+) -> Option<W::Pivot>
+    requires { (place.old.table_id ≡ shared.now.table_id) × (1 < shared.now.table_id.words) × HasSeen place.old.me.0 }
+    ensures seat { (place.new.table_id ≡ place.old.table_id) × (place.new.id ≡ place.old.id) }
+    ensures entered { MatchOption result (place.new.me ≡ place.old.me) (λ p. place.new.me ≡ (with_entry p place.old.me.0, (0, Gone) ∷ place.old.me.1)) }
+    ensures later { IfSome result (IsLater W.good W.grows W.posted W.busy place.old.me.0) }
+    ensures fits { IfSome result (λ p. (b : ℕ) (x : W.Value) → In (b, x) place.old.me.0.lock.owes → W.fits b p x) }
+{
+    if shared.peek(1) != 0 {
+        return None;
+    }
+    let was_home = enter(shared, place) == 0;
+    if !was_home {
+        return None;
+    }
+    let Slot::Pivot(pivot) = shared.exchange(place, 0, Slot::Gone) else {
+        unreachable!()
+    };
+    Some(pivot)
+}
+
+// Takes the pivot once it is at home again.
+#[inline(never)]
+fn wait_for_pivot<W: Ward, R: Wait>(
+    shared: &SharedTable<W>,
+    waiters: &WaitQueue,
     place: &mut Place<W::Pivot, W::Value, W::Task>,
     rt: &R,
 ) -> W::Pivot
@@ -36,18 +60,34 @@ fn take_pivot<W: Ward, R: Wait>(
     ensures later { IsLater W.good W.grows W.posted W.busy place.old.me.0 result }
     ensures fits { (b : ℕ) (x : W.Value) → In (b, x) place.old.me.0.lock.owes → W.fits b result x }
 {
-    let backoff = Backoff::new();
+    let mut entry = WaitEntry::new();
     for _ in rt.forever() {
-        let was_home = enter(shared, place) == 0;
-        if was_home {
-            let Slot::Pivot(pivot) = shared.exchange(place, 0, Slot::Gone) else {
-                unreachable!()
-            };
+        waiters.prepare(&mut entry);
+        if let Some(pivot) = try_pivot(shared, place) {
             return pivot;
         }
-        sleepers.pause(shared, &backoff, 1, 1, rt);
+        waiters.sleep(&mut entry, rt);
     }
     unreachable!()
+}
+
+// Waits until the pivot is at home, and takes it.
+fn take_pivot<W: Ward, R: Wait>(
+    shared: &SharedTable<W>,
+    waiters: &WaitQueue,
+    place: &mut Place<W::Pivot, W::Value, W::Task>,
+    rt: &R,
+) -> W::Pivot
+    requires { (place.old.table_id ≡ shared.now.table_id) × (1 < shared.now.table_id.words) × HasSeen place.old.me.0 }
+    ensures seat { (place.new.table_id ≡ place.old.table_id) × (place.new.id ≡ place.old.id) }
+    ensures entered { place.new.me ≡ (with_entry result place.old.me.0, (0, Gone) ∷ place.old.me.1) }
+    ensures later { IsLater W.good W.grows W.posted W.busy place.old.me.0 result }
+    ensures fits { (b : ℕ) (x : W.Value) → In (b, x) place.old.me.0.lock.owes → W.fits b result x }
+{
+    match try_pivot(shared, place) {
+        Some(pivot) => pivot,
+        None => wait_for_pivot(shared, waiters, place, rt),
+    }
 }
 
 // Brings the pivot home. What is held is owed from now on.
@@ -106,9 +146,13 @@ impl<W: Ward> Board<W> {
         ensures right { IsIdle (table_of self.now) result.1 }
         ensures views { (sees result.0 ≡ left_half (sees seat)) × (sees result.1 ≡ right_half (sees seat)) }
     {
-        let Seat { mut place } = seat;
+        let Seat { mut place, spare } = seat;
         let other = split(&self.table.shared, &mut place);
-        (Seat { place }, Seat { place: other })
+        let second = Seat {
+            place: other,
+            spare: Vec::new(self.alloc),
+        };
+        (Seat { place, spare }, second)
     }
 
     /// Makes one seat of two. The calls of both stand in one order, in which each was left before the next was found.
@@ -122,11 +166,14 @@ impl<W: Ward> Board<W> {
         ensures seat { IsIdle (table_of self.now) result }
         ensures view { IsJoined W.grows (sees one) (sees other) (sees result) }
     {
-        let Seat { mut place } = one;
-        let Seat { place: second } = other;
+        let Seat { mut place, spare } = one;
+        let Seat {
+            place: second,
+            spare: _,
+        } = other;
         join(&self.table.shared, &mut place, second);
         settle(&self.table.shared, &mut place);
-        Seat { place }
+        Seat { place, spare }
     }
 
     /// Waits until the pivot is at home, and takes it. Nobody else has it until the caller leaves.
@@ -136,7 +183,7 @@ impl<W: Ward> Board<W> {
         ensures view { sees seat.new ≡ with_entry result (sees seat.old) }
         ensures later { IsLater W.good W.grows W.posted W.busy (sees seat.old) result }
     {
-        take_pivot(&self.table.shared, &self.sleepers, &mut seat.place, rt)
+        take_pivot(&self.table.shared, &self.waiters, &mut seat.place, rt)
     }
 
     /// `enter` for a caller that holds values: each of them fits the pivot found, as it is owed.
@@ -152,7 +199,7 @@ impl<W: Ward> Board<W> {
         ensures later { IsLater W.good W.grows W.posted W.busy (view acquire.old) result }
         ensures fits { (b : ℕ) (x : W.Value) → In (b, x) (view acquire.old).lock.owes → W.fits b result x }
     {
-        take_pivot(&self.table.shared, &self.sleepers, &mut acquire.place, rt)
+        take_pivot(&self.table.shared, &self.waiters, &mut acquire.place, rt)
     }
 
     /// Brings the pivot home. `change` says whether a task begins or ends with this call, and `is_call` whether the
@@ -179,7 +226,7 @@ impl<W: Ward> Board<W> {
             change,
             is_call,
         );
-        self.sleepers.wake_one(&self.table.shared, 1);
+        self.waiters.wake_one();
     }
 
     /// `leave` for a caller that holds values. It owes them from now on as they are.
@@ -207,7 +254,7 @@ impl<W: Ward> Board<W> {
             change,
             is_call,
         );
-        self.sleepers.wake_one(&self.table.shared, 1);
+        self.waiters.wake_one();
     }
 
     /// The word of a fence, by one load: what the pivot shows for it, which is good, came of all that the seat has seen

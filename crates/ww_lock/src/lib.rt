@@ -16,13 +16,17 @@ mod inside;
 mod lifetime;
 mod locks;
 mod plays;
+mod seat;
 mod sleepers;
 mod steps;
+mod wait_queue;
 mod ward;
 
 pub use acquire::Acquire;
 pub use begin::BeginError;
 pub use board::{Announcement, Board, Rule, Slot, Start, TaskChange, View};
-pub use lifetime::{Inside, Seat};
+pub use lifetime::Inside;
 pub use locks::{LockError, Sealed, TryLockError};
+pub use seat::Seat;
+pub use wait_queue::{WaitEntry, WaitQueue};
 pub use ward::Ward;

@@ -10,17 +10,13 @@ ghost use Rattle.ww_lock.specs.Begun.{IsSeat, IsIdle, seat_id, sees};
 ghost use Rattle.ww_lock.specs.Boards.{table_of, first_pivot};
 
 use crate::board::{Board, Place, Slot, Start, Tables};
+use crate::seat::Seat;
 use crate::sleepers::Sleepers;
+use crate::wait_queue::WaitQueue;
 use crate::ward::Ward;
 use atomic_table::{Closed, Table};
 use std::alloc::{AllocError, Global};
 use std::snapshot::Snapshot;
-
-/// A pass to a board, for one caller. It has no bytes, and what it knows is said by clauses alone.
-#[derive(Drop)]
-pub struct Seat<P, X, T> {
-    pub(crate) place: Place<P, X, T>,
-}
 
 /// The pivot was out when the board was closed.
 #[derive(Drop)]
@@ -102,9 +98,13 @@ impl<W: Ward> Board<W> {
                 buffers: buffers as u32,
                 posts,
                 sleepers: Sleepers::none(),
+                waiters: WaitQueue::new(),
                 alloc,
             },
-            Seat { place },
+            Seat {
+                place,
+                spare: Vec::new(alloc),
+            },
         ))
     }
 
@@ -142,9 +142,10 @@ impl<W: Ward> Board<W> {
             buffers,
             posts: _,
             sleepers: _,
+            waiters: _,
             alloc: _,
         } = self;
-        let Seat { place } = seat;
+        let Seat { place, spare: _ } = seat;
         let mut closed = table.close_with(place);
         let at = closed.word(1);
         let pivot = closed.take(0);

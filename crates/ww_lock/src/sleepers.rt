@@ -1,4 +1,4 @@
-//! How callers wait for a word of the board, and how they are woken.
+//! How callers wait for a value of the board, and how they are woken.
 ghost use Rattle.std.specs.Prelude.{◌<◌};
 
 use crate::steps::SharedTable;
@@ -40,15 +40,6 @@ impl Sleepers {
             self.count.fetch_sub(1, Ordering::SeqCst);
         } else {
             backoff.snooze();
-        }
-    }
-
-    // Wakes one caller that sleeps on the word, if there is one.
-    pub(crate) fn wake_one<W: Ward>(&self, shared: &SharedTable<W>, word: usize)
-        requires { word < shared.now.table_id.words }
-    {
-        if self.count.load(Ordering::SeqCst) > 0 {
-            shared.wake_one(word);
         }
     }
 

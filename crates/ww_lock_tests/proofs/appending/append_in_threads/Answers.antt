@@ -15,7 +15,7 @@ use Rattle.ww_lock_tests.proofs.appending.append_in_threads.Given.{Over}
 use Rattle.ww_lock_tests.proofs.appending.append_in_threads.Lts.{arg-2-1}
 use Rattle.ww_lock_tests.specs.contracts.appending.append_in_threads.{R-row}
 use Rattle.ww_lock.specs.contracts.board.Board as Board
-use Rattle.ww_lock.specs.contracts.lifetime.Seat as Seat
+use Rattle.ww_lock.specs.contracts.seat.Seat as Seat
 use Rattle.ww_lock_tests.proofs.appending.append_in_threads.Goals as goal
 
 abbrev Numbers : RattleType

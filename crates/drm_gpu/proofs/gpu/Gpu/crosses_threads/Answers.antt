@@ -5,7 +5,9 @@ use Rattle.drm_gpu.specs.contracts.driver.DriverWard.TheImpl.{ghosts as ward}
 use Rattle.drm_sched.specs.contracts.device_calls.Device as Device
 use Rattle.drm_resv.specs.contracts.resv.Resv as Resv
 use Rattle.ww_lock.specs.contracts.board.Board as Board
-use Rattle.ww_lock.specs.contracts.lifetime.Seat as Seat
+use Rattle.ww_lock.specs.contracts.seat.Seat as Seat
+use Rattle.ww_lock.specs.contracts.wait_queue.WaitQueue as WaitQueue
+use Rattle.std.proofs.sync.atomic.AtomicU64.TheSendSync as atomic
 use Rattle.drm_gpu.proofs.gpu.Gpu.crosses_threads.Goals as goal
 
 pub returns-clause-pass : goal.returns-clause-pass
@@ -17,5 +19,7 @@ returns-clause-pass c =
 pub returns-clause-gpu : goal.returns-clause-gpu
 returns-clause-gpu c =
     let b = c.crosses_threads.ensures.board in
+    let a = atomic.the_sync in
+    let packets : IsSync WaitQueue.the_row = search sendable depth 20 in
     let board : IsSync (Board.the_field Driver.the_row Device.the_row Resv.the_row Task.the_row ward).row = record { shared = λ x o p κ. b.shared x o p κ } in
     search sendable depth 20

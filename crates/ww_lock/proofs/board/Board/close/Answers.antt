@@ -1,7 +1,7 @@
 use Rattle.std.proofs.Common.{rules, arith, ◌≡◌, ◌<◌, ◌≤◌, ◌+◌, ℕ, List, length, get_or, sym, refl, ap, ◌∙◌, subst, inl, inr, false, true, get_or-set_other, Option, Some, None, vec_capacity, MatchOption, length-append, ◌++◌, ◌∷◌, []}
 use mathlib.Core.Logic.{dite}
 use native.Mathlib.Decide.{ℕ_discrete}
-use Rattle.std.specs.Mem.Slots.{slots_items, slots_filled, slots_counts}
+use Rattle.std.specs.Mem.Slots.{slots_items, slots_filled, slots_counts, slots_len, IsFull}
 use lib.ListN.{get_elem?}
 use mathlib.Core.Option.{some}
 use Rattle.ww_lock.specs.declared.board.Slot.{Slot}
@@ -19,6 +19,29 @@ pub take_value-requires-clause-home : goal.take_value-requires-clause-home
 take_value-requires-clause-home g c = let w = g.W.Ward in let i = c.loop-b.invariant in let e = c.close_with-closed.ensures in let t = c.take-pivot.ensures.others in let low = c.loop-b-test.true in let n = slots_counts c.close_with-closed.result.slots in let size = c.args.self.sized.2 in let count = e.counts in
     λ z. (let h = home_value w.good w.fits w.grows w.posted w.busy _ _ _ _ _ e.values.2 c.loop-b.b (let k = e.counts.1 in omega arith) (ap (λ ws. get_elem? (slots_items ws) (c.loop-b.b + 2)) (sym (i.0 ∙ t.3)) ∙ z) in
     (h.0, ap (λ ss. get_elem? ss (c.loop-b.b + 1)) (i.1 ∙ t.0) ∙ h.1))
+
+pub take_value-requires-clause-word : goal.take_value-requires-clause-word
+take_value-requires-clause-word g c = let i = c.loop-b.invariant in let e = c.close_with-closed.ensures in let t = c.take-pivot.ensures.others in let low = c.loop-b-test.true in let size = c.args.self.sized in let s0 = size.0 in let s2 = size.2 in let counts = e.counts.0 in
+    let words : c.loop-b.closed.words ≡ c.close_with-closed.result.words = i.0 ∙ t.3 in
+    let len = ap slots_len words in
+    (omega arith, subst (λ ws. IsFull ws) (sym words) e.values.0)
+
+none_at : {X : Type 0} (i : ℕ) (x : X) (xs : List X) → xs ≡ [] → get_elem? xs i ≡ some x → ⊥
+none_at i x xs none at = let m = ap (λ l. get_elem? l i) none in absurd (cc (m, at))
+
+pub loop-b-init : goal.loop-b-init
+loop-b-init g c = let e = c.close_with-closed.ensures in let t = c.take-pivot.ensures.others in let slots = c.close_with-closed.result.slots in let len = t.2 in let out = c.requires.out in (
+  refl,
+  refl,
+  refl,
+  (λ k low. let zero_is : k ≡ 0 = omega (arith, low) in ap (λ l. get_or l k false) t.1 ∙ (ap (λ n. get_or (Rattle.std.proofs.Common.set (slots_filled slots) 0 false) n false) zero_is ∙ set_false (slots_filled slots) 0)),
+  (λ k low high. ap (λ l. get_or l k false) t.1 ∙ (get_or-set_other (slots_filled slots) 0 k false false (λ q. omega (arith, q, low)) ∙ e.values.1 k (omega arith) (omega (arith, len, high)))),
+  omega arith,
+  ap length out.0,
+  out.1,
+  (λ i x at. absurd (none_at i (Some x) _ out.0 at)),
+  (λ i low. absurd (let none = ap length out.0 in omega (arith, none, low))),
+)
 
 pub unreachable-requires : goal.unreachable-requires
 unreachable-requires g c = let w = g.W.Ward in let e = c.close_with-closed.ensures in
