@@ -71,6 +71,7 @@ fn if_spelled(word: &[u8], text: &[u8], keyword: Keyword) -> Option<Keyword>
 
 /// The line that begins with this word, which has these for its second and its last byte: no two first words have both
 /// in common.
+#[inline(always)]
 fn read_guessed(word: &[u8], second: u8, last: u8) -> Option<Keyword>
     ensures { result ≡ spelled_as word.now (guess_of second last) }
 {
@@ -116,6 +117,7 @@ fn read_guessed(word: &[u8], second: u8, last: u8) -> Option<Keyword>
 }
 
 /// The line that begins with this word.
+#[inline(always)]
 pub fn read_keyword(word: &[u8]) -> Option<Keyword>
     ensures { result ≡ keyword_of word.now }
 {
