@@ -1,3 +1,4 @@
+pub mod Added
 pub mod Known
 pub mod CommandReaders
 pub mod HeaderReaders

@@ -97,6 +97,10 @@ event_line spec line bytes =
     or_fault (command_of start.0) (out_of_order line) >>= λ command.
     event_at spec command start.1
 
+-- these events, and behind them the one that is read, or its fault
+abbrev pub with_event : List Event → Result Event Fault → Result (List Event) Fault
+with_event events read = read >>= λ event. Ok (events ++ event ∷ [])
+
 -- these events, and those of the lines up to the end of the text
 unfoldable pub events_of : DeviceSpec → List Event → ℕ → List ℕ → List (List ℕ) → Result (List Event) Fault
 events_of spec events line bytes [] = last_line line bytes >>= λ _. Ok events

@@ -1,12 +1,11 @@
 //! Command lines: the events of a script.
 
-ghost use Rattle.std.specs.Prelude.{◌≡◌, ◌<◌, ◌≤◌, length, IfOk, IsTrue};
-ghost use Rattle.drm_core.specs.Names.{names_exist};
+ghost use Rattle.std.specs.Prelude.{◌≡◌, ◌<◌, ◌≤◌, length, IfOk, IsTrue, OnOk};
 ghost use Rattle.drm_text.specs.Reading.{Reads, Gives};
-ghost use Rattle.drm_script.specs.Kept.{event_of};
 ghost use Rattle.drm_script.specs.Job.{job_at};
-ghost use Rattle.drm_script.specs.Commands.{context_and_buffer_at, ring_and_moment_at, names_ring, names_context, command_of, event_at, event_line};
+ghost use Rattle.drm_script.specs.Commands.{AllNamesExist, with_event, context_and_buffer_at, ring_and_moment_at, names_ring, names_context, command_of, event_at, event_line};
 
+use crate::events::Events;
 use crate::job::read_job;
 use crate::kept::Kept;
 use drm_job::Draft;
@@ -37,64 +36,81 @@ fn read_ring_and_moment(spec: &DeviceSpec, words: &mut Words) -> Result<(RingId,
     Ok((ring, now))
 }
 
-/// The event of a command that names a ring.
+/// Reads the event of a command that names a ring, and adds it to those before it.
 #[tactic(auto, unfolding(crate::specs::Commands::event_at))]
-fn read_ring_event(spec: &DeviceSpec, command: Command, words: &mut Words) -> Result<Kept, Fault>
-    requires { IsTrue (names_ring command) }
-    ensures value { Reads (λ kept. event_of kept) result (event_at spec.now command words.old) }
-    ensures exist { IfOk result (λ kept. IsTrue (names_exist spec.now (event_of kept))) }
+fn read_ring_event(
+    spec: &DeviceSpec,
+    command: Command,
+    words: &mut Words,
+    events: &mut Events,
+) -> Result<(), ReadError>
+    requires ring { IsTrue (names_ring command) }
+    requires exist { AllNamesExist spec.now events.old }
+    ensures value { Gives (λ _. events.new) result (with_event events.old (event_at spec.now command words.old)) }
+    ensures exist { OnOk result (AllNamesExist spec.now events.new) }
 {
     match command {
         Command::Pick => {
             let (ring, now) = read_ring_and_moment(spec, words)?;
-            Ok(Kept::Pick { ring, now })
+            Ok(events.push(Kept::Pick { ring, now })?)
         }
-        Command::Step => Ok(Kept::Step {
-            ring: words.last_name(spec.rings.len())?,
-        }),
+        Command::Step => {
+            let ring = words.last_name(spec.rings.len())?;
+            Ok(events.push(Kept::Step { ring })?)
+        }
         Command::Finish => {
             let (ring, now) = read_ring_and_moment(spec, words)?;
-            Ok(Kept::Finish { ring, now })
+            Ok(events.push(Kept::Finish { ring, now })?)
         }
         Command::Timeout => {
             let (ring, now) = read_ring_and_moment(spec, words)?;
-            Ok(Kept::Timeout { ring, now })
+            Ok(events.push(Kept::Timeout { ring, now })?)
         }
         _ => unreachable!(),
     }
 }
 
-/// The event of a command that names a context, and no job.
+/// Reads the event of a command that names a context, and no job, and adds it to those before it.
 #[tactic(auto, unfolding(crate::specs::Commands::event_at))]
-fn read_context_event(spec: &DeviceSpec, command: Command, words: &mut Words) -> Result<Kept, Fault>
-    requires { IsTrue (names_context command) }
-    ensures value { Reads (λ kept. event_of kept) result (event_at spec.now command words.old) }
-    ensures exist { IfOk result (λ kept. IsTrue (names_exist spec.now (event_of kept))) }
+fn read_context_event(
+    spec: &DeviceSpec,
+    command: Command,
+    words: &mut Words,
+    events: &mut Events,
+) -> Result<(), ReadError>
+    requires context { IsTrue (names_context command) }
+    requires exist { AllNamesExist spec.now events.old }
+    ensures value { Gives (λ _. events.new) result (with_event events.old (event_at spec.now command words.old)) }
+    ensures exist { OnOk result (AllNamesExist spec.now events.new) }
 {
     match command {
-        Command::Begin => Ok(Kept::Begin {
-            ctx: words.last_name(CONTEXTS)?,
-        }),
+        Command::Begin => {
+            let ctx = words.last_name(CONTEXTS)?;
+            Ok(events.push(Kept::Begin { ctx })?)
+        }
         Command::Try => {
             let (ctx, buffer) = read_context_and_buffer(spec, words)?;
-            Ok(Kept::Try { ctx, buffer })
+            Ok(events.push(Kept::Try { ctx, buffer })?)
         }
-        Command::Done => Ok(Kept::Done {
-            ctx: words.last_name(CONTEXTS)?,
-        }),
+        Command::Done => {
+            let ctx = words.last_name(CONTEXTS)?;
+            Ok(events.push(Kept::Done { ctx })?)
+        }
         Command::Drop => {
             let (ctx, buffer) = read_context_and_buffer(spec, words)?;
-            Ok(Kept::Drop { ctx, buffer })
+            Ok(events.push(Kept::Drop { ctx, buffer })?)
         }
-        Command::End => Ok(Kept::End {
-            ctx: words.last_name(CONTEXTS)?,
-        }),
-        Command::Arm => Ok(Kept::Arm {
-            ctx: words.last_name(CONTEXTS)?,
-        }),
+        Command::End => {
+            let ctx = words.last_name(CONTEXTS)?;
+            Ok(events.push(Kept::End { ctx })?)
+        }
+        Command::Arm => {
+            let ctx = words.last_name(CONTEXTS)?;
+            Ok(events.push(Kept::Arm { ctx })?)
+        }
         Command::Read => {
             let (ctx, buffer) = read_context_and_buffer(spec, words)?;
-            Ok(Kept::Read { ctx, buffer })
+            Ok(events.push(Kept::Read { ctx, buffer })?)
         }
         _ => unreachable!(),
     }
@@ -109,40 +125,49 @@ fn read_draft(alloc: Global, words: &mut Words) -> Result<Box<Draft>, ReadError>
     Ok(Box::new(alloc, draft)?)
 }
 
+/// Reads the event of a command, and adds it to those before it.
 #[tactic(auto, unfolding(crate::specs::Commands::event_at))]
 fn read_event(
     alloc: Global,
     spec: &DeviceSpec,
     command: Command,
     words: &mut Words,
-) -> Result<Kept, ReadError>
-    ensures value { Gives (λ kept. event_of kept) result (event_at spec.now command words.old) }
-    ensures exist { IfOk result (λ kept. IsTrue (names_exist spec.now (event_of kept))) }
+    events: &mut Events,
+) -> Result<(), ReadError>
+    requires exist { AllNamesExist spec.now events.old }
+    ensures value { Gives (λ _. events.new) result (with_event events.old (event_at spec.now command words.old)) }
+    ensures exist { OnOk result (AllNamesExist spec.now events.new) }
 {
     match command {
-        Command::Submit => Ok(Kept::Submit {
-            draft: read_draft(alloc, words)?,
-        }),
-        Command::Plan => Ok(Kept::Plan {
-            ctx: words.name(CONTEXTS)?,
-            draft: read_draft(alloc, words)?,
-        }),
-        Command::Pick | Command::Step | Command::Finish | Command::Timeout => {
-            Ok(read_ring_event(spec, command, words)?)
+        Command::Submit => {
+            let draft = read_draft(alloc, words)?;
+            Ok(events.push(Kept::Submit { draft })?)
         }
-        Command::Cancel => Ok(Kept::Cancel {
-            entity: words.last_name(spec.entities.len())?,
-        }),
-        Command::Reap => Ok(Kept::Reap {
-            entity: words.last_name(spec.entities.len())?,
-        }),
-        Command::Fence => Ok(Kept::Status {
-            fence: words.last_number(u64::from(u32::MAX))? as u32,
-        }),
-        Command::Dump => Ok(Kept::Dump {
-            buffer: BufferId::new(words.last_name(spec.buffers.len())?),
-        }),
-        _ => Ok(read_context_event(spec, command, words)?),
+        Command::Plan => {
+            let ctx = words.name(CONTEXTS)?;
+            let draft = read_draft(alloc, words)?;
+            Ok(events.push(Kept::Plan { ctx, draft })?)
+        }
+        Command::Pick | Command::Step | Command::Finish | Command::Timeout => {
+            read_ring_event(spec, command, words, events)
+        }
+        Command::Cancel => {
+            let entity = words.last_name(spec.entities.len())?;
+            Ok(events.push(Kept::Cancel { entity })?)
+        }
+        Command::Reap => {
+            let entity = words.last_name(spec.entities.len())?;
+            Ok(events.push(Kept::Reap { entity })?)
+        }
+        Command::Fence => {
+            let fence = words.last_number(u64::from(u32::MAX))? as u32;
+            Ok(events.push(Kept::Status { fence })?)
+        }
+        Command::Dump => {
+            let buffer = BufferId::new(words.last_name(spec.buffers.len())?);
+            Ok(events.push(Kept::Dump { buffer })?)
+        }
+        _ => read_context_event(spec, command, words, events),
     }
 }
 
@@ -155,17 +180,19 @@ fn find_command(keyword: Keyword) -> Option<Command>
     }
 }
 
-/// The event of a line, as it is kept.
+/// Reads the event of a line, and adds it to those before it.
 #[tactic(auto, unfolding(crate::specs::Commands::event_line))]
 pub(crate) fn read_event_line(
     alloc: Global,
     spec: &DeviceSpec,
     line: &Line,
-) -> Result<Kept, ReadError>
-    ensures value { Gives (λ kept. event_of kept) result (event_line spec.now line.now.number line.now.bytes) }
-    ensures exist { IfOk result (λ kept. IsTrue (names_exist spec.now (event_of kept))) }
+    events: &mut Events,
+) -> Result<(), ReadError>
+    requires exist { AllNamesExist spec.now events.old }
+    ensures value { Gives (λ _. events.new) result (with_event events.old (event_line spec.now line.now.number line.now.bytes)) }
+    ensures exist { OnOk result (AllNamesExist spec.now events.new) }
 {
     let (keyword, mut words) = line.start()?;
     let command = find_command(keyword).ok_or(order_fault(line.number()))?;
-    read_event(alloc, spec, command, &mut words)
+    read_event(alloc, spec, command, &mut words, events)
 }

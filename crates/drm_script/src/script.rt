@@ -24,15 +24,14 @@ pub struct Script {
 }
 
 /// The events of the lines that are left.
-#[tactic(auto, unfolding(crate::specs::Commands::events_of))]
+#[tactic(auto, unfolding(crate::specs::Commands::events_of), using(crate::proofs::Added::goes_on, crate::proofs::Added::stops))]
 fn read_events(alloc: Global, spec: &DeviceSpec, lines: &mut Lines) -> Result<Events, ReadError>
     ensures value { Gives (λ events. events) result (events_of spec.now [] lines.old.line lines.old.bytes lines.old.more) }
     ensures exist { IfOk result (λ events. AllNamesExist spec.now events) }
 {
     let mut events = Events::new(alloc);
     while let Some(line) = lines.next() {
-        let kept = read_event_line(alloc, spec, &line)?;
-        events.push(kept)?;
+        read_event_line(alloc, spec, &line, &mut events)?;
     }
     lines.end()?;
     Ok(events)

@@ -2,6 +2,6 @@ use Rattle.std.proofs.Common.{rules}
 use Rattle.drm_script.specs.Commands.{event_at}
 use Rattle.drm_script.proofs.command.read_event.Goals as goal
 
-pub returns-in_ok-last_number-in-Fence-clause-value : goal.returns-in_ok-last_number-in-Fence-clause-value
+pub returns-in_ok-push-in-Fence-clause-value : goal.returns-in_ok-push-in-Fence-clause-value
 unfolding event_at
-returns-in_ok-last_number-in-Fence-clause-value c = search rules
+returns-in_ok-push-in-Fence-clause-value c = search rules
