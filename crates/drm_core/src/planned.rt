@@ -53,6 +53,7 @@ impl CoreTable {
     /// Plans a job over the reservations that the context holds (`drm_sched_job_add_implicit_dependencies`): it is
     /// checked, room for its uses is taken (`dma_resv_reserve_fences`), and what it waits for is collected. The context
     /// locks no more, and what it planned before is forgotten.
+    #[inline(always)]
     pub(crate) fn plan(&mut self, ctx: CtxId, draft: Draft) -> Answer
         requires ctx { ctx < 64 }
         requires core { IsCore self.old }

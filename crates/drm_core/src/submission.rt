@@ -75,6 +75,7 @@ impl CoreTable {
     }
 
     /// Checks the job, collects what it waits for, and arms it, all in one step and with no lock.
+    #[inline(always)]
     pub(crate) fn submit(&mut self, draft: Draft) -> Answer
         requires core { IsCore self.old }
         ensures step { Step (core_state self.old) (event.Submit draft) result (core_state self.new) }
