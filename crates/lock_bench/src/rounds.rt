@@ -4,7 +4,7 @@ ghost use Rattle.atomic_table.specs.Seated.{TableId};
 ghost use Rattle.std.specs.List.Sorted.{IsPermutation};
 ghost use Rattle.ww_lock.specs.Acquiring.{IsReady};
 ghost use Rattle.ww_lock.specs.Boards.{table_of};
-ghost use Rattle.ww_lock.specs.Begun.{IsIdle};
+ghost use Rattle.ww_lock.specs.Begun.{IsIdle, seat_back};
 
 use drm_types::BufferId;
 use std::alloc::{AllocError, Global};
@@ -154,6 +154,16 @@ fn count_held(acquire: &mut Counting)
     }
 }
 
+// The seat that drew no ticket.
+fn seat_of(error: BeginError<u64, u64, ()>) -> CountingSeat
+    ensures { result ≡ seat_back error }
+{
+    match error {
+        BeginError::Memory(seat) => seat,
+        BeginError::TicketsOut(seat) => seat,
+    }
+}
+
 /// Locks the buffers in this order, counts each, and gives them back. Without memory it does nothing.
 pub(crate) fn round<R: Wait + Clock>(
     board: &Board<Counters>,
@@ -169,8 +179,7 @@ pub(crate) fn round<R: Wait + Clock>(
 {
     let mut acquire = match board.begin(seat, rt, alloc) {
         Ok(acquire) => acquire,
-        Err(BeginError::Memory(seat)) => return seat,
-        Err(BeginError::TicketsOut(seat)) => return seat,
+        Err(error) => return seat_of(error),
     };
     lock_all(board, &mut acquire, order, rt);
     count_held(&mut acquire);
