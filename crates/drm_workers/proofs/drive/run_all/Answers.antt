@@ -1,7 +1,11 @@
-use Rattle.std.proofs.Common.{All, sym, subst}
+use Rattle.std.proofs.Common.{◌≡◌, All, None, sym, subst}
 use Rattle.drm_types.specs.declared.spec.DeviceSpec.{DeviceSpec}
+use Rattle.drm_types.specs.Limits.{spec_fault}
 use Rattle.drm_job.specs.Fault.{IsJob}
 use Rattle.drm_workers.proofs.drive.run_all.Goals as goal
 
 pub drive-requires-clause-jobs : goal.drive-requires-clause-jobs
 drive-requires-clause-jobs g c κs within = (subst (λ (s : DeviceSpec). All (IsJob s) c.args.jobs.items) (sym c.in-Ok.ensures.gpu.0) c.requires.jobs.0, sym c.len.ensures)
+
+pub drive-requires-clause-described : goal.drive-requires-clause-described
+drive-requires-clause-described g c κs within = subst (λ (s : DeviceSpec). spec_fault s ≡ None) (sym c.in-Ok.ensures.gpu.0) c.in-Ok.ensures.gpu.1
