@@ -13,3 +13,4 @@ pub mod NumbersWritten
 pub mod BytesWritten
 pub mod KeywordsWritten
 pub mod PartsJoined
+pub mod PartsLeft

@@ -1,8 +1,8 @@
 //! The parts of a text between separators, in their order: its lines, the words of a line, the
 //! pieces of a word.
 
-ghost use Rattle.std.specs.Prelude.{◌≡◌, ◌+◌, ◌≤◌, ◌==◌, [], ◌∷◌, None, Some, length, take, IfSome, IfNone, if◌then◌else◌};
-ghost use Rattle.std.specs.List.{position_or_len};
+ghost use Rattle.std.specs.Prelude.{◌≡◌, ◌+◌, ◌≤◌, ◌==◌, ℕ, [], ◌∷◌, None, Some, length, take, IfSome, IfNone, if◌then◌else◌};
+ghost use Rattle.std.specs.List.{position_or_len, join_with_byte};
 ghost use Rattle.drm_text.specs.Cut.{cut_from};
 ghost use Rattle.drm_text.specs.Number.{has_one_form, number_up_to};
 
@@ -161,6 +161,14 @@ impl<'a> Parts<'a> {
         ensures bound { result ≤ 1048577 }
     {
         self.at as u32
+    }
+
+    /// How many bytes are left, with the separators between the parts.
+    #[inline]
+    pub fn left(&self) -> usize
+        ensures { (separator : ℕ) → result ≡ length (join_with_byte separator self.now.parts) }
+    {
+        self.bytes.len().saturating_sub(self.at)
     }
 
     /// The next part, if one is left. It may be empty.

@@ -1,6 +1,7 @@
 //! The words of a line, read from left to right.
 
 ghost use Rattle.std.specs.Prelude.{◌≡◌, ◌+◌, ◌≤◌, ◌<◌, ℕ, [], ◌∷◌, length, IfOk, IfSome, IfNone};
+ghost use Rattle.std.specs.List.{join_with_byte};
 ghost use Rattle.drm_text.specs.declared.fault.Fault.TheVariants.{Text};
 ghost use Rattle.drm_text.specs.declared.fault.TextFault.TheVariants as what;
 ghost use Rattle.drm_text.specs.Cut.{cut_from};
@@ -48,6 +49,14 @@ impl<'a> Words<'a> {
             line: self.line,
             column: self.rest.at() + 1,
         }
+    }
+
+    /// How many bytes of the line are left, with the spaces between its words.
+    #[inline]
+    pub fn left(&self) -> usize
+        ensures { result ≡ length (join_with_byte 32 self.now.rest.parts) }
+    {
+        self.rest.left()
     }
 
     /// The next word, if one is left. It may be empty.
