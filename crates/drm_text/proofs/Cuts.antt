@@ -1,8 +1,8 @@
 -- The first part of a cut text.
-use Rattle.std.proofs.Common.{◌≡◌, ℕ, ◌+◌, ◌<◌, ◌≤◌, ◌==◌, Bool, true, false, List, [], ◌∷◌, length, take, drop, Option, Some, None, refl, sym, ap, ◌∙◌, arith, ◌-◌, inl, inr, le-leb}
-use Rattle.std.specs.Prelude.{unwrap_or}
+use Rattle.std.proofs.Common.{◌≡◌, ℕ, ◌+◌, ◌<◌, ◌≤◌, ◌==◌, Bool, true, false, List, [], ◌∷◌, length, take, drop, Option, Some, None, refl, sym, ap, ◌∙◌, arith, ◌-◌, inl, inr, le-leb, lt-ltb}
+use Rattle.std.specs.Prelude.{nat_lt, unwrap_or}
 use Rattle.std.specs.List.{position_or_len, slice_split, All}
-use Rattle.std.proofs.lemmas.Bool.{cases_lt, lt-leb}
+use Rattle.std.proofs.lemmas.Bool.{cases_lt, lt-leb, le-ltb, ne_eqb}
 use Rattle.std.proofs.lemmas.List.{drop-drop, length-drop, length-take-le}
 use Rattle.std.proofs.Math.Seq.{take-length}
 use Rattle.std.proofs.lemmas.List.Sums.{position_or_len_is, fails_before_first, prefix_len-le-length}
@@ -25,7 +25,7 @@ first_byte_is separator bytes (Some i) found =
 none_passes : (p : ℕ → Bool) (xs : List ℕ) → position_or_len p xs ≡ length xs → All (λ x. p x ≡ false) xs
 none_passes p xs is = All-from_get_or (λ x. p x ≡ false) xs 0 (λ i lt. fails_before_first p xs i 0 (omega arith))
 
-use_none : (separator : ℕ) (bytes : List ℕ) (past : ℕ) → length bytes < past → (cut_from separator bytes past).parts ≡ []
+pub use_none : (separator : ℕ) (bytes : List ℕ) (past : ℕ) → length bytes < past → (cut_from separator bytes past).parts ≡ []
 use_none separator bytes past lt = rw (lt-leb past (length bytes) lt)
 
 pub first_part : (separator : ℕ) (bytes : List ℕ) (at : ℕ) → at ≤ length bytes
@@ -55,3 +55,13 @@ parts_left separator bytes at n part le n_is part_is =
     let len : length (drop at bytes) ≡ length bytes - at = length-drop at bytes in
     let part_len : length part ≡ n = rw part_is (length-take-le n (drop at bytes) (omega arith)) in
     (rw (part_is, n_is) (first_part separator bytes at le), part_len, omega arith)
+
+-- behind the last part lies none
+pub no_part_left : (separator : ℕ) (bytes : List ℕ) (at : ℕ) → nat_lt (length bytes) at ≡ (length (cut_from separator bytes at).parts == 0)
+no_part_left separator bytes at =
+    elim (cases_lt (length bytes) at) [
+      | inl past ↦ rw (lt-ltb (length bytes) at past, use_none separator bytes at past) refl
+      | inr le ↦
+          let more = ap (λ (parts : List (List ℕ)). length parts) (first_part separator bytes at le) in
+          rw (le-ltb (length bytes) at le) (sym (ne_eqb (length (cut_from separator bytes at).parts) 0 (λ none. omega (arith, more, none))))
+    ]

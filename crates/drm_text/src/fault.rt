@@ -104,6 +104,7 @@ pub struct Position {
 
 impl Position {
     /// A fault of the word that begins here.
+    #[inline]
     pub fn fault(self, what: TextFault) -> Fault
         ensures { result ≡ fault_at self what }
     {

@@ -53,6 +53,7 @@ impl<'a> Line<'a> {
     }
 
     /// That each byte is one that texts have.
+    #[inline]
     fn check(&self) -> Result<(), Fault>
         ensures { Reads (λ _. tt) result (text_fault self.now.number 1 self.now.bytes) }
     {

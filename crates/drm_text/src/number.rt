@@ -1,6 +1,6 @@
 //! Numbers as texts spell them.
 
-ghost use Rattle.std.specs.Prelude.{◌≡◌, ◌≤◌, IfSome};
+ghost use Rattle.std.specs.Prelude.{◌≡◌, ◌+◌, ◌≤◌, IfSome};
 ghost use Rattle.drm_text.specs.Number.{with_digit, digits_up_to, number_up_to};
 
 /// The number with one more digit, if the byte is a digit and the number is at most `most`.
@@ -12,6 +12,21 @@ pub fn next_value(value: u64, byte: u8, most: u64) -> Option<u64>
     }
     let value = value.checked_mul(10)?.checked_add(u64::from(byte - b'0'))?;
     (value <= most).then_some(value)
+}
+
+/// The number that one byte spells, if it is a digit and the number is at most `most`.
+#[inline(always)]
+pub fn digit_value(byte: u8, most: u64) -> Option<u64>
+    ensures value { result ≡ with_digit most 0 byte }
+    ensures digit { IfSome result (λ n. byte ≡ 48 + n) }
+    ensures small { IfSome result (λ n. n ≤ most) }
+{
+    let value = u64::from(byte.wrapping_sub(b'0'));
+    if value < 10 && value <= most {
+        Some(value)
+    } else {
+        None
+    }
 }
 
 /// The value of the digits, if all are digits and it is at most `most`.

@@ -1,12 +1,12 @@
 //! The parts of a text between separators, in their order: its lines, the words of a line, the
 //! pieces of a word.
 
-ghost use Rattle.std.specs.Prelude.{◌≡◌, ◌+◌, ◌≤◌, ◌==◌, ℕ, [], ◌∷◌, None, Some, length, take, IfSome, IfNone, if◌then◌else◌};
+ghost use Rattle.std.specs.Prelude.{◌≡◌, ◌+◌, ◌<◌, ◌≤◌, ◌==◌, ℕ, [], ◌∷◌, None, Some, true, length, take, drop, IfSome, IfNone, if◌then◌else◌};
 ghost use Rattle.std.specs.List.{position_or_len, join_with_byte};
 ghost use Rattle.drm_text.specs.Cut.{cut_from};
-ghost use Rattle.drm_text.specs.Number.{has_one_form, number_up_to};
+ghost use Rattle.drm_text.specs.Number.{has_one_form, number_up_to, digit_first};
 
-use crate::number::next_value;
+use crate::number::{digit_value, next_value};
 use memchr::memchr;
 use std::marker::Model;
 use std::simd::prelude::*;
@@ -76,16 +76,15 @@ fn number_of(part: &[u8], value: u64) -> Option<u64>
     }
 }
 
-/// Whether the first part is one byte.
-#[inline]
-fn is_one_byte(bytes: &[u8], separator: u8) -> bool
-    ensures { result ≡ (position_or_len (λ b. b == separator) bytes.now == 1) }
+/// Whether the part that begins at this place is one byte.
+#[inline(always)]
+fn is_one_byte(bytes: &[u8], at: usize, separator: u8) -> bool
+    ensures one { result ≡ (position_or_len (λ b. b == separator) (drop at bytes.now) == 1) }
+    ensures inside { result ≡ true → at < length bytes.now }
 {
-    match bytes {
-        [] => false,
-        [first] => *first != separator,
-        [first, second, ..] => *first != separator && *second == separator,
-    }
+    at < bytes.len()
+        && bytes[at] != separator
+        && (at + 1 == bytes.len() || bytes[at + 1] == separator)
 }
 
 /// Where the first part ends, and the number of at most `most` that it spells, if it spells one. It is read digit by
@@ -106,19 +105,6 @@ fn cut_digits(bytes: &[u8], separator: u8, most: u64) -> (usize, Option<u64>)
     }
     let (part, _) = bytes.split_at(end);
     (end, number_of(part, value))
-}
-
-/// Where the first part ends, and the number of at most `most` that it spells, if it spells one. Most numbers have one
-/// digit.
-#[inline]
-fn cut_number(bytes: &[u8], separator: u8, most: u64) -> (usize, Option<u64>)
-    ensures end { result.0 ≡ position_or_len (λ b. b == separator) bytes.now }
-    ensures number { result.1 ≡ number_up_to most (take result.0 bytes.now) }
-{
-    if is_one_byte(bytes, separator) {
-        return (1, next_value(0, bytes[0], most));
-    }
-    cut_digits(bytes, separator, most)
 }
 
 /// What is left of a text that is cut at each separator.
@@ -171,6 +157,14 @@ impl<'a> Parts<'a> {
         self.bytes.len().saturating_sub(self.at)
     }
 
+    /// Whether no part is left.
+    #[inline]
+    pub fn is_empty(&self) -> bool
+        ensures { result ≡ (length self.now.parts == 0) }
+    {
+        self.at > self.bytes.len()
+    }
+
     /// The next part, if one is left. It may be empty.
     #[inline]
     pub fn next(&mut self) -> Option<&'a [u8]>
@@ -188,10 +182,27 @@ impl<'a> Parts<'a> {
         Some(part)
     }
 
-    /// The next part, if one is left, and the number of at most `most` that it spells, if it spells one. The part is
-    /// cut and read in one go.
+    /// The number of at most `most` that the next part spells, if it is one digit. It is cut then, and else nothing is.
+    #[inline(always)]
+    pub fn next_digit(&mut self, most: u64) -> Option<u64>
+        ensures value { result ≡ digit_first most self.old.parts }
+        ensures some { IfSome result (λ n. (self.old.parts ≡ ((48 + n) ∷ []) ∷ self.new.parts) × (self.new.at ≡ self.old.at + 2)) }
+        ensures number { IfSome result (λ n. number_up_to most ((48 + n) ∷ []) ≡ Some n) }
+        ensures small { IfSome result (λ n. n ≤ most) }
+        ensures none { IfNone result (self.new ≡ self.old) }
+    {
+        if !is_one_byte(self.bytes, self.at, self.separator) {
+            return None;
+        }
+        let digit = digit_value(self.bytes[self.at], most)?;
+        self.at += 2;
+        Some(digit)
+    }
+
+    /// The next part, if one is left, and the number of at most `most` that it spells, if it spells one. It is cut and
+    /// read digit by digit.
     #[inline]
-    pub fn next_number(&mut self, most: u64) -> Option<(&'a [u8], Option<u64>)>
+    pub fn next_by_digits(&mut self, most: u64) -> Option<(&'a [u8], Option<u64>)>
         ensures some { IfSome result (λ read. (self.old.parts ≡ read.0.now ∷ self.new.parts)
             × (self.new.at ≡ self.old.at + length read.0.now + 1) × (length read.0.now ≤ 1048576) × (self.new.at ≤ 1048577)
             × (read.1 ≡ number_up_to most read.0.now)) }
@@ -202,9 +213,28 @@ impl<'a> Parts<'a> {
             return None;
         }
         let (_, rest) = self.bytes.split_at(self.at);
-        let (end, number) = cut_number(rest, self.separator, most);
+        let (end, number) = cut_digits(rest, self.separator, most);
         let (part, _) = rest.split_at(end);
         self.at += end + 1;
         Some((part, number))
+    }
+
+    /// The next part, if one is left, and the number of at most `most` that it spells, if it spells one. The part is
+    /// cut and read in one go. Most numbers have one digit.
+    #[inline]
+    pub fn next_number(&mut self, most: u64) -> Option<(&'a [u8], Option<u64>)>
+        ensures some { IfSome result (λ read. (self.old.parts ≡ read.0.now ∷ self.new.parts)
+            × (self.new.at ≡ self.old.at + length read.0.now + 1) × (length read.0.now ≤ 1048576) × (self.new.at ≤ 1048577)
+            × (read.1 ≡ number_up_to most read.0.now)) }
+        ensures small { IfSome result (λ read. IfSome read.1 (λ n. n ≤ most)) }
+        ensures none { IfNone result ((self.old.parts ≡ []) × (self.new ≡ self.old)) }
+    {
+        if !is_one_byte(self.bytes, self.at, self.separator) {
+            return self.next_by_digits(most);
+        }
+        let (_, rest) = self.bytes.split_at(self.at);
+        let (part, _) = rest.split_at(1);
+        self.at += 2;
+        Some((part, digit_value(part[0], most)))
     }
 }

@@ -88,7 +88,8 @@ impl<'a> Words<'a> {
         }
     }
 
-    /// That a word is missing behind the last one, told at the column after the line's last byte.
+    /// That a word is missing behind the last one, told at the column after the line's last byte, or that the word which
+    /// was cut last is empty, told at its column.
     fn missing(&self) -> Fault
         ensures { result ≡ Text self.now.line self.now.rest.at what.Word }
     {
@@ -100,33 +101,48 @@ impl<'a> Words<'a> {
     }
 
     /// The next word, which has to be there and may not be empty.
+    #[inline]
     #[tactic(auto, unfolding(crate::specs::Words::word_at))]
     pub fn word(&mut self) -> Result<&'a [u8], Fault>
         ensures value { Reads (λ w. (w.now, self.new)) result (word_at self.old) }
         ensures line { self.new.line ≡ self.old.line }
         ensures bound { IfOk result (λ w. length w.now ≤ 1048576) }
     {
-        let empty = self.fault(TextFault::Word);
         match self.rest.next() {
-            Some([]) => Err(empty),
+            Some([]) => Err(self.missing()),
             Some(word) => Ok(word),
             None => Err(self.missing()),
         }
     }
 
-    /// A number of at most `most`.
+    /// A number of at most `most`, however many digits it has.
+    #[inline(never)]
+    #[tactic(auto, unfolding(crate::specs::Words::number_at, crate::specs::Words::word_at))]
+    fn any_number(&mut self, most: u64) -> Result<u64, Fault>
+        ensures value { Reads (λ n. (n, self.new)) result (number_at most self.old) }
+        ensures line { self.new.line ≡ self.old.line }
+        ensures small { IfOk result (λ n. n ≤ most) }
+    {
+        let here = self.position();
+        match self.rest.next_by_digits(most) {
+            Some((_, Some(number))) => Ok(number),
+            Some(([], None)) => Err(here.fault(TextFault::Word)),
+            Some((_, None)) => Err(here.fault(TextFault::Number)),
+            None => Err(self.missing()),
+        }
+    }
+
+    /// A number of at most `most`. Most numbers have one digit, which is read without a call.
+    #[inline(always)]
     #[tactic(auto, unfolding(crate::specs::Words::number_at, crate::specs::Words::word_at))]
     pub fn number(&mut self, most: u64) -> Result<u64, Fault>
         ensures value { Reads (λ n. (n, self.new)) result (number_at most self.old) }
         ensures line { self.new.line ≡ self.old.line }
         ensures small { IfOk result (λ n. n ≤ most) }
     {
-        let here = self.position();
-        match self.rest.next_number(most) {
-            Some((_, Some(number))) => Ok(number),
-            Some(([], None)) => Err(here.fault(TextFault::Word)),
-            Some((_, None)) => Err(here.fault(TextFault::Number)),
-            None => Err(self.missing()),
+        match self.rest.next_digit(most) {
+            Some(digit) => Ok(digit),
+            None => self.any_number(most),
         }
     }
 
@@ -151,10 +167,10 @@ impl<'a> Words<'a> {
         ensures line { self.new.line ≡ self.old.line }
         ensures exists { IfOk result (λ n. n < count) }
     {
-        let fault = self.fault(TextFault::NoSuch);
+        let here = self.position();
         let name = self.number(u64::from(u32::MAX))? as u32;
         if name as usize >= count {
-            return Err(fault);
+            return Err(here.fault(TextFault::NoSuch));
         }
         Ok(name)
     }
@@ -179,10 +195,9 @@ impl<'a> Words<'a> {
         ensures value { Reads (λ _. tt) result (end_at self.old) }
         ensures line { self.new.line ≡ self.old.line }
     {
-        let fault = self.fault(TextFault::Word);
-        match self.rest.next() {
-            Some(_) => Err(fault),
-            None => Ok(()),
+        if self.rest.is_empty() {
+            return Ok(());
         }
+        Err(self.fault(TextFault::Word))
     }
 }

@@ -1,16 +1,15 @@
-use Rattle.std.proofs.Common.{◌≡◌, ap, sym, drop, take, arith}
+use Rattle.std.proofs.Common.{◌≡◌, ap, sym, refl, ◌∙◌, drop, take, arith}
+use Rattle.std.proofs.lemmas.Bool.{eqb-true}
 use Rattle.drm_text.proofs.Cuts.{parts_left}
-use Rattle.drm_text.proofs.Digits.{numbers_are_small}
+use Rattle.drm_text.proofs.CutNumbers.{one_digit}
 use Rattle.drm_text.proofs.parts.Parts.next_number.Goals as goal
 
 pub returns-clause-some : goal.returns-clause-some
 returns-clause-some c =
-    let rest = c.split_at.ensures.back in
-    let end = c.cut_number-end.result.0 in
-    let part : c.split_at-2.result.0.now ≡ take end (drop c.self.inside.at c.self.inside.bytes.now) = rw (← rest) c.split_at-2.ensures.front in
-    let cut = parts_left c.self.inside.separator c.self.inside.bytes.now c.self.inside.at end c.split_at-2.result.0.now c.if-self.false (rw (← rest) c.cut_number-end.ensures.end) part in
-    let at : c.args.self.now.at ≡ c.self.inside.at = sym (ap (λ x. x.at) c.self.view_is) in
-    (rw (← c.self.view_is) cut.0, omega arith, omega arith, omega arith, rw c.split_at-2.ensures.front c.cut_number-end.ensures.number)
-
-pub returns-clause-small : goal.returns-clause-small
-returns-clause-small c = rw c.cut_number-end.ensures.number (numbers_are_small c.args.most (take c.cut_number-end.result.0 c.split_at.result.1.now))
+    let it = c.self.inside in
+    let part = c.split_at-2.result.0.now in
+    let front : part ≡ take 1 (drop it.at it.bytes.now) = rw (← c.split_at.ensures.back) c.split_at-2.ensures.front in
+    let inside = c.if-not-is_one_byte.ensures.inside refl in
+    let cut = parts_left it.separator it.bytes.now it.at 1 part (omega (arith, inside)) (sym (eqb-true _ 1 (sym c.if-not-is_one_byte.ensures.one))) front in
+    let at : c.args.self.now.at ≡ it.at = sym (ap (λ x. x.at) c.self.view_is) in
+    (rw (← c.self.view_is) cut.0, omega arith, omega arith, omega arith, c.digit_value.ensures.value ∙ one_digit c.args.most part cut.1)
