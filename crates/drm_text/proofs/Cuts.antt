@@ -1,9 +1,10 @@
 -- The first part of a cut text.
-use Rattle.std.proofs.Common.{◌≡◌, ℕ, ◌+◌, ◌<◌, ◌≤◌, ◌==◌, Bool, true, false, List, [], ◌∷◌, length, take, drop, Option, Some, None, refl, sym, ap, ◌∙◌, arith, ◌-◌, inl, inr, le-leb, lt-ltb}
+use Rattle.std.proofs.Common.{◌≡◌, ℕ, ◌+◌, ◌<◌, ◌≤◌, ◌==◌, Bool, true, false, cond, not, List, [], ◌∷◌, ◌++◌, length, take, drop, Option, Some, None, refl, sym, ap, ◌∙◌, arith, ◌-◌, inl, inr, le-leb, lt-ltb}
 use Rattle.std.specs.Prelude.{nat_lt, unwrap_or}
-use Rattle.std.specs.List.{position_or_len, slice_split, All}
-use Rattle.std.proofs.lemmas.Bool.{cases_lt, lt-leb, le-ltb, ne_eqb}
-use Rattle.std.proofs.lemmas.List.{drop-drop, length-drop, length-take-le}
+use Rattle.std.specs.List.{position_or_len, prefix_len, slice_split, All}
+use Rattle.std.proofs.lemmas.Bool.{cases_lt, lt-leb, le-ltb, ne_eqb, eq-eqb}
+use Rattle.std.proofs.lemmas.List.{drop-drop, length-drop, length-take-le, take-append-drop}
+use Rattle.std.proofs.lemmas.List.Folds.{prefix_len-append}
 use Rattle.std.proofs.Math.Seq.{take-length}
 use Rattle.std.proofs.lemmas.List.Sums.{position_or_len_is, fails_before_first, prefix_len-le-length}
 use Rattle.std.proofs.lemmas.List.Elements.{All-from_get_or}
@@ -65,3 +66,18 @@ no_part_left separator bytes at =
           let more = ap (λ (parts : List (List ℕ)). length parts) (first_part separator bytes at le) in
           rw (le-ltb (length bytes) at le) (sym (ne_eqb (length (cut_from separator bytes at).parts) 0 (λ none. omega (arith, more, none))))
     ]
+
+-- where the first bytes have none that is sought, the first is among the others
+pub none_in_front : (p : ℕ → Bool) (n : ℕ) (bytes : List ℕ) → n ≤ length bytes → n ≤ position_or_len p (take n bytes)
+    → n + position_or_len p (drop n bytes) ≡ position_or_len p bytes
+none_in_front p n bytes room none =
+    let q = λ (b : ℕ). not (p b) in
+    let front = take n bytes in
+    let back = drop n bytes in
+    let len : length front ≡ n = length-take-le n bytes room in
+    let le : prefix_len q front ≤ length front = prefix_len-le-length q front in
+    let all = eq-eqb (prefix_len q front) (length front) (omega arith) in
+    let append : prefix_len q (front ++ back) ≡ cond (prefix_len q front == length front) (length front + prefix_len q back) (prefix_len q front) = prefix_len-append q front back in
+    let joined : prefix_len q (front ++ back) ≡ length front + prefix_len q back = rw all at append in
+    let whole : prefix_len q bytes ≡ length front + prefix_len q back = rw (take-append-drop n bytes) at joined in
+    omega arith

@@ -229,7 +229,8 @@ fn find_fault(line: u32, bytes: &[u8]) -> Result<(), Fault>
     Ok(())
 }
 
-/// That each byte of a line is one that texts have.
+/// That each byte of a line is one that texts have. Of most lines it is known.
+#[inline(never)]
 #[tactic(auto, using(crate::proofs::Printed::no_fault))]
 fn check_text(line: u32, bytes: &[u8]) -> Result<(), Fault>
     requires { length bytes.now ≤ 1048576 }

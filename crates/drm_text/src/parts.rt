@@ -2,6 +2,7 @@
 //! pieces of a word.
 
 ghost use Rattle.std.specs.Prelude.{◌≡◌, ◌+◌, ◌<◌, ◌≤◌, ◌==◌, ℕ, [], ◌∷◌, None, Some, true, length, take, drop, IfSome, IfNone, if◌then◌else◌};
+ghost use Rattle.std.specs.Int.{w64, trailing_zeros};
 ghost use Rattle.std.specs.List.{position_or_len, join_with_byte};
 ghost use Rattle.drm_text.specs.Cut.{cut_from};
 ghost use Rattle.drm_text.specs.Number.{has_one_form, number_up_to, digit_first};
@@ -17,31 +18,68 @@ pub const MAX_TEXT: usize = 1_048_576;
 /// How many bytes are looked at at once.
 const LANES: usize = 16;
 
+/// How many bytes are looked at at once where there are fewer than that.
+const FEW_LANES: usize = 8;
+
+/// The lowest place of a byte that was found, or how many were looked at.
+#[inline(always)]
+fn first_found(found: u64, lanes: usize) -> usize
+    ensures { result ≡ if found == 0 then lanes else trailing_zeros w64 found }
+{
+    if found == 0 {
+        lanes
+    } else {
+        found.trailing_zeros() as usize
+    }
+}
+
 /// The place of the first such byte among the first sixteen, or sixteen.
 #[inline(always)]
 fn end_in_lanes(bytes: &[u8], separator: u8) -> usize
     requires { 16 ≤ length bytes.now }
     ensures { result ≡ position_or_len (λ b. b == separator) (take 16 bytes.now) }
 {
-    let lanes = u8x16::from_slice(bytes);
-    let found = lanes.simd_eq(u8x16::splat(separator)).to_bitmask();
-    if found == 0 {
-        LANES
-    } else {
-        found.trailing_zeros() as usize
-    }
+    let found = u8x16::from_slice(bytes).simd_eq(u8x16::splat(separator));
+    first_found(found.to_bitmask(), LANES)
 }
 
-/// The place of the first such byte, or the length, in fewer bytes than are looked at at once.
-#[inline]
-fn end_of_few(bytes: &[u8], separator: u8) -> usize
-    ensures { result ≡ position_or_len (λ b. b == separator) bytes.now }
+/// The place of the first such byte among the first eight, or eight.
+#[inline(always)]
+fn end_in_few_lanes(bytes: &[u8], separator: u8) -> usize
+    requires { 8 ≤ length bytes.now }
+    ensures { result ≡ position_or_len (λ b. b == separator) (take 8 bytes.now) }
 {
-    let mut end = 0;
+    let found = u8x8::from_slice(bytes).simd_eq(u8x8::splat(separator));
+    first_found(found.to_bitmask(), FEW_LANES)
+}
+
+/// The place of the first such byte from a place on, or the length, sought byte by byte.
+#[inline]
+fn end_by_bytes(bytes: &[u8], from: usize, separator: u8) -> usize
+    requires { from ≤ length bytes.now }
+    ensures { result ≡ from + position_or_len (λ b. b == separator) (drop from bytes.now) }
+{
+    let mut end = from;
     while end < bytes.len() && bytes[end] != separator {
         end += 1;
     }
     end
+}
+
+/// The place of the first such byte, or the length, in fewer than sixteen bytes. Eight are looked at at once, where there
+/// are so many: the first word of a line ends among them.
+#[inline]
+fn end_of_few(bytes: &[u8], separator: u8) -> usize
+    ensures { result ≡ position_or_len (λ b. b == separator) bytes.now }
+{
+    if bytes.len() < FEW_LANES {
+        return end_by_bytes(bytes, 0, separator);
+    }
+    let end = end_in_few_lanes(bytes, separator);
+    if end < FEW_LANES {
+        return end;
+    }
+    end_by_bytes(bytes, FEW_LANES, separator)
 }
 
 /// The place of the first such byte, or the length, where it is not near.
