@@ -1,6 +1,6 @@
 //! The words of a job.
 
-ghost use Rattle.std.specs.Prelude.{◌≡◌, ◌≤◌, ◌==◌, [], false, length, IfNone, IfSome, IsTrue};
+ghost use Rattle.std.specs.Prelude.{◌≡◌, ◌≤◌, ◌==◌, ◌++◌, [], ◌∷◌, false, length, IfNone, IfSome, IsTrue, OnOk};
 ghost use Rattle.std.specs.List.{list_any};
 ghost use Rattle.std.specs.Option.{option_map};
 ghost use Rattle.drm_text.specs.Reading.{Reads, Gives};
@@ -12,7 +12,13 @@ use drm_text::{
     Fault, Parts, Position, ReadError, TextFault, Words, is_word, read_byte, read_number,
 };
 use drm_types::{Access, BufferId, DeviceSpec, Sequence};
-use std::alloc::Global;
+use std::alloc::{AllocError, Global};
+
+/// The bytes of a packet as it is mostly written, `fill:0:0:4:05`, with the space before it.
+const PACKET_BYTES: usize = 14;
+
+/// The most packets that a job may have.
+const MAX_PACKETS: usize = 64;
 
 /// What a word of a job is.
 #[derive(Clone, Copy)]
@@ -236,8 +242,15 @@ fn read_packet(position: Position, word: &[u8]) -> Result<Packet, Fault>
     Err(position.fault(TextFault::Word))
 }
 
+/// Adds what a word spells. Behind the word, `left` bytes of the line are left.
 #[tactic(auto, using(crate::proofs::WordKinds::word_is_read))]
-fn add_word(draft: &mut Draft, position: Position, word: &[u8]) -> Result<(), ReadError>
+fn add_word(
+    alloc: Global,
+    draft: &mut Draft,
+    position: Position,
+    word: &[u8],
+    left: usize,
+) -> Result<(), ReadError>
     requires { length word.now ≤ 1048576 }
     ensures { Gives (λ _. draft.new) result (with_word draft.old position word.now) }
 {
@@ -245,7 +258,7 @@ fn add_word(draft: &mut Draft, position: Position, word: &[u8]) -> Result<(), Re
     if comes_late(draft, kind) {
         return Err(ReadError::Fault(position.fault(TextFault::Word)));
     }
-    add_item(draft, position, word, kind)
+    add_item(alloc, draft, position, word, kind, left)
 }
 
 /// Whether what comes after such a word has begun.
@@ -273,7 +286,40 @@ fn read_tail(position: Position, word: &[u8]) -> Result<u32, Fault>
     }
 }
 
-fn add_item(draft: &mut Draft, position: Position, word: &[u8], kind: Kind) -> Result<(), ReadError>
+/// How many packets to take room for, where one is read and so many bytes of the line are left. They spell more only where
+/// their packets are shorter than most, or where the job has too many.
+fn most_packets(left: usize) -> usize
+    ensures least { 1 ≤ result }
+    ensures most { result ≤ 64 }
+{
+    (1 + left.div_ceil(PACKET_BYTES)).min(MAX_PACKETS)
+}
+
+/// Adds a packet, behind which `left` bytes of the line are left. The first one takes room for those that these may spell
+/// too, so that a list mostly takes memory once.
+fn add_packet(
+    alloc: Global,
+    packets: &mut Sequence<Packet>,
+    packet: Packet,
+    left: usize,
+) -> Result<(), AllocError>
+    ensures { OnOk result (packets.new ≡ packets.old ++ packet ∷ []) }
+{
+    if packets.is_empty() {
+        let room = most_packets(left);
+        *packets = Sequence::from_vec(Vec::with_capacity(alloc, room)?);
+    }
+    packets.push(packet)
+}
+
+fn add_item(
+    alloc: Global,
+    draft: &mut Draft,
+    position: Position,
+    word: &[u8],
+    kind: Kind,
+    left: usize,
+) -> Result<(), ReadError>
     requires { length word.now ≤ 1048576 }
     ensures { Gives (λ _. draft.new) result (with_item draft.old position word.now kind) }
 {
@@ -288,18 +334,18 @@ fn add_item(draft: &mut Draft, position: Position, word: &[u8], kind: Kind) -> R
         }
         Kind::Packet => {
             let packet = read_packet(position, word)?;
-            draft.packets.push(packet)?;
+            add_packet(alloc, &mut draft.packets, packet, left)?;
         }
     }
     Ok(())
 }
 
-fn add_words(draft: &mut Draft, words: &mut Words) -> Result<(), ReadError>
+fn add_words(alloc: Global, draft: &mut Draft, words: &mut Words) -> Result<(), ReadError>
     ensures { Gives (λ _. draft.new) result (with_words draft.old words.old.line words.old.rest.at words.old.rest.parts) }
 {
     let mut position = words.position();
     while let Some(word) = words.next() {
-        add_word(draft, position, word)?;
+        add_word(alloc, draft, position, word, words.left())?;
         position = words.position();
     }
     Ok(())
@@ -326,7 +372,7 @@ pub fn read_job(alloc: Global, words: &mut Words) -> Result<Draft, ReadError>
     let entity = words.number(u64::from(u32::MAX))?;
     let credits = words.number(65535)?;
     let mut draft = bare_draft(alloc, entity as u32, credits as u16);
-    add_words(&mut draft, words)?;
+    add_words(alloc, &mut draft, words)?;
     Ok(draft)
 }
 
