@@ -1,3 +1,4 @@
+pub mod InTurn
 pub mod Places
 pub mod Columns
 pub mod Rows

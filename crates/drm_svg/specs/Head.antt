@@ -36,7 +36,7 @@ fences_name_text row = LANE.now ++ decimal row ++ codes "7'>fences" ++ TEXT_END.
 
 -- the name of the fences, and their bars
 abbrev pub fences_text : Layout → List ℕ
-fences_text layout = fences_name_text layout.header ++ flat_map bar_text layout.fences.items
+fences_text layout = fences_name_text layout.header ++ flat_map bar_text layout.fences
 
 -- where a word above a column begins, and the number of the column's command
 unfoldable pub above_text : ℕ → ℕ → List ℕ → List ℕ

@@ -98,11 +98,11 @@ fences_below picture header fences = map (λ p. placed_at picture (header + 1 + 
 -- the lanes, and below them the fences
 pub record IsLayout (picture : Picture) (layout : Layout) : Type 0 where
   pub lanes : AreLanes picture (lanes_of picture.shape) layout.lanes.items layout.header
-  pub fences : layout.fences.items ≡ fences_below picture layout.header picture.fences.items
+  pub fences : layout.fences ≡ fences_below picture layout.header picture.fences.items
 
 -- the row of a fence, or the header's where it is not drawn
 abbrev pub row_of_fence : Layout → ℕ → ℕ
-row_of_fence layout fence = option_map_or (λ placed. placed.row) (find (λ placed. placed.bar.opening.number == fence) layout.fences.items) layout.header
+row_of_fence layout fence = option_map_or (λ placed. placed.row) (find (λ placed. placed.bar.opening.number == fence) layout.fences) layout.header
 
 -- the header's row of a lane, or of the fences where it is not drawn
 abbrev pub header_of : Layout → Lane → ℕ

@@ -1,3 +1,4 @@
+pub mod Fences
 pub mod Escape
 pub mod Layout
 pub mod Placing

@@ -55,7 +55,7 @@ inside_text picture layout =
 -- and one below its fences
 abbrev pub svg_of : Picture → Layout → List ℕ
 svg_of picture layout =
-    head_text (length picture.columns.items + 9) (layout.header + length layout.fences.items + 13) ++ inside_text picture layout ++ codes "</svg>\n"
+    head_text (length picture.columns.items + 9) (layout.header + length layout.fences + 13) ++ inside_text picture layout ++ codes "</svg>\n"
 
 -- the text of a picture that is laid out as it is to be
 abbrev pub IsSvg : Picture → List ℕ → Type 0

@@ -121,7 +121,7 @@ pub(crate) fn put_fences(
     ensures { OnOk result (out.new.items ≡ out.old.items ++ fences_text layout.now) }
 {
     put_fences_name(out, layout.header)?;
-    put_bars(alloc, out, &layout.fences)
+    put_bars(alloc, out, layout.fences.as_slice())
 }
 
 // Puts where a word above a column begins, and the number of the column's command.

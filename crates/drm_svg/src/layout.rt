@@ -1,9 +1,10 @@
 //! Where lanes and bars are drawn: rows of ten pixels, and columns of ten.
 
-ghost use Rattle.std.specs.Prelude.{◌≡◌, ◌==◌, ◌<◌, ◌^◌, [], IfOk, find, length};
+ghost use Rattle.std.specs.Prelude.{◌≡◌, ◌<◌, ◌^◌, [], IfOk, find, length};
 ghost use Rattle.std.specs.Option.{option_copied};
 ghost use Rattle.drm_svg.specs.Layout.{AreLanes, IsLaneRows, IsLayout, fences_below, header_of, lanes_of, row_of_fence, row_of_lane, same_lane};
 
+use crate::fences::Fences;
 use crate::placing::{Placed, bar_in_row, is_same, place_bars};
 use drm_picture::{Bar, Lane, Picture, Shape};
 use std::alloc::{AllocError, Global};
@@ -27,7 +28,7 @@ pub struct Layout {
     /// The header's row of the fences.
     pub header: usize,
     /// The fences, each in a row of its own.
-    pub fences: Vec<Placed>,
+    pub fences: Fences,
 }
 
 // All lanes but those of the fences, from the top.
@@ -116,7 +117,7 @@ pub fn lay_out(alloc: Global, picture: &Picture) -> Result<Layout, AllocError>
     Ok(Layout {
         lanes,
         header,
-        fences,
+        fences: Fences::of(fences),
     })
 }
 
@@ -127,21 +128,12 @@ fn find_lane(lanes: &[LaneRows], lane: Lane) -> Option<&LaneRows>
     lanes.iter().find(|rows| is_same(rows.lane, lane))
 }
 
-// The first of these bars that is of this fence.
-fn find_fence(fences: &[Placed], fence: u32) -> Option<&Placed>
-    ensures { option_copied result ≡ find (λ placed. placed.bar.opening.number == fence) fences.now }
-{
-    fences
-        .iter()
-        .find(|placed| placed.bar.opening.number == fence)
-}
-
 impl Layout {
     // The row of a fence, or the header's where it is not drawn.
     pub(crate) fn fence_row(&self, fence: u32) -> usize
         ensures { result ≡ row_of_fence self.now fence }
     {
-        match find_fence(&self.fences, fence) {
+        match self.fences.find(fence) {
             Some(placed) => placed.row,
             None => self.header,
         }

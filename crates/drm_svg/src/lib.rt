@@ -8,6 +8,7 @@
 
 mod bars;
 mod escape;
+mod fences;
 mod head;
 mod layout;
 mod placing;
@@ -16,6 +17,7 @@ mod svg;
 mod text;
 mod titles;
 
+pub use fences::Fences;
 pub use layout::{LaneRows, Layout, lay_out};
 pub use placing::Placed;
 pub use svg::write_svg;

@@ -184,7 +184,7 @@ fn put_svg(
     ensures { OnOk result (out.new.items ≡ out.old.items ++ svg_of picture.now layout.now) }
 {
     let columns = picture.columns.len() as u64 + COLUMNS_BESIDE;
-    let rows = layout.header as u128 + layout.fences.len() as u128 + ROWS_BESIDE;
+    let rows = layout.header as u128 + layout.fences.as_slice().len() as u128 + ROWS_BESIDE;
     put_head(out, columns, rows)?;
     put_inside(alloc, out, picture, layout)?;
     put_text(out, "</svg>\n")
