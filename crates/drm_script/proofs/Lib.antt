@@ -1,4 +1,5 @@
 pub mod Added
+pub mod Joined
 pub mod Known
 pub mod CommandReaders
 pub mod HeaderReaders

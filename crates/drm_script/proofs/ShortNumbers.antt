@@ -31,3 +31,8 @@ pub four_digits : (n : ℕ) → 1000 ≤ n → n < 10000 → decimal n ≡ (48 +
 four_digits n least most =
     let tens = three_digits (n / 10) (omega (arith, least)) (omega (arith, most)) in
     decimal_step n (omega (arith, least)) (omega (arith, most)) ∙ ap (λ ds. ds ++ (48 + n % 10) ∷ []) tens
+
+pub five_digits : (n : ℕ) → 10000 ≤ n → n < 100000 → decimal n ≡ (48 + n / 10 / 10 / 10 / 10) ∷ (48 + n / 10 / 10 / 10 % 10) ∷ (48 + n / 10 / 10 % 10) ∷ (48 + n / 10 % 10) ∷ (48 + n % 10) ∷ []
+five_digits n least most =
+    let tens = four_digits (n / 10) (omega (arith, least)) (omega (arith, most)) in
+    decimal_step n (omega (arith, least)) (omega (arith, most)) ∙ ap (λ ds. ds ++ (48 + n % 10) ∷ []) tens

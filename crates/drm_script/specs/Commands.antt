@@ -4,6 +4,7 @@ use Rattle.std.specs.List.{AllByRecursion}
 use Rattle.drm_core.specs.Names.{names_exist}
 use Rattle.drm_core.specs.declared.event.Event.{Event}
 use Rattle.drm_core.specs.declared.event.Event.TheVariants as event
+use Rattle.drm_job.specs.declared.Draft.{Draft}
 use Rattle.drm_types.specs.declared.spec.DeviceSpec.{DeviceSpec}
 use Rattle.drm_text.specs.declared.fault.Fault.{Fault}
 use Rattle.drm_text.specs.declared.keywords.Command.{Command}
@@ -100,6 +101,10 @@ event_line spec line bytes =
 -- these events, and behind them the one that is read, or its fault
 abbrev pub with_event : List Event → Result Event Fault → Result (List Event) Fault
 with_event events read = read >>= λ event. Ok (events ++ event ∷ [])
+
+-- these events, and behind them the one that brings the job which the words spell, or its fault
+abbrev pub with_job_at : List Event → (Draft → Event) → Words → Result (List Event) Fault
+with_job_at events bring words = with_event events (job_at words >>= λ job. Ok (bring job))
 
 -- these events, and those of the lines up to the end of the text
 unfoldable pub events_of : DeviceSpec → List Event → ℕ → List ℕ → List (List ℕ) → Result (List Event) Fault

@@ -83,6 +83,28 @@ fn put_four_digits(out: &mut Vec<u8>, separator: u8, value: u64) -> Result<(), A
     ])
 }
 
+/// A separator, and a number of five digits.
+#[inline]
+#[tactic(auto, using(crate::proofs::ShortNumbers::five_digits))]
+fn put_five_digits(out: &mut Vec<u8>, separator: u8, value: u64) -> Result<(), AllocError>
+    requires least { 10000 ≤ value }
+    requires most { value < 100000 }
+    ensures { OnOk result (out.new.items ≡ out.old.items ++ separator ∷ decimal value) }
+{
+    let tens = value / 10;
+    let hundreds = tens / 10;
+    let thousands = hundreds / 10;
+    let ten_thousands = thousands / 10;
+    out.extend_from_slice(&[
+        separator,
+        b'0' + ten_thousands as u8,
+        b'0' + (thousands % 10) as u8,
+        b'0' + (hundreds % 10) as u8,
+        b'0' + (tens % 10) as u8,
+        b'0' + (value % 10) as u8,
+    ])
+}
+
 /// A separator, and a number of three digits or more.
 #[inline(never)]
 fn put_long(out: &mut Vec<u8>, separator: u8, value: u64) -> Result<(), AllocError>
@@ -94,6 +116,9 @@ fn put_long(out: &mut Vec<u8>, separator: u8, value: u64) -> Result<(), AllocErr
     }
     if value < 10_000 {
         return put_four_digits(out, separator, value);
+    }
+    if value < 100_000 {
+        return put_five_digits(out, separator, value);
     }
     out.push(separator)?;
     put_decimal(out, value)

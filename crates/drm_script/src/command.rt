@@ -1,14 +1,14 @@
 //! Command lines: the events of a script.
 
-ghost use Rattle.std.specs.Prelude.{◌≡◌, ◌<◌, ◌≤◌, length, IfOk, IsTrue, OnOk};
+ghost use Rattle.std.specs.Prelude.{◌≡◌, ◌<◌, ◌≤◌, ◌++◌, ◌∷◌, [], true, length, IfOk, IsTrue, OnOk};
+ghost use Rattle.drm_job.specs.declared.Draft.{Draft as DraftValue};
 ghost use Rattle.drm_text.specs.Reading.{Reads, Gives};
-ghost use Rattle.drm_script.specs.Job.{job_at};
-ghost use Rattle.drm_script.specs.Commands.{AllNamesExist, with_event, context_and_buffer_at, ring_and_moment_at, names_ring, names_context, command_of, event_at, event_line};
+ghost use Rattle.drm_script.specs.Kept.{brings_job, event_with};
+ghost use Rattle.drm_script.specs.Commands.{AllNamesExist, with_event, with_job_at, context_and_buffer_at, ring_and_moment_at, names_ring, names_context, command_of, event_at, event_line};
 
 use crate::events::Events;
 use crate::job::read_job;
 use crate::kept::Kept;
-use drm_job::Draft;
 use drm_text::{Command, Fault, Keyword, Line, ReadError, Words, order_fault};
 use drm_types::{BufferId, CtxId, DeviceSpec, Moment, RingId};
 use std::alloc::Global;
@@ -116,13 +116,21 @@ fn read_context_event(
     }
 }
 
-/// The job that the words left spell, in a place of its own. Few commands have one, so its room is not made for all.
+/// Reads the job that the words left spell, and adds the event that brings it. Few commands have one, so its room is not made
+/// for all.
 #[inline(never)]
-fn read_draft(alloc: Global, words: &mut Words) -> Result<Box<Draft>, ReadError>
-    ensures { Gives (λ draft. draft.value) result (job_at words.old) }
+fn read_with_job(
+    alloc: Global,
+    kept: Kept,
+    words: &mut Words,
+    events: &mut Events,
+) -> Result<(), ReadError>
+    requires { brings_job kept ≡ true }
+    ensures value { Gives (λ _. events.new) result (with_job_at events.old (event_with kept) words.old) }
+    ensures added { OnOk result ((job : DraftValue) × (events.new ≡ events.old ++ event_with kept job ∷ [])) }
 {
-    let draft = read_job(alloc, words)?;
-    Ok(Box::new(alloc, draft)?)
+    let job = read_job(alloc, words)?;
+    Ok(events.push_job(kept, job)?)
 }
 
 /// Reads the event of a command, and adds it to those before it.
@@ -139,14 +147,10 @@ fn read_event(
     ensures exist { OnOk result (AllNamesExist spec.now events.new) }
 {
     match command {
-        Command::Submit => {
-            let draft = read_draft(alloc, words)?;
-            Ok(events.push(Kept::Submit { draft })?)
-        }
+        Command::Submit => read_with_job(alloc, Kept::Submit, words, events),
         Command::Plan => {
             let ctx = words.name(CONTEXTS)?;
-            let draft = read_draft(alloc, words)?;
-            Ok(events.push(Kept::Plan { ctx, draft })?)
+            read_with_job(alloc, Kept::Plan { ctx }, words, events)
         }
         Command::Pick | Command::Step | Command::Finish | Command::Timeout => {
             read_ring_event(spec, command, words, events)

@@ -1,5 +1,5 @@
 use Rattle.std.proofs.Common.{rules}
 use Rattle.drm_script.proofs.kept.Kept.into_event.Goals as goal
 
-pub returns-in-Finish : goal.returns-in-Finish
-returns-in-Finish c = search rules
+pub returns-in-Finish-clause-event : goal.returns-in-Finish-clause-event
+returns-in-Finish-clause-event c = search rules

@@ -1,0 +1,85 @@
+-- Events that stand without their jobs, joined with these.
+use Rattle.std.proofs.Common.{◌≡◌, ℕ, ◌+◌, ◌<◌, Bool, true, false, cond, List, [], ◌∷◌, ◌++◌, append-nil, length, length-append, Option, Some, None, refl, sym, ap, ◌∙◌, arith, true≢false}
+use Rattle.std.specs.Prelude.{count_by, is_none, option_to_list}
+use Rattle.std.proofs.lemmas.List.Sums.{sum_by-append, sum_by-cons}
+use Rattle.drm_core.specs.declared.event.Event.{Event}
+use Rattle.drm_job.specs.declared.Draft.{Draft}
+use Rattle.drm_script.specs.declared.kept.Kept.{Kept}
+use Rattle.drm_script.specs.Kept.{AreMatched, brings_job, event_of, event_with, joined, next_joined}
+
+abbrev jobs_of : Kept → ℕ
+jobs_of kept = cond (brings_job kept) 1 0
+
+counted_first : (k : Kept) (ks : List Kept) → count_by brings_job (k ∷ ks) ≡ jobs_of k + count_by brings_job ks
+counted_first k ks = sum_by-cons jobs_of k ks
+
+counted_last : (k : Kept) (ks : List Kept) → count_by brings_job (ks ++ k ∷ []) ≡ count_by brings_job ks + jobs_of k
+counted_last k ks =
+    let one = counted_first k [] in
+    let all = sum_by-append jobs_of ks (k ∷ []) in
+    omega (arith, one, all)
+
+-- ---- at the end
+
+-- what comes of an event and those behind it, where more comes of those behind it
+more_behind : (k : Kept) (found : Option Event) (longer rest : List Draft → List Event) (js added : List Draft) (tail : List Event) (n : ℕ) → cond (is_none found) 1 0 + n ≡ length js
+    → ((left : List Draft) → n ≡ length left → longer (left ++ added) ≡ rest left ++ tail)
+    → next_joined found k longer (js ++ added) ≡ next_joined found k rest js ++ tail
+more_behind k (Some event) longer rest js added tail n matched each = ap (λ (es : List Event). event ∷ es) (each js (omega (arith, matched)))
+more_behind k None longer rest [] added tail n matched each = absurd (omega (arith, matched))
+more_behind k None longer rest (j ∷ js) added tail n matched each = ap (λ (es : List Event). event_with k j ∷ es) (each js (omega (arith, matched)))
+
+joined_behind : (k : Kept) (added : List Draft) (tail : List Event) → joined (k ∷ []) added ≡ tail → (ks : List Kept) (js : List Draft) → AreMatched ks js
+    → joined (ks ++ k ∷ []) (js ++ added) ≡ joined ks js ++ tail
+joined_behind k added tail last [] [] matched = last
+joined_behind k added tail last [] (j ∷ js) matched = absurd (omega (arith, matched))
+joined_behind k added tail last (h ∷ ks) js matched =
+    more_behind h (event_of h) (joined (ks ++ k ∷ [])) (joined ks) js added tail (count_by brings_job ks) (sym (counted_first h ks) ∙ matched)
+    (λ left same. joined_behind k added tail last ks left same)
+
+alone : (k : Kept) (found : Option Event) → is_none found ≡ false → next_joined found k (joined []) [] ≡ option_to_list found
+alone k (Some event) is = refl
+alone k None is = absurd (true≢false is)
+
+with_its_job : (k : Kept) (found : Option Event) (j : Draft) → is_none found ≡ true → next_joined found k (joined []) (j ∷ []) ≡ event_with k j ∷ []
+with_its_job k (Some event) j is = absurd (true≢false (sym is))
+with_its_job k None j is = refl
+
+-- an event that brings no job comes behind the others
+pub joined_alone : (k : Kept) (ks : List Kept) (js : List Draft) → brings_job k ≡ false → AreMatched ks js → joined (ks ++ k ∷ []) js ≡ joined ks js ++ option_to_list (event_of k)
+joined_alone k ks js is matched =
+    ap (joined (ks ++ k ∷ [])) (sym (append-nil js)) ∙ joined_behind k [] (option_to_list (event_of k)) (alone k (event_of k) is) ks js matched
+
+pub matched_alone : (k : Kept) (ks : List Kept) (js : List Draft) → brings_job k ≡ false → AreMatched ks js → AreMatched (ks ++ k ∷ []) js
+matched_alone k ks js is matched =
+    let none : jobs_of k ≡ 0 = ap (λ (b : Bool). cond b 1 0) is in
+    omega (arith, counted_last k ks, none, matched)
+
+-- and so does one that brings a job, with this behind the other jobs
+pub joined_with : (k : Kept) (j : Draft) (ks : List Kept) (js : List Draft) → brings_job k ≡ true → AreMatched ks js → joined (ks ++ k ∷ []) (js ++ j ∷ []) ≡ joined ks js ++ event_with k j ∷ []
+joined_with k j ks js is matched = joined_behind k (j ∷ []) (event_with k j ∷ []) (with_its_job k (event_of k) j is) ks js matched
+
+pub matched_with : (k : Kept) (j : Draft) (ks : List Kept) (js : List Draft) → brings_job k ≡ true → AreMatched ks js → AreMatched (ks ++ k ∷ []) (js ++ j ∷ [])
+matched_with k j ks js is matched =
+    let one : jobs_of k ≡ 1 = ap (λ (b : Bool). cond b 1 0) is in
+    omega (arith, counted_last k ks, one, matched, length-append js (j ∷ []))
+
+-- ---- at the front
+
+-- where the first event brings a job there is one
+pub has_job : (k : Kept) (ks : List Kept) (js : List Draft) → brings_job k ≡ true → AreMatched (k ∷ ks) js → 0 < length js
+has_job k ks js is matched =
+    let one : jobs_of k ≡ 1 = ap (λ (b : Bool). cond b 1 0) is in
+    omega (arith, counted_first k ks, one, matched)
+
+-- the others have the other jobs
+pub rest_alone : (k : Kept) (ks : List Kept) (js : List Draft) → brings_job k ≡ false → AreMatched (k ∷ ks) js → AreMatched ks js
+rest_alone k ks js is matched =
+    let none : jobs_of k ≡ 0 = ap (λ (b : Bool). cond b 1 0) is in
+    omega (arith, counted_first k ks, none, matched)
+
+pub rest_with : (k : Kept) (ks : List Kept) (js left : List Draft) (j : Draft) → brings_job k ≡ true → js ≡ j ∷ left → AreMatched (k ∷ ks) js → AreMatched ks left
+rest_with k ks js left j is same matched =
+    let one : jobs_of k ≡ 1 = ap (λ (b : Bool). cond b 1 0) is in
+    let longer : length js ≡ length (j ∷ left) = ap (λ (l : List Draft). length l) same in
+    omega (arith, counted_first k ks, one, matched, longer)
