@@ -86,6 +86,10 @@ new_by : (jobs : List Earlier) (fence entity : ℕ) (b : Bool) → any_of entity
 new_by jobs fence entity true is = ap (λ (b : Bool). cond b None (Some (record { fence = fence; entity = entity }))) is
 new_by jobs fence entity false is = refl
 
+-- a job of whose entity one was found is not new, whether or not the later one comes after it
+pub none_seen : (jobs : List Earlier) (later : Request) (fence : ℕ) (request : Request) → any_of request.entity jobs ≡ true → unseen jobs (earlier_job later fence (Some request)) ≡ None
+none_seen jobs later fence request is = new_by jobs fence request.entity (comes_after later fence request) is
+
 none_new : (entities : List ℕ) (jobs : List Earlier) (later : Request) (fence : ℕ) (job : Option Request) → list_all (λ entity. any_of entity jobs) entities ≡ true
     → is_listed entities job ≡ true → unseen jobs (earlier_job later fence job) ≡ None
 none_new entities jobs later fence None all listed = refl

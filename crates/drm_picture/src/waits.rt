@@ -61,36 +61,6 @@ pub(crate) fn armed_before(fences: &[Bar], place: usize) -> &[Bar]
     &fences[..fences.partition_point(|bar| bar.from < place)]
 }
 
-// The earlier job, if the later one comes after it.
-fn earlier_by(later: &Request, fence: FenceId, job: Option<&Request>) -> Option<Earlier>
-    ensures { result ≡ earlier_job later.now fence (option_copied job.entry) }
-{
-    match job {
-        Some(request) => {
-            if later.is_after(fence, request) {
-                Some(Earlier {
-                    fence,
-                    entity: request.entity,
-                })
-            } else {
-                None
-            }
-        }
-        None => None,
-    }
-}
-
-// The job of a bar, if its fence has no outcome at this place and the later job comes after it.
-fn earlier_at(run: &[Step], place: usize, later: &Request, bar: &Bar) -> Option<Earlier>
-    ensures { result ≡ earlier_of run.now place later.now bar.now }
-{
-    if is_open(bar, place) {
-        earlier_by(later, bar.opening.number, job_of(run, bar))
-    } else {
-        None
-    }
-}
-
 // Whether one of these jobs is of the entity.
 fn is_any_of(entity: EntityId, jobs: &[Earlier]) -> bool
     ensures { result ≡ any_of entity jobs.now }
@@ -153,19 +123,43 @@ fn distinct_entities(
     Ok(entities)
 }
 
-// Adds the job, if there is one and none of its entity is among these.
-fn push_unseen(jobs: &mut Vec<Earlier>, found: Option<Earlier>) -> Result<(), AllocError>
-    ensures { OnOk result (jobs.new.items ≡ jobs.old.items ++ cons_option (unseen jobs.old.items found) []) }
+// Adds the job of a fence, if there is one, none of its entity is among these, and the later job comes after it. The
+// entity is asked first, since that costs least.
+#[tactic(auto, using(crate::proofs::Lasts::none_seen))]
+fn push_unseen(
+    jobs: &mut Vec<Earlier>,
+    later: &Request,
+    fence: FenceId,
+    job: Option<&Request>,
+) -> Result<(), AllocError>
+    ensures { OnOk result (jobs.new.items ≡ jobs.old.items ++ cons_option (unseen jobs.old.items (earlier_job later.now fence (option_copied job.entry))) []) }
 {
-    match found {
-        Some(job) => {
-            if !is_any_of(job.entity, jobs) {
-                jobs.push(job)?;
+    match job {
+        Some(request) => {
+            let entity = request.entity;
+            if !is_any_of(entity, jobs) && later.is_after(fence, request) {
+                jobs.push(Earlier { fence, entity })?;
             }
             Ok(())
         }
         None => Ok(()),
     }
+}
+
+// The same of the fence of a bar, if it has no outcome at this place.
+fn push_earlier(
+    jobs: &mut Vec<Earlier>,
+    run: &[Step],
+    place: usize,
+    later: &Request,
+    bar: &Bar,
+) -> Result<(), AllocError>
+    ensures { OnOk result (jobs.new.items ≡ jobs.old.items ++ cons_option (unseen jobs.old.items (earlier_of run.now place later.now bar.now)) []) }
+{
+    if is_open(bar, place) {
+        return push_unseen(jobs, later, bar.opening.number, job_of(run, bar));
+    }
+    Ok(())
 }
 
 // Of the jobs that the later one comes after, and whose fences have no outcome at this place, the last of each entity, the
@@ -186,7 +180,7 @@ fn lasts_from_end(
         if entities.len() <= jobs.len() && has_all(entities, &jobs) {
             return Ok(jobs);
         }
-        push_unseen(&mut jobs, earlier_at(run, place, later, &fences[index]))?;
+        push_earlier(&mut jobs, run, place, later, &fences[index])?;
     }
     Ok(jobs)
 }

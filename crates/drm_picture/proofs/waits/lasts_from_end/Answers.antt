@@ -1,13 +1,13 @@
-use Rattle.std.proofs.Common.{◌≡◌, ◌∙◌, ◌-◌, ◌++◌, [], true, List, Option, ap, arith, reverse, subst, sym}
-use Rattle.std.specs.List.{cons_option, list_all}
-use Rattle.drm_picture.specs.Lasts.{any_of, unseen}
+use Rattle.std.proofs.Common.{◌≡◌, ◌∙◌, ◌-◌, true, List, ap, arith, reverse, subst, sym}
+use Rattle.std.specs.List.{list_all}
+use Rattle.drm_picture.specs.Lasts.{any_of}
 use Rattle.drm_picture.specs.declared.waits.Earlier.{Earlier}
 use Rattle.drm_picture.proofs.Lasts.{lasts-all, lasts-next}
 use Rattle.drm_picture.proofs.waits.lasts_from_end.Goals as goal
 
 pub loop-index-preserved : goal.loop-index-preserved
 loop-index-preserved c =
-    ap reverse (c.in_ok-push_unseen.ensures ∙ ap (λ (o : Option Earlier). c.loop-index.jobs.items ++ cons_option (unseen c.loop-index.jobs.items o) []) c.earlier_at.ensures)
+    ap reverse c.in_ok-push_earlier.ensures
     ∙ lasts-next c.args.run.now c.args.place c.args.later.now c.args.fences.now c.loop-index.index (c.loop-index.index - 1) _ c.loop-index.jobs.items (omega arith) (omega arith) c.loop-index.invariant
 
 pub returns-then-has_all : goal.returns-then-has_all
