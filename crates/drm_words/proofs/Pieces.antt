@@ -1,5 +1,5 @@
 -- Answers that are told in pieces, with words beside them.
-use Rattle.std.proofs.Common.{◌≡◌, ◌<◌, ℕ, List, [], ◌∷◌, ◌++◌, length, append_assoc, append-nil, Option, Ok, Err, Result, sym, ap, ◌∙◌, arith}
+use Rattle.std.proofs.Common.{◌≡◌, ◌<◌, ℕ, List, [], ◌∷◌, ◌++◌, length, append_assoc, append-nil, Option, Ok, Err, Result, sym, subst, ap, ◌∙◌, arith}
 use Rattle.std.specs.Prelude.{OnOk, OnErr}
 use Rattle.std.specs.Io.KnownBytes.{Appends}
 use Rattle.std.proofs.KnownBytes.{Appends-nil}
@@ -23,6 +23,12 @@ LinesSoFar events so_far rest told = (more : List Answer) → text_with_words ev
 abbrev pub SaidSoFar : {E : Type 0} → Option (List ℕ) → Option (List ℕ) → CoreState → CoreState → List Event → List Event → Result (Unit {0}) E → List ℕ → Type 0
 SaidSoFar old new start now events rest told piece =
     (given : List Answer) × GoesOn start events given now rest × ((text : List ℕ) × LinesSoFar events given rest text × Told old new told text piece)
+
+-- before the first event nothing is answered, and nothing told
+pub nothing_said : (a : Option (List ℕ)) (start : CoreState) (events rest : List Event) (piece : List ℕ) → rest ≡ events → piece ≡ []
+    → (given : List Answer) × GoesOn start events given start rest × ((text : List ℕ) × LinesSoFar events given rest text × AppendsPiece a a text piece)
+nothing_said a start events rest piece same none =
+    ([], (λ more new run. subst (λ es. Run start es more new) same run), ([], (λ more. ap (λ es. text_with_words es more) (sym same)), ([], Appends-nil a, sym none)))
 
 -- one line more
 pub line_more : (events rest left : List Event) (so_far : List Answer) (event : Event) (answer : Answer) (subject : Subject) (told : List ℕ) → rest ≡ event ∷ left

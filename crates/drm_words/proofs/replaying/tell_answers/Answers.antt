@@ -2,9 +2,15 @@ use Rattle.std.proofs.Common.{◌≡◌, ◌∷◌, ◌++◌, [], sym, subst, �
 use Rattle.drm_script.specs.Commands.{AllNamesExist}
 use Rattle.drm_engine.proofs.Pieces.{GoesOn, turn, run_ends, told_more, told_less}
 use Rattle.drm_words.specs.Lines.{worded_line_of}
-use Rattle.drm_words.proofs.Pieces.{line_more, lines_end, told_all, told_front}
+use Rattle.drm_words.proofs.Pieces.{line_more, lines_end, nothing_said, told_all, told_front}
 use Rattle.drm_words.proofs.replaying.tell_answers.Goals as goal
 use Rattle.drm_words.proofs.replaying.tell_answers.Goals.{then-is_ok, else-is_ok}
+
+pub loop-event-init : goal.loop-event-init
+loop-event-init g c = record {
+  names = subst (AllNamesExist c.args.core.now.device.spec) (sym c.into_left-rest.ensures) c.requires.names;
+  so_far = nothing_said (g.W.Write.contents c.args.writer.now) c.args.core.now c.args.events c.into_left-rest.result c.args.piece.now.items c.into_left-rest.ensures c.requires.bare;
+}
 
 pub loop-event-preserved : goal.loop-event-preserved
 loop-event-preserved g c =
