@@ -8,6 +8,7 @@ pub mod CoreFacts
 pub mod Blanks
 pub mod Runs
 pub mod RoomFacts
+pub mod UsesAdded
 pub mod CoreArmed
 pub mod Collecting
 pub mod Locks

@@ -29,15 +29,15 @@ any_at p (x ∷ xs) is =
     ]
 
 -- where none is found, each fails
-pub each_fails : (p : ℕ → Bool) (xs : List ℕ) (k x : ℕ) → find p xs ≡ None → slice_get xs k ≡ Some x → p x ≡ false
+pub each_fails : {X : Type 0} (p : X → Bool) (xs : List X) (k : ℕ) (x : X) → find p xs ≡ None → slice_get xs k ≡ Some x → p x ≡ false
 each_fails p [] k x none at = absurd (cc (at))
-each_fails p (y ∷ xs) k x none at =
+each_fails {X} p (y ∷ xs) k x none at =
     elim (cases_Bool (p y)) [
       | inl is ↦ let never : Some y ≡ None = sym (ap (λ b. cond b (Some y) (find p xs)) is) ∙ none in absurd (cc (never))
       | inr fails ↦ by_place k at fails (each_fails p xs) (sym (ap (λ b. cond b (Some y) (find p xs)) fails) ∙ none)
     ]
   where
-    by_place : (k : ℕ) → slice_get (y ∷ xs) k ≡ Some x → p y ≡ false → ((k x : ℕ) → find p xs ≡ None → slice_get xs k ≡ Some x → p x ≡ false) → find p xs ≡ None → p x ≡ false
+    by_place : (k : ℕ) → slice_get (y ∷ xs) k ≡ Some x → p y ≡ false → ((k : ℕ) (x : X) → find p xs ≡ None → slice_get xs k ≡ Some x → p x ≡ false) → find p xs ≡ None → p x ≡ false
     by_place zero at fails rest none = let same : y ≡ x = cc (at) in ap p (sym same) ∙ fails
     by_place (suc k) at fails rest none = rest k x none at
 

@@ -1,7 +1,6 @@
 -- Taking room in reservations: each stays as it was, and none has less room.
 use Rattle.std.proofs.Common.{◌≡◌, Bool, ℕ, zero, suc, ◌+◌, ◌<◌, List, [], ◌∷◌, drop, take, length, get_or, set, Some, refl, drop-cons, add-one, sym, ap, subst, ◌∙◌, inl, inr, arith, slice_get}
 use Rattle.drm_types.specs.declared.access.Access.{Access}
-use Rattle.drm_job.specs.declared.Draft.{Draft}
 use Rattle.drm_core.proofs.Lists.{at_index}
 use Rattle.drm_core.proofs.Lists.{get_take}
 use Rattle.std.specs.Prelude.{IsTrue}
@@ -9,7 +8,6 @@ use Rattle.std.proofs.lemmas.List.{length-set}
 use Rattle.std.proofs.lemmas.Bool.{cases_eq}
 use Rattle.drm_resv.specs.Reservation.{WithRoom}
 use Rattle.drm_core.specs.Planning.{MoreRoom, HasRoomFor}
-use Rattle.drm_table.specs.Uses.{HasUse}
 use Rattle.drm_core.proofs.Lists.{get_set_same, get_set_other, get_set_cases}
 
 pub more_itself : (rs : List WithRoom) → MoreRoom rs rs
@@ -75,23 +73,4 @@ room_next declared i place d rs r new d_is lt place_is at stays has before k e x
                 let less : k < i = let le = t.1 in omega (arith, le, apart) in
                 before k e x (get_take declared i k less ∙ t.0) there.1
           ]
-    ]
-
--- the uses that were added to the first reservations, and one more
-pub use_next : (ended : ℕ → Bool) (fence : ℕ) (job : Draft) (old rs : List WithRoom) (i : ℕ) (r new : WithRoom) → slice_get old i ≡ Some r → slice_get rs i ≡ Some r
-    → HasUse ended fence job i r new
-    → ((k : ℕ) (x : WithRoom) → k < i → slice_get old k ≡ Some x → (m : WithRoom) × (slice_get rs k ≡ Some m) × HasUse ended fence job k x m)
-    → (k : ℕ) (x : WithRoom) → k < i + 1 → slice_get old k ≡ Some x → (m : WithRoom) × (slice_get (set rs i new) k ≡ Some m) × HasUse ended fence job k x m
-use_next ended fence job old rs i r new at_old at_rs has done k x lt at =
-    elim (cases_eq k i) [
-      | inl same ↦
-          let at_i : slice_get old i ≡ Some x = subst (λ n. slice_get old n ≡ Some x) same at in
-          let is : r ≡ x = cc (at_i, at_old) in (
-            new,
-            subst (λ n. slice_get (set rs i new) n ≡ Some new) (sym same) (get_set_same rs i r new at_rs),
-            subst (λ n. HasUse ended fence job n x new) (sym same) (subst (λ z. HasUse ended fence job i z new) is has),
-          )
-      | inr apart ↦
-          let m = done k x (omega (arith, lt, apart)) at in
-          (m.0, get_set_other rs i k new apart ∙ m.1, m.2)
     ]

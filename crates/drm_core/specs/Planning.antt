@@ -40,6 +40,11 @@ abbrev pub AreRoomy : Draft → List WithRoom → Type 0
 AreRoomy job reservations =
     (k : ℕ) (r : WithRoom) (usage : Usage) → slice_get reservations k ≡ Some r → usage_at k job ≡ Some usage → IsTrue r.has_room
 
+-- the job declares no buffer twice
+abbrev pub DeclaresOnce : Draft → Type 0
+DeclaresOnce job =
+    (j k : ℕ) (d e : ℕ × Access) → slice_get job.declared j ≡ Some d → slice_get job.declared k ≡ Some e → d.0 ≡ e.0 → j ≡ k
+
 -- so for all reservations
 pub record HaveUses (ended : ℕ → Bool) (fence : ℕ) (job : Draft) (old new : List WithRoom) : Type 0 where
   pub count : length new ≡ length old

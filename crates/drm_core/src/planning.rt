@@ -4,7 +4,7 @@ ghost use Rattle.drm_types.specs.declared.spec.DeviceSpec.{DeviceSpec};
 ghost use Rattle.drm_job.specs.Fault.{IsJob};
 ghost use Rattle.drm_fence.specs.Fences.{has_ended_at};
 ghost use Rattle.drm_table.specs.Collected.{IsCollected};
-ghost use Rattle.drm_core.specs.Planning.{is_held_in, holds_in, declared_kept, MoreRoom, HasRoomFor, AreRoomy, HaveUses};
+ghost use Rattle.drm_core.specs.Planning.{is_held_in, holds_in, declared_kept, MoreRoom, HasRoomFor, AreRoomy, DeclaresOnce, HaveUses};
 
 use drm_fence::Timeline;
 use drm_job::Job;
@@ -101,14 +101,17 @@ pub(crate) fn collect(reservations: &[Resv], job: &Job, deps: &mut Deps)
     }
 }
 
-// The uses of a new job are added to the reservations of its buffers.
+// The uses of a new job are added to the reservations of its buffers, each of which it declares once.
 pub(crate) fn add_uses(reservations: &mut [Resv], job: &Job, fence: FenceId, timeline: &Timeline)
     requires room { AreRoomy job.now reservations.old }
     requires entity { job.now.entity < 64 }
-    requires few { length reservations.old ≤ 64 }
+    requires there { (k : ℕ) (d : ℕ × Access) → slice_get job.now.declared k ≡ Some d → d.0 < length reservations.old }
+    requires once { DeclaresOnce job.now }
     ensures { HaveUses (has_ended_at timeline.now.list) fence job.now reservations.old reservations.new }
 {
-    for (place, resv) in reservations.iter_mut().enumerate() {
-        add_use(resv, BufferId::new(place as u32), job, fence, timeline);
+    let declared = job.declared();
+    for use_of in declared {
+        let resv = &mut reservations[use_of.0.number() as usize];
+        add_use(resv, use_of.0, job, fence, timeline);
     }
 }

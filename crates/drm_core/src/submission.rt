@@ -32,6 +32,7 @@ impl CoreTable {
         ensures core { IsCore self.new }
     {
         device_laws();
+        jobs_are_the_sound_drafts();
         let fence = self.device.armed();
         planning::add_uses(&mut self.reservations, &job, fence, self.device.fences());
         self.device.arm_job(job, deps)
