@@ -1,7 +1,7 @@
 ghost use Rattle.std.specs.Prelude.{◌≡◌, [], ◌∷◌, None, IfOk, IfSome, IsTrue};
 
 use drm_core::{Begun, BuildError, Device, Held, Plan};
-use drm_job::{Draft, check};
+use drm_job::{Draft, ShortList, check};
 use drm_packet::Packet;
 use drm_resv::Deps;
 use drm_types::{Access, BufferId, DeviceSpec, EntitySpec, Priority, RingSpec, Sequence};
@@ -47,7 +47,7 @@ fn build(alloc: Global) -> Result<Option<Device>, AllocError>
 fn draft(alloc: Global) -> Result<Draft, AllocError> {
     let source = BufferId::new(0);
     let target = BufferId::new(1);
-    let mut declared = Sequence::new(alloc);
+    let mut declared = ShortList::new(alloc);
     declared.push((source, Access::Read))?;
     declared.push((target, Access::Write))?;
     let copy = Packet::Copy {
@@ -61,8 +61,8 @@ fn draft(alloc: Global) -> Result<Draft, AllocError> {
         entity: 0,
         credits: 1,
         declared,
-        after: Sequence::new(alloc),
-        packets: Sequence::from_vec(vec![in alloc; copy; 64]?),
+        after: ShortList::new(alloc),
+        packets: ShortList::from_vec(vec![in alloc; copy; 64]?),
     })
 }
 

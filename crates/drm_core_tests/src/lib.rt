@@ -8,7 +8,7 @@ ghost use Rattle.std.specs.Prelude.{◌≡◌, IfOk, map};
 #[cfg(test)]
 mod tests;
 
-use drm_job::Draft;
+use drm_job::{Draft, ShortList};
 use drm_packet::Packet;
 use drm_types::{
     Access, BufferId, DeviceSpec, EntityId, EntitySpec, FenceId, Priority, RingId, RingSpec,
@@ -131,11 +131,11 @@ pub fn draft_of(alloc: Global, job: Job) -> Result<Draft, AllocError>
     ensures credits { IfOk result (λ draft. draft.credits ≡ job.1) }
     ensures after { IfOk result (λ draft. draft.after ≡ job.3.now) }
 {
-    let mut declared = Sequence::new(alloc);
+    let mut declared = ShortList::new(alloc);
     for (buffer, access) in job.2 {
         declared.push((BufferId::new(*buffer), *access))?;
     }
-    let mut packets = Sequence::new(alloc);
+    let mut packets = ShortList::new(alloc);
     for work in job.4 {
         packets.push(packet_of(*work))?;
     }
@@ -143,7 +143,7 @@ pub fn draft_of(alloc: Global, job: Job) -> Result<Draft, AllocError>
         entity: job.0,
         credits: job.1,
         declared,
-        after: Sequence::from_vec(Vec::from_slice(alloc, job.3)?),
+        after: ShortList::from_slice(alloc, job.3)?,
         packets,
     })
 }

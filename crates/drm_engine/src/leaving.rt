@@ -12,12 +12,14 @@ use std::alloc::{AllocError, Global};
 fn turns<'a>(alloc: Global, jobs: &'a [JournalJob]) -> Result<Vec<Turn<'a>>, AllocError>
     ensures { IfOk result (λ turns. turns.items ≡ map turn_of jobs.now) }
 {
-    jobs.iter()
-        .map(|armed| Turn {
+    let mut turns = Vec::with_capacity(alloc, jobs.len())?;
+    for armed in jobs {
+        turns.push(Turn {
             job: &armed.job,
             ran: armed.ran,
-        })
-        .collect(alloc)
+        })?;
+    }
+    Ok(turns)
 }
 
 /// The buffers that the serial machine leaves, which begins with those of the header and takes the jobs as its turns.

@@ -7,9 +7,9 @@ ghost use Rattle.drm_gpu_tests.specs.Pairs.{IsPair, pair_of};
 use crate::calls::{begun, made, runs};
 use crate::{add, fill, opened};
 use drm_gpu::{BeginError, BeginReadError, Gpu, Locking, Pass};
-use drm_job::{Draft, Job, JobFault};
+use drm_job::{Draft, Job, JobFault, ShortList};
 use drm_types::Access::{Read, Write};
-use drm_types::{BufferId, EntityId, FenceId, Sequence};
+use drm_types::{BufferId, EntityId, FenceId};
 use std::alloc::Global;
 use std::mem;
 use std::process::Abort;
@@ -158,9 +158,9 @@ fn draft_for(alloc: Global, entity: EntityId) -> Draft
     Draft {
         entity,
         credits: 1,
-        declared: Sequence::new(alloc),
-        after: Sequence::new(alloc),
-        packets: Sequence::new(alloc),
+        declared: ShortList::new(alloc),
+        after: ShortList::new(alloc),
+        packets: ShortList::new(alloc),
     }
 }
 

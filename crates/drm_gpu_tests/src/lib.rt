@@ -35,7 +35,7 @@ mod submitting;
 mod threads;
 
 use drm_gpu::{Gpu, Pass};
-use drm_job::{Draft, Job, check};
+use drm_job::{Draft, Job, ShortList, check};
 use drm_packet::Packet;
 use drm_types::{
     Access, BufferId, DeviceSpec, EntityId, EntitySpec, Priority, RingId, RingSpec, Sequence,
@@ -104,7 +104,7 @@ pub fn job_of(
     ensures declared { IfSome result (λ job. job.declared ≡ declared.now) }
     ensures packets { IfSome result (λ job. job.packets ≡ packets.now) }
 {
-    let mut list = Sequence::new(alloc);
+    let mut list = ShortList::new(alloc);
     for (buffer, access) in declared {
         list.push((BufferId::new(*buffer), *access)).ok()?;
     }
@@ -112,8 +112,8 @@ pub fn job_of(
         entity,
         credits: 1,
         declared: list,
-        after: Sequence::new(alloc),
-        packets: Sequence::from_vec(Vec::from_slice(alloc, packets).ok()?),
+        after: ShortList::new(alloc),
+        packets: ShortList::from_slice(alloc, packets).ok()?,
     };
     let Ok(spec) = pair(alloc, 8) else {
         return None;

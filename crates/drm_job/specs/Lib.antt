@@ -1,3 +1,4 @@
+pub mod Items
 pub mod Uses
 pub mod Conflicts
 pub mod Fault

@@ -9,13 +9,15 @@ mod conflict;
 mod faults;
 mod job;
 mod laws;
+mod short_list;
 
 pub use conflict::conflicts;
 use drm_packet::Packet;
-use drm_types::{Access, BufferId, EntityId, FenceId, Sequence};
+use drm_types::{Access, BufferId, EntityId, FenceId};
 pub use faults::check;
 pub use job::Job;
 pub use laws::{jobs_are_the_sound_drafts, jobs_run_in_their_device, jobs_stay_within};
+pub use short_list::ShortList;
 
 /// A job that was not checked yet (the arguments of `drm_sched_job_init` and of a command submission).
 #[derive(Drop)]
@@ -26,11 +28,11 @@ pub struct Draft {
     pub credits: u16,
     /// The buffers that it uses, each once, and how: at most 16. Its packets touch no others, and of these none that is
     /// only held.
-    pub declared: Sequence<(BufferId, Access)>,
+    pub declared: ShortList<(BufferId, Access)>,
     /// Fences that it waits for beside those of the buffers: at most 16.
-    pub after: Sequence<FenceId>,
+    pub after: ShortList<FenceId>,
     /// Its work, in order: at most 64 packets.
-    pub packets: Sequence<Packet>,
+    pub packets: ShortList<Packet>,
 }
 
 /// A list of a draft.

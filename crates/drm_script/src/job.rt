@@ -6,12 +6,12 @@ ghost use Rattle.std.specs.Option.{option_map};
 ghost use Rattle.drm_text.specs.Reading.{Reads, Gives};
 ghost use Rattle.drm_script.specs.Job.{kind_read, one_of, number_first, byte_alone, number_alone, fill_from, fill_in_turn, route_from, route_in_turn, fill_at, route_at, copy_at, add_at, stall_at, packet_at, is_late, tail_at, with_item, with_word, with_words, job_at, is_job};
 
-use drm_job::{Draft, Job, check};
+use drm_job::{Draft, Job, ShortList, check};
 use drm_packet::Packet;
 use drm_text::{
     Fault, Parts, Position, ReadError, TextFault, Words, is_word, read_byte, read_number,
 };
-use drm_types::{Access, BufferId, DeviceSpec, Sequence};
+use drm_types::{Access, BufferId, DeviceSpec};
 use std::alloc::{AllocError, Global};
 
 /// The bytes of a packet as it is mostly written, `fill:0:0:4:05`, with the space before it.
@@ -299,7 +299,7 @@ fn most_packets(left: usize) -> usize
 /// too, so that a list mostly takes memory once.
 fn add_packet(
     alloc: Global,
-    packets: &mut Sequence<Packet>,
+    packets: &mut ShortList<Packet>,
     packet: Packet,
     left: usize,
 ) -> Result<(), AllocError>
@@ -307,7 +307,7 @@ fn add_packet(
 {
     if packets.is_empty() {
         let room = most_packets(left);
-        *packets = Sequence::from_vec(Vec::with_capacity(alloc, room)?);
+        *packets = ShortList::with_capacity(alloc, room)?;
     }
     packets.push(packet)
 }
@@ -358,9 +358,9 @@ fn bare_draft(alloc: Global, entity: u32, credits: u16) -> Draft
     Draft {
         entity,
         credits,
-        declared: Sequence::new(alloc),
-        after: Sequence::new(alloc),
-        packets: Sequence::new(alloc),
+        declared: ShortList::new(alloc),
+        after: ShortList::new(alloc),
+        packets: ShortList::new(alloc),
     }
 }
 

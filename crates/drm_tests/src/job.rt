@@ -3,7 +3,7 @@
 use crate::job::Want::{DeclaredTwice, Fault, Fits, MoveNotKernel, NoBuffer};
 use crate::job::Work::{Add, Copy, Fill, Stall};
 use crate::{add, buffers_of, copy, device, fill};
-use drm_job::{Draft, DraftList, Job, JobFault, check, conflicts};
+use drm_job::{Draft, DraftList, Job, JobFault, ShortList, check, conflicts};
 use drm_packet::Packet;
 use drm_types::Access::{Hold, Move, Read, Write};
 use drm_types::{Access, BufferId, DeviceSpec, EntityId, EntitySpec, Priority, Sequence};
@@ -66,16 +66,16 @@ fn packet_of(work: Work) -> Packet {
 fn declared_of(
     alloc: Global,
     list: &[(u32, Access)],
-) -> Result<Sequence<(BufferId, Access)>, AllocError> {
-    let mut declared = Sequence::new(alloc);
+) -> Result<ShortList<(BufferId, Access)>, AllocError> {
+    let mut declared = ShortList::new(alloc);
     for (buffer, access) in list {
         declared.push((BufferId::new(*buffer), *access))?;
     }
     Ok(declared)
 }
 
-fn packets_of(alloc: Global, list: &[Work]) -> Result<Sequence<Packet>, AllocError> {
-    let mut packets = Sequence::new(alloc);
+fn packets_of(alloc: Global, list: &[Work]) -> Result<ShortList<Packet>, AllocError> {
+    let mut packets = ShortList::new(alloc);
     for work in list {
         packets.push(packet_of(*work))?;
     }
@@ -87,7 +87,7 @@ fn draft_of(alloc: Global, case: &Case) -> Result<Draft, AllocError> {
         entity: case.0,
         credits: case.1,
         declared: declared_of(alloc, case.2)?,
-        after: Sequence::new(alloc),
+        after: ShortList::new(alloc),
         packets: packets_of(alloc, case.3)?,
     })
 }
@@ -351,9 +351,9 @@ fn long_draft(alloc: Global, counts: Counts) -> Result<Draft, AllocError> {
     Ok(Draft {
         entity: 0,
         credits: u16::MAX,
-        declared: Sequence::from_vec(vec![in alloc; declared; counts.0]?),
-        after: Sequence::from_vec(vec![in alloc; 0; counts.1]?),
-        packets: Sequence::from_vec(vec![in alloc; Packet::Stall { resets: 0 }; counts.2]?),
+        declared: ShortList::from_vec(vec![in alloc; declared; counts.0]?),
+        after: ShortList::from_vec(vec![in alloc; 0; counts.1]?),
+        packets: ShortList::from_vec(vec![in alloc; Packet::Stall { resets: 0 }; counts.2]?),
     })
 }
 
@@ -373,8 +373,8 @@ fn job(alloc: Global, spec: &DeviceSpec, declared: &[(u32, Access)]) -> Result<J
         entity: 1,
         credits: 3,
         declared: declared_of(alloc, declared)?,
-        after: Sequence::new(alloc),
-        packets: Sequence::from_vec(vec![in alloc; Packet::Stall { resets: 2 }; 1]?),
+        after: ShortList::new(alloc),
+        packets: ShortList::from_slice(alloc, &[Packet::Stall { resets: 2 }])?,
     };
     match check(draft, spec) {
         Ok(job) => Ok(job),

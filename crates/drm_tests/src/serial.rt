@@ -3,7 +3,7 @@ ghost use Rattle.std.specs.Prelude.{IfOk};
 ghost use Rattle.drm_job.specs.Ranges.{RunsIn};
 
 use crate::{add, buffers_of, device};
-use drm_job::{Draft, Job, check, jobs_run_in_their_device};
+use drm_job::{Draft, Job, ShortList, check, jobs_run_in_their_device};
 use drm_serial::{Serial, Turn};
 use drm_types::{Access, BufferId, DeviceSpec, Sequence};
 use std::alloc::{AllocError, Global};
@@ -26,9 +26,9 @@ fn adding_job(
     let draft = Draft {
         entity: 0,
         credits: 1,
-        declared: Sequence::from_vec(Vec::from_slice(alloc, &declared)?),
-        after: Sequence::new(alloc),
-        packets: Sequence::from_vec(vec![in alloc; add((source, 0), (target, 0), 1); times]?),
+        declared: ShortList::from_slice(alloc, &declared)?,
+        after: ShortList::new(alloc),
+        packets: ShortList::from_vec(vec![in alloc; add((source, 0), (target, 0), 1); times]?),
     };
     match check(draft, spec) {
         Ok(job) => {

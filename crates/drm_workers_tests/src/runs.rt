@@ -6,7 +6,7 @@ use crate::filling_jobs;
 use crate::gates::{Meeting, MeetingClock, Open, Readings, Still};
 use drm_fence::Phase;
 use drm_gpu_tests::pair;
-use drm_job::{Draft, check};
+use drm_job::{Draft, ShortList, check};
 use drm_packet::Packet;
 use drm_report::Report;
 use drm_types::{BadSpec, BufferId, DeviceSpec, EntitySpec, Outcome, Priority, RingSpec, Sequence};
@@ -176,9 +176,9 @@ fn hanging_draft(alloc: Global) -> Result<Draft, AllocError> {
     Ok(Draft {
         entity: 0,
         credits: 1,
-        declared: Sequence::new(alloc),
-        after: Sequence::new(alloc),
-        packets: Sequence::from_vec(Vec::from_slice(alloc, &[Packet::Stall { resets: 1 }])?),
+        declared: ShortList::new(alloc),
+        after: ShortList::new(alloc),
+        packets: ShortList::from_slice(alloc, &[Packet::Stall { resets: 1 }])?,
     })
 }
 

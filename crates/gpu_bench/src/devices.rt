@@ -2,7 +2,7 @@
 ghost use Rattle.std.specs.Prelude.{◌≡◌, ◌<◌, All, IfOk, length};
 ghost use Rattle.gpu_bench.specs.Devices.{IsEven, IsJobOf};
 
-use drm_job::{Draft, Job, check};
+use drm_job::{Draft, Job, ShortList, check};
 use drm_packet::Packet;
 use drm_types::{Access, BufferId, DeviceSpec, EntitySpec, Priority, RingId, RingSpec, Sequence};
 use std::alloc::{AllocError, Global};
@@ -97,7 +97,7 @@ pub(crate) fn job_of(
 ) -> Result<Job, AllocError>
     ensures { IfOk result (IsJobOf spec.now) }
 {
-    let mut packets = Vec::with_capacity(alloc, work.packets as usize)?;
+    let mut packets = ShortList::with_capacity(alloc, work.packets as usize)?;
     for place in 0..work.packets {
         packets.push(packet_of(work, ring, place))?;
     }
@@ -105,9 +105,9 @@ pub(crate) fn job_of(
     let draft = Draft {
         entity: ring,
         credits: 1,
-        declared: Sequence::from_vec(Vec::from_slice(alloc, &declared)?),
-        after: Sequence::new(alloc),
-        packets: Sequence::from_vec(packets),
+        declared: ShortList::from_slice(alloc, &declared)?,
+        after: ShortList::new(alloc),
+        packets,
     };
     match check(draft, spec) {
         Ok(job) => Ok(job),

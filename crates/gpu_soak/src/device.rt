@@ -3,7 +3,7 @@ ghost use Rattle.std.specs.Prelude.{◌≡◌, [], ◌∷◌, replicate, IfOk};
 ghost use Rattle.gpu_soak.specs.Devices.{IsSmall, entity_on, small_of};
 
 use crate::chance::Chance;
-use drm_job::Draft;
+use drm_job::{Draft, ShortList};
 use drm_packet::Packet;
 use drm_types::Access::{Read, Write};
 use drm_types::{
@@ -85,7 +85,7 @@ fn draft_of(
     declared: &[(u32, Access)],
     packets: &[Packet],
 ) -> Option<Draft> {
-    let mut list = Sequence::new(alloc);
+    let mut list = ShortList::new(alloc);
     for (buffer, access) in declared {
         list.push((BufferId::new(*buffer), *access)).ok()?;
     }
@@ -93,8 +93,8 @@ fn draft_of(
         entity,
         credits,
         declared: list,
-        after: Sequence::new(alloc),
-        packets: Sequence::from_vec(Vec::from_slice(alloc, packets).ok()?),
+        after: ShortList::new(alloc),
+        packets: ShortList::from_slice(alloc, packets).ok()?,
     })
 }
 

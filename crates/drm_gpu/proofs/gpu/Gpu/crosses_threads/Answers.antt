@@ -1,8 +1,10 @@
 use denote.Param.Send.{IsSend, IsSync, sendable}
+use Rattle.std.proofs.Crossing.{crosses}
 use Rattle.drm_gpu.specs.contracts.driver.Driver as Driver
 use Rattle.drm_gpu.specs.contracts.driver.Task as Task
 use Rattle.drm_gpu.specs.contracts.driver.DriverWard.TheImpl.{ghosts as ward}
 use Rattle.drm_sched.specs.contracts.device_calls.Device as Device
+use Rattle.drm_job.specs.contracts.job.Job as Job
 use Rattle.drm_resv.specs.contracts.resv.Resv as Resv
 use Rattle.ww_lock.specs.contracts.board.Board as Board
 use Rattle.ww_lock.specs.contracts.seat.Seat as Seat
@@ -23,3 +25,8 @@ returns-clause-gpu c =
     let packets : IsSync WaitQueue.the_row = search sendable depth 20 in
     let board : IsSync (Board.the_field Driver.the_row Device.the_row Resv.the_row Task.the_row ward).row = record { shared = λ x o p κ. b.shared x o p κ } in
     search sendable depth 20
+
+pub crosses_threads-requires-send-W-Pivot : goal.crosses_threads-requires-send-W-Pivot
+crosses_threads-requires-send-W-Pivot c κs =
+    let job : IsSend Job.the_row = search (sendable, crosses) depth 40 fits 5000 in
+    search (sendable, crosses) depth 40 fits 5000
