@@ -19,8 +19,8 @@ use Rattle.drm_words.specs.Replaying.{ReplaysWithWords}
 use Rattle.drm_run.specs.Endings as run_ending
 use Rattle.drm_run.specs.Runs as run
 use Rattle.drm_run.specs.declared.ending.RunEnding.{RunEnding}
-use Rattle.drmsim.specs.CommandLine.{IsAsked, number_entered, wants_words, word_entered, word_given}
-use Rattle.drmsim.specs.declared.command_line.Request.TheVariants.{Run, Work}
+use Rattle.drm_command_line.specs.CommandLine.{IsAsked, number_entered, wants_words, word_entered, word_given}
+use Rattle.drm_command_line.specs.declared.command_line.Request.TheVariants.{Run, Work}
 
 -- the engine ran to an ending, of which this is the exit status
 abbrev pub EndsAs : Engine → Option (List ℕ) → Option (List ℕ) → Option (List ℕ) → ℕ → Type 0

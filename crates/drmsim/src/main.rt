@@ -1,9 +1,9 @@
 //! drmsim: the scheduler of a simulated GPU, driven by texts.
 //!
 //! Each command runs an engine of `drm_engine` from standard input to standard output, or that of `drm_run`, whose workers
-//! run in threads. This program only reads the command line (`command_line`), runs the engine that it names, and tells how
-//! the engine ended: by the exit status, and by a line on standard error unless standard output has told it. `obey` does
-//! all that between any reader and any writer, and its clauses are what the program promises.
+//! run in threads. This program only has the command line read (`drm_command_line`), runs the engine that it names, and
+//! tells how the engine ended: by the exit status, and by a line on standard error unless standard output has told it.
+//! `obey` does all that between any reader and any writer, and its clauses are what the program promises.
 #![tactic(auto)]
 
 ghost use Rattle.std.specs.Prelude.{◌<◌, ◌≡◌, ◌≢◌, ◌≤◌, ◌^◌, [], Bool, map, option_map, IfSome};
@@ -12,20 +12,17 @@ ghost use Rattle.std.specs.IoError.{error_kind};
 ghost use Rattle.std.specs.Process.{exit_status};
 ghost use Rattle.std.specs.String.{string_bytes};
 ghost use Rattle.clap.specs.Words.{fault_of, kind_of};
+ghost use Rattle.drm_command_line.specs.CommandLine.{IsCommandLineForWords, IsCommandLineOf, program_app};
 ghost use Rattle.drm_draw.specs.Drawing.{status_of_drawing};
 ghost use Rattle.drm_engine.specs.Endings.{status_of};
 ghost use Rattle.drm_run.specs.Endings.{status_of as status_of_run};
 ghost use Rattle.drm_engine.specs.declared.engine.Engine.{Engine as EngineOf};
-ghost use Rattle.drmsim.specs.CommandLine.{IsCommandLineForWords, IsCommandLineOf, program_app};
 ghost use Rattle.drmsim.specs.Statuses.{DrawnAs, EndsAs, EndsInWords, IsObeyed, IsRefusal, ToldAs, WorksAs, number_of_word, status_of_error, status_of_telling};
 
-mod command_line;
 mod progress;
-#[cfg(test)]
-mod tests;
 
 use clap::error::ErrorKind as WordsError;
-use command_line::{Request, read_words};
+use drm_command_line::{Request, read_words};
 use drm_draw::{Drawing, draw};
 use drm_engine::Ending;
 use drm_explain::{Telling, tell_word};

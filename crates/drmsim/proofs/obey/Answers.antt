@@ -2,13 +2,9 @@ use Rattle.std.proofs.Common.{◌≡◌, ◌∙◌, ap, inl, inr, map, refl, sub
 use Rattle.std.specs.String.{string_bytes}
 use Rattle.drm_engine.specs.declared.engine.Engine.{Engine}
 use Rattle.drm_engine.specs.declared.ending.Ending.TheVariants.{NoMemory}
-use Rattle.drm_explain.specs.declared.telling.Telling.TheVariants as telling
-use Rattle.drmsim.specs.CommandLine.{IsAsked, wants_words}
+use Rattle.drm_command_line.specs.CommandLine.{IsAsked}
 use Rattle.drmsim.specs.Statuses.{EndsAs, status_of_error}
-use Rattle.drmsim.proofs.Entered.{command_entered}
-use Rattle.drm_run.specs.declared.ending.RunEnding.TheVariants.{Ended}
-use Rattle.drmsim.proofs.Numbers.{run_is_asked}
-use Rattle.drmsim.proofs.Statuses.{drawn_without_memory, engine_without_memory, memory_alone, runs_without_memory, untouched}
+use Rattle.drmsim.proofs.Statuses.{memory_alone, obeyed_without_memory, runs_without_memory, untouched}
 use Rattle.drmsim.proofs.obey.Goals as goal
 
 pub returns-in-Ok-Run-clause-commands : goal.returns-in-Ok-Run-clause-commands
@@ -80,9 +76,5 @@ returns-in-Err-clause-worded g c = λ line.
 pub returns-in-Err-clause-accepted : goal.returns-in-Err-clause-accepted
 returns-in-Err-clause-accepted g c = λ passed.
     let ended = c.explain.ensures.1 ∙ ap (λ kind. status_of_error kind c.explain.ensures.0) (memory_alone _ _ passed c.in-Err.ensures.kinds) in
-    elim (command_entered (map string_bytes c.args.words.now) passed) [
-      | inl named ↦ engine_without_memory (map string_bytes c.args.words.now) _ _ _ (wants_words (map string_bytes c.args.words.now)) named refl ended
-      | inr (inl named) ↦ let asked = run_is_asked (map string_bytes c.args.words.now) passed named in inr (inl (asked.0, asked.1, asked.2, (Ended NoMemory, untouched _, ended)))
-      | inr (inr (inl named)) ↦ inr (inr (inl (named, (telling.NoMemory, untouched _, ended))))
-      | inr (inr (inr named)) ↦ inr (inr (inr (inl (named, drawn_without_memory _ _ _ _ _ ended))))
-    ]
+    let asked = c.in-Err.ensures.accepted passed in
+    obeyed_without_memory (map string_bytes c.args.words.now) asked.0 _ _ _ asked.1 ended

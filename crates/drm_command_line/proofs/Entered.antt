@@ -26,7 +26,7 @@ use Rattle.clap.specs.Matches.{ReadsOne, first_value, found_of, one_text}
 use Rattle.clap.proofs.WalkLemmas.{first_value-rows, one_text-rows}
 use Rattle.std.specs.Option.{option_map_or}
 use Rattle.std.specs.Str.Parse.{ParsesBool}
-use Rattle.drmsim.specs.CommandLine.{is_replay_with_words, number_entered, option_entered, program_app, wants_words, word_entered, word_given}
+use Rattle.drm_command_line.specs.CommandLine.{is_replay_with_words, number_entered, option_entered, program_app, wants_words, word_entered, word_given}
 
 -- where the walk over the words has not stopped at `help`
 abbrev StopsElsewhere : Option (Text × List Text) → Type 0

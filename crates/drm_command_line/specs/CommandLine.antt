@@ -10,8 +10,8 @@ use Rattle.clap.specs.declared.error.Error.{Error}
 use Rattle.clap.specs.declared.error.kind.ErrorKind.TheVariants.{OutOfMemory}
 use Rattle.drm_engine.specs.Engines.{word_of}
 use Rattle.drm_engine.specs.declared.engine.Engine.{Engine}
-use Rattle.drmsim.specs.declared.command_line.Request.{Request}
-use Rattle.drmsim.specs.declared.command_line.Request.TheVariants.{Run, ReplayWithWords, Work, Explain, Draw}
+use Rattle.drm_command_line.specs.declared.command_line.Request.{Request}
+use Rattle.drm_command_line.specs.declared.command_line.Request.TheVariants.{Run, ReplayWithWords, Work, Explain, Draw}
 
 -- the program without its commands, as clap reads it
 abbrev pub top_app : App
@@ -105,6 +105,10 @@ IsAsked words (Work submitters turns) =
 IsAsked words (Explain word) = (word_entered words ≡ Some (codes "explain")) × (number_entered words ≡ option_map (λ w. w.now) word)
 IsAsked words (Draw from to) =
     (word_entered words ≡ Some (codes "draw")) × ((word_given (codes "from") words ≡ option_map (λ w. w.now) from) × (word_given (codes "to") words ≡ option_map (λ w. w.now) to))
+
+-- something is asked for
+abbrev pub IsAnythingAsked : List Text → Type 0
+IsAnythingAsked words = (request : Request) × IsAsked words request
 
 -- the words are the program's name and the word of the engine
 abbrev pub IsCommandLineOf : Engine → List Text → Type 0

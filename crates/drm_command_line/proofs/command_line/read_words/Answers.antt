@@ -3,14 +3,18 @@ use Rattle.std.proofs.Common.{rules, map, ◌∙◌, ap, ap₂, sym, refl, inl, 
 use Rattle.std.proofs.lemmas.Option.{same_Some}
 use Rattle.clap.specs.Words.{takes}
 use Rattle.std.specs.Str.Parse.{ExplainsUnsignedError, HasUnsignedDigitsIfOk, ParsesUnsigned}
-use Rattle.drmsim.specs.declared.command_line.Request.TheVariants.{Run}
-use Rattle.drmsim.specs.CommandLine.{IsNumber, most_submitters, most_turns, wants_words, word_entered}
-use Rattle.drmsim.proofs.Numbers.{number_read}
-use Rattle.drmsim.proofs.Options.{options_are_read}
-use Rattle.drmsim.proofs.Taken.{is_bare, is_entered, is_flag_taken, is_taken, is_worded, names_one, names_some, none_is_not, not_draw, not_explain, not_run}
-use Rattle.drmsim.proofs.Entered.{command_entered, given_found, none_entered, none_refused, number_found, wants_are, word_found}
-use Rattle.drmsim.proofs.command_line.read_words.Goals.{in_default-2-via-in-Some+in_default, in_default-2-via-in_default}
-use Rattle.drmsim.proofs.command_line.read_words.Goals as goal
+use Rattle.drm_command_line.specs.declared.command_line.Request.TheVariants.{Run}
+use Rattle.drm_command_line.specs.CommandLine.{IsNumber, most_submitters, most_turns, wants_words, word_entered}
+use Rattle.drm_command_line.proofs.Asked.{anything_asked}
+use Rattle.drm_command_line.proofs.Numbers.{number_read}
+use Rattle.drm_command_line.proofs.Options.{options_are_read}
+use Rattle.drm_command_line.proofs.Taken.{is_bare, is_entered, is_flag_taken, is_taken, is_worded, names_one, names_some, none_is_not, not_draw, not_explain, not_run}
+use Rattle.drm_command_line.proofs.Entered.{command_entered, given_found, none_entered, none_refused, number_found, wants_are, word_found}
+use Rattle.drm_command_line.proofs.command_line.read_words.Goals.{in_default-2-via-in-Some+in_default, in_default-2-via-in_default}
+use Rattle.drm_command_line.proofs.command_line.read_words.Goals as goal
+
+pub returns-in_err-program-clause-accepted : goal.returns-in_err-program-clause-accepted
+returns-in_err-program-clause-accepted c = anything_asked (map string_bytes c.args.words.now)
 
 pub returns-in_err-matches-clause-command : goal.returns-in_err-matches-clause-command
 returns-in_err-matches-clause-command c = λ engine line.
@@ -23,6 +27,9 @@ returns-in_err-matches-clause-worded c = λ line.
     let app = c.in_ok-program.ensures in
     let memory = c.in_err-matches.ensures.passes (ap₂ takes app line.1 ∙ is_flag_taken line.0) in
     search (rules, memory)
+
+pub returns-in_err-matches-clause-accepted : goal.returns-in_err-matches-clause-accepted
+returns-in_err-matches-clause-accepted c = anything_asked (map string_bytes c.args.words.now)
 
 pub returns-then-wants_words-clause-named : goal.returns-then-wants_words-clause-named
 returns-then-wants_words-clause-named c = wants_are _ (map string_bytes c.args.words.now) _ _ _ c.in_ok-program.ensures c.in_ok-matches.ensures.matches c.wants_words.ensures c.if-wants_words.true
@@ -38,6 +45,9 @@ returns-then-wants_words-clause-worded c = λ line. refl
 pub returns-then-wants_words-clause-kinds : goal.returns-then-wants_words-clause-kinds
 returns-then-wants_words-clause-kinds c =
     none_refused _ _ c.in_ok-program.ensures c.in_ok-matches.ensures.kinds
+
+pub returns-then-wants_words-clause-accepted : goal.returns-then-wants_words-clause-accepted
+returns-then-wants_words-clause-accepted c = anything_asked (map string_bytes c.args.words.now)
 
 pub returns-in-Some-clause-named : goal.returns-in-Some-clause-named
 returns-in-Some-clause-named c =
@@ -61,6 +71,9 @@ pub returns-in-Some-clause-kinds : goal.returns-in-Some-clause-kinds
 returns-in-Some-clause-kinds c =
     none_refused _ _ c.in_ok-program.ensures c.in_ok-matches.ensures.kinds
 
+pub returns-in-Some-clause-accepted : goal.returns-in-Some-clause-accepted
+returns-in-Some-clause-accepted c = anything_asked (map string_bytes c.args.words.now)
+
 pub returns-clause-worded : goal.returns-clause-worded
 returns-clause-worded c = λ line.
     let bare = wants_are _ (map string_bytes c.args.words.now) _ _ _ c.in_ok-program.ensures c.in_ok-matches.ensures.matches c.wants_words.ensures c.if-wants_words.false in
@@ -80,6 +93,9 @@ returns-clause-command c = λ engine line.
     let app = c.in_ok-program.ensures in
     let found = word_found _ _ _ _ app c.in_ok-matches.ensures.matches c.in-Some-subcommand_name.ensures in
     ap Run (names_one c.in-Some-of_word.engine engine (cc (found, line.1, is_entered line.0 engine, c.in-Some-of_word.ensures.some)))
+
+pub returns-clause-accepted : goal.returns-clause-accepted
+returns-clause-accepted c = anything_asked (map string_bytes c.args.words.now)
 
 pub unreachable-requires : goal.unreachable-requires
 unreachable-requires c =
@@ -129,6 +145,9 @@ pub returns-in-Some-subcommand_matches-clause-kinds : goal.returns-in-Some-subco
 returns-in-Some-subcommand_matches-clause-kinds c =
     none_refused _ _ c.in_ok-program.ensures c.in_ok-matches.ensures.kinds
 
+pub returns-in-Some-subcommand_matches-clause-accepted : goal.returns-in-Some-subcommand_matches-clause-accepted
+returns-in-Some-subcommand_matches-clause-accepted c = anything_asked (map string_bytes c.args.words.now)
+
 pub returns-in-Some-subcommand_matches-2-clause-named : goal.returns-in-Some-subcommand_matches-2-clause-named
 returns-in-Some-subcommand_matches-2-clause-named c =
     let app = c.in_ok-program.ensures in
@@ -153,6 +172,9 @@ returns-in-Some-subcommand_matches-2-clause-worded c = λ line.
 pub returns-in-Some-subcommand_matches-2-clause-kinds : goal.returns-in-Some-subcommand_matches-2-clause-kinds
 returns-in-Some-subcommand_matches-2-clause-kinds c =
     none_refused _ _ c.in_ok-program.ensures c.in_ok-matches.ensures.kinds
+
+pub returns-in-Some-subcommand_matches-2-clause-accepted : goal.returns-in-Some-subcommand_matches-2-clause-accepted
+returns-in-Some-subcommand_matches-2-clause-accepted c = anything_asked (map string_bytes c.args.words.now)
 
 pub unreachable-requires-in-None-of_word : goal.unreachable-requires-in-None-of_word
 unreachable-requires-in-None-of_word c =

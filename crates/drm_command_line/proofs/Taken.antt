@@ -6,7 +6,7 @@ use Rattle.clap.proofs.OnLiterals.{clap_on_literals}
 use Rattle.drm_engine.specs.Engines.{NamesNone, word_of}
 use Rattle.drm_engine.specs.declared.engine.Engine.{Engine}
 use Rattle.drm_engine.specs.declared.engine.Engine.TheVariants as engine
-use Rattle.drmsim.specs.CommandLine.{program_app, wants_words, word_entered}
+use Rattle.drm_command_line.specs.CommandLine.{program_app, wants_words, word_entered}
 
 pub is_simple_program : is_simple program_app ≡ true
 is_simple_program = refl

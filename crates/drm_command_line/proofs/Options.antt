@@ -20,8 +20,8 @@ use Rattle.clap.specs.Walk.{Held, Names, Outcome, Row, Rule, Step, Text, Waiting
 use Rattle.std.proofs.lemmas.Option.{same_Some}
 use Rattle.std.proofs.lemmas.Slice.Eq.{bytes_eq-Decides}
 use Rattle.clap.proofs.ValueTestLemmas.{accepts-Accepts}
-use Rattle.drmsim.proofs.Entered.{first_is_none, second_is_none}
-use Rattle.drmsim.specs.CommandLine.{most_submitters, most_turns, number_rule, option_entered, program_app, run_app, word_entered}
+use Rattle.drm_command_line.proofs.Entered.{first_is_none, second_is_none}
+use Rattle.drm_command_line.specs.CommandLine.{most_submitters, most_turns, number_rule, option_entered, program_app, run_app, word_entered}
 
 -- ---- lists of which each element is good
 

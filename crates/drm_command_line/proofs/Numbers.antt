@@ -5,10 +5,10 @@ use Rattle.clap.specs.Matches.{ReadsOne}
 use Rattle.clap.specs.Words.{App, HasMatchesOf, Text, fault_of, found_of, one_text, rows_of, subcommand_rows_of}
 use Rattle.clap.specs.declared.parser.matches.ArgMatches.{ArgMatches}
 use Rattle.clap.specs.Values.{IsUnsignedIn}
-use Rattle.drmsim.specs.CommandLine.{IsAsked, IsNumber, option_entered, program_app, word_entered}
-use Rattle.drmsim.specs.declared.command_line.Request.TheVariants.{Work}
-use Rattle.drmsim.proofs.Entered.{option_found}
-use Rattle.drmsim.proofs.Options.{options_are_read}
+use Rattle.drm_command_line.specs.CommandLine.{IsAsked, IsNumber, option_entered, program_app, word_entered}
+use Rattle.drm_command_line.specs.declared.command_line.Request.TheVariants.{Work}
+use Rattle.drm_command_line.proofs.Entered.{option_found}
+use Rattle.drm_command_line.proofs.Options.{options_are_read}
 
 -- the number that a text spells
 abbrev spelled : Text → ℕ

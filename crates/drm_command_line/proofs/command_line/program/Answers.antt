@@ -1,5 +1,5 @@
-use Rattle.drmsim.proofs.Commands.{added, added_last}
-use Rattle.drmsim.proofs.command_line.program.Goals as goal
+use Rattle.drm_command_line.proofs.Commands.{added, added_last}
+use Rattle.drm_command_line.proofs.command_line.program.Goals as goal
 
 pub returns : goal.returns
 returns c =

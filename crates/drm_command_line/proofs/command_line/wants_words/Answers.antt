@@ -1,9 +1,9 @@
 use Rattle.std.proofs.Common.{◌∙◌, ap, codes, refl, sym}
 use Rattle.clap.specs.Words.{found_of}
 use Rattle.clap.proofs.WalkLemmas.{one_text-rows}
-use Rattle.drmsim.proofs.Entered.{flag_read, is_on, other_entered, replay_entered}
-use Rattle.drmsim.proofs.Taken.{none_is_not}
-use Rattle.drmsim.proofs.command_line.wants_words.Goals as goal
+use Rattle.drm_command_line.proofs.Entered.{flag_read, is_on, other_entered, replay_entered}
+use Rattle.drm_command_line.proofs.Taken.{none_is_not}
+use Rattle.drm_command_line.proofs.command_line.wants_words.Goals as goal
 
 pub returns-in-Some : goal.returns-in-Some
 returns-in-Some c =

@@ -1,7 +1,7 @@
 //! The command line.
 
-use crate::command_line::{Request, read_words};
 use clap::error::ErrorKind as WordsError;
+use drm_command_line::{Request, read_words};
 use drm_engine::Engine;
 use std::test::Fail;
 

@@ -1,12 +1,12 @@
 //! The command line.
 
-ghost use Rattle.std.specs.Prelude.{◌≡◌, IfOk, false, map};
+ghost use Rattle.std.specs.Prelude.{◌≡◌, [], IfOk, false, map};
 ghost use Rattle.std.specs.String.{string_bytes};
 ghost use Rattle.clap.specs.Words.{FailsBy, app_of, fault_of, new_app, rule_of, subcommand_rows_of};
 ghost use Rattle.clap.specs.declared.builder.command.Command.TheViews.{out-Command};
 ghost use Rattle.drm_engine.specs.declared.engine.Engine.{Engine as EngineOf};
-ghost use Rattle.drmsim.specs.CommandLine.{GivesAlone, IsAsked, IsCommandLineForWords, IsCommandLineOf, draw_app, explain_app, flag_rule, is_replay_with_words, number_rule, program_app, replay_app, run_app, text_rule, top_app};
-ghost use Rattle.drmsim.specs.declared.command_line.Request.TheVariants.{ReplayWithWords, Run};
+ghost use Rattle.drm_command_line.specs.CommandLine.{GivesAlone, IsAnythingAsked, IsAsked, IsCommandLineForWords, IsCommandLineOf, draw_app, explain_app, flag_rule, is_replay_with_words, number_rule, program_app, replay_app, run_app, text_rule, top_app};
+ghost use Rattle.drm_command_line.specs.declared.command_line.Request.TheVariants.{ReplayWithWords, Run};
 
 use clap::builder::ValueParser;
 use clap::{Arg, ArgAction, ArgMatches, Command, Error};
@@ -14,7 +14,7 @@ use drm_engine::Engine;
 use std::alloc::{AllocError, Global};
 
 /// The version of the program, and the toolchain that it is proved with, as `rt version` tells it.
-const VERSION: &str = "0.1.0 (rattle-kit-13f logic dac8208d650f15bf)";
+const VERSION: &str = "0.1.0 (rattle-kit-13b logic dac8208d650f15bf)";
 
 /// The most submitters.
 const MOST_SUBMITTERS: u64 = 16;
@@ -310,6 +310,7 @@ pub fn read_words<'a>(alloc: Global, words: &'a [String]) -> Result<Request<'a>,
     ensures command { (engine : EngineOf) → IsCommandLineOf engine (map string_bytes words.now) → GivesAlone (Run engine) result }
     ensures worded { IsCommandLineForWords (map string_bytes words.now) → GivesAlone ReplayWithWords result }
     ensures kinds { FailsBy (fault_of program_app (map string_bytes words.now)) result }
+    ensures accepted { fault_of program_app (map string_bytes words.now) ≡ [] → IsAnythingAsked (map string_bytes words.now) }
 {
     let matches = program(alloc)?.try_get_matches_from(words)?;
     if wants_words(&matches) {
