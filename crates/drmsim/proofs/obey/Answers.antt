@@ -1,4 +1,4 @@
-use Rattle.std.proofs.Common.{◌≡◌, ◌∙◌, ap, inl, inr, map, refl, subst}
+use Rattle.std.proofs.Common.{◌≡◌, ◌∙◌, ap, inl, inr, map, subst}
 use Rattle.std.specs.String.{string_bytes}
 use Rattle.drm_engine.specs.declared.engine.Engine.{Engine}
 use Rattle.drm_engine.specs.declared.ending.Ending.TheVariants.{NoMemory}
