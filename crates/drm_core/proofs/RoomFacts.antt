@@ -1,5 +1,5 @@
 -- Taking room in reservations: each stays as it was, and none has less room.
-use Rattle.std.proofs.Common.{◌≡◌, Bool, ℕ, zero, suc, ◌+◌, ◌<◌, List, [], ◌∷◌, drop, take, length, get_or, set, Some, refl, drop-cons, add-one, sym, ap, subst, ◌∙◌, inl, inr, arith, slice_get}
+use Rattle.std.proofs.Common.{◌≡◌, ℕ, zero, suc, ◌+◌, ◌<◌, List, [], ◌∷◌, drop, take, length, get_or, set, Some, refl, drop-cons, add-one, sym, ap, subst, ◌∙◌, inl, inr, arith, slice_get}
 use Rattle.drm_types.specs.declared.access.Access.{Access}
 use Rattle.drm_core.proofs.Lists.{at_index}
 use Rattle.drm_core.proofs.Lists.{get_take}

@@ -1,12 +1,11 @@
 -- The uses of a job, added to the reservations of the buffers that it declares, one after the other.
-use Rattle.std.proofs.Common.{◌≡◌, ◌≢◌, Option, ℕ, zero, suc, Bool, true, false, ◌==◌, ◌+◌, ◌<◌, ◌≤◌, List, [], ◌∷◌, map, get_or, set, length, Some, None, refl, sym, ap, subst, ◌∙◌, inl, inr, arith, slice_get}
+use Rattle.std.proofs.Common.{◌≡◌, ◌≢◌, Option, ℕ, zero, suc, Bool, true, false, ◌==◌, ◌+◌, ◌<◌, ◌≤◌, List, [], ◌∷◌, map, set, length, Some, None, refl, sym, ap, subst, ◌∙◌, inl, inr, arith, slice_get}
 use Rattle.std.specs.Prelude.{nat_eq, find, option_map}
 use Rattle.std.specs.List.{IsDistinct}
 use Rattle.std.proofs.lemmas.Bool.{cases_eq, eq-eqb, eqb-true}
 use Rattle.std.proofs.lemmas.Map.Keys.{apart_from_distinct, IsDistinct-tail}
 use Rattle.std.proofs.lemmas.Option.{slice_get_within, get_or_from_slice_get}
 use Rattle.drm_types.specs.declared.access.Access.{Access}
-use Rattle.drm_types.specs.declared.access.Usage.{Usage}
 use Rattle.drm_types.specs.declared.spec.DeviceSpec.{DeviceSpec}
 use Rattle.drm_job.specs.declared.Draft.{Draft}
 use Rattle.drm_job.specs.Fault.{IsJob}
@@ -106,9 +105,9 @@ uses_of_all ended fence job n old new all count uses = record { count = count; e
         → (m : WithRoom) × (slice_get new b ≡ Some m) × HasUse ended fence job b r m) [
           | None ↦ λ none.
               let nowhere : (k : ℕ) (d : ℕ × Access) → k < n → slice_get job.declared k ≡ Some d → d.0 ≡ b → ⊥ = λ k d lt at_d is.
-                  let fails = each_fails (λ (d : ℕ × Access). d.0 == b) job.declared k d none at_d in
-                  let never : true ≡ false = sym (eq-eqb d.0 b is) ∙ fails in
-                  cc (never) in
+              let fails = each_fails (λ (d : ℕ × Access). d.0 == b) job.declared k d none at_d in
+              let never : true ≡ false = sym (eq-eqb d.0 b is) ∙ fails in
+              cc (never) in
               (r, uses.rest b nowhere ∙ at, unused ended fence job b r none)
           | Some d ↦ λ some.
               let found = find_first (λ (d : ℕ × Access). d.0 == b) job.declared d some in

@@ -1,4 +1,3 @@
-use Rattle.std.proofs.Common.{◌≡◌, length}
 use Rattle.drm_fence.specs.Fences.{has_ended_at}
 use Rattle.drm_core.proofs.UsesAdded.{UsesOfFirst}
 use Rattle.drm_core.proofs.planning.add_uses.Given as goal
