@@ -1,17 +1,10 @@
 //! The command line.
 
+use crate::words_of;
 use clap::error::ErrorKind as WordsError;
 use drm_command_line::{Request, read_words};
 use drm_engine::Engine;
 use std::test::Fail;
-
-fn words(rt: &HostRuntime, all: &[&str]) -> Result<Vec<String>, Fail> {
-    let mut words = Vec::new(rt.alloc());
-    for word in all {
-        words.push(String::from_str(rt.alloc(), word)?)?;
-    }
-    Ok(words)
-}
 
 #[test]
 fn command_lines(rt: HostRuntime) -> Result<(), Fail> {
@@ -21,13 +14,13 @@ fn command_lines(rt: HostRuntime) -> Result<(), Fail> {
         ("check", Engine::Check),
     ];
     for (name, engine) in taken {
-        let given = words(&rt, &["drmsim", name])?;
+        let given = words_of(rt.alloc(), &["drmsim", name])?;
         assert_eq!(rt; read_words(rt.alloc(), &given)?, Request::Run(engine));
     }
-    let worded = words(&rt, &["drmsim", "replay", "--words"])?;
+    let worded = words_of(rt.alloc(), &["drmsim", "replay", "--words"])?;
     assert_eq!(rt; read_words(rt.alloc(), &worded)?, Request::ReplayWithWords);
-    let runs = words(
-        &rt,
+    let runs = words_of(
+        rt.alloc(),
         &["drmsim", "run", "--turns=1000000000", "--threads", "16"],
     )?;
     let work = Request::Work {
@@ -35,9 +28,9 @@ fn command_lines(rt: HostRuntime) -> Result<(), Fail> {
         turns: 1_000_000_000,
     };
     assert_eq!(rt; read_words(rt.alloc(), &runs)?, work);
-    let one = words(&rt, &["drmsim", "explain", "46"])?;
+    let one = words_of(rt.alloc(), &["drmsim", "explain", "46"])?;
     assert_eq!(rt; read_words(rt.alloc(), &one)?, Request::Explain(Some("46")));
-    let all = words(&rt, &["drmsim", "explain"])?;
+    let all = words_of(rt.alloc(), &["drmsim", "explain"])?;
     assert_eq!(rt; read_words(rt.alloc(), &all)?, Request::Explain(None));
     Ok(())
 }
@@ -93,7 +86,7 @@ fn refused_command_lines(rt: HostRuntime) -> Result<(), Fail> {
         (&["drmsim", "help", "check"], WordsError::DisplayHelp, 0),
     ];
     for (all, kind, status) in refused {
-        let given = words(&rt, all)?;
+        let given = words_of(rt.alloc(), all)?;
         match read_words(rt.alloc(), &given) {
             Ok(request) => panic!(rt; "{request:?}"),
             Err(error) => {
@@ -146,7 +139,7 @@ fn refused_numbers(rt: HostRuntime) -> Result<(), Fail> {
         ),
     ];
     for (numbers, kind) in refused {
-        let mut given = words(&rt, &["drmsim", "run"])?;
+        let mut given = words_of(rt.alloc(), &["drmsim", "run"])?;
         for word in numbers {
             given.push(String::from_str(rt.alloc(), word)?)?;
         }
