@@ -14,13 +14,14 @@ use std::alloc::{AllocError, Global};
 fn turns<'a>(alloc: Global, records: &'a [JobRecord]) -> Result<Vec<Turn<'a>>, AllocError>
     ensures { IfOk result (λ turns. turns.items ≡ turns_of records.now) }
 {
-    records
-        .iter()
-        .map(|record| Turn {
+    let mut turns = Vec::with_capacity(alloc, records.len())?;
+    for record in records {
+        turns.push(Turn {
             job: &record.job,
             ran: record.ran,
-        })
-        .collect(alloc)
+        })?;
+    }
+    Ok(turns)
 }
 
 /// The buffers that the serial machine leaves, which begins with those of the description and takes the records as its

@@ -1,0 +1,6 @@
+use Rattle.std.proofs.Common.{◌≡◌, take}
+use Rattle.drm_table.specs.Journal.{turns}
+use Rattle.drm_gpu_tests.proofs.alone.turns.Given as goal
+
+abbrev pub invariant-loop-record : goal.invariant-loop-record
+invariant-loop-record l = l.turns.items ≡ turns (take l.record-index l.records)
