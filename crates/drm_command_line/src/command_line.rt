@@ -239,33 +239,34 @@ fn bare_program<'a>(alloc: Global) -> Command<'a>
         .subcommand_required(true)
 }
 
-/// The program with its commands.
+/// The program with its commands. Each is added where it is made, so that a refusal of memory has one command to give up, and
+/// not all that were made before.
 fn program<'a>(alloc: Global) -> Result<Command<'a>, AllocError>
     ensures { IfOk result (λ command. app_of command ≡ program_app) }
 {
+    let bare = bare_program(alloc);
     let replay = replay_command(alloc)?;
+    let answers = bare.subcommand(replay)?;
     let serial = command(
         alloc,
         "serial",
         "Runs the jobs of a journal one after another and writes the buffers",
         SERIAL_HELP,
     );
+    let serializes = answers.subcommand(serial)?;
     let check = command(
         alloc,
         "check",
         "Compares these buffers with the last bytes that the journal tells",
         CHECK_HELP,
     );
+    let checks = serializes.subcommand(check)?;
     let run = run_command(alloc)?;
+    let runs = checks.subcommand(run)?;
     let explain = explain_command(alloc)?;
+    let explains = runs.subcommand(explain)?;
     let draw = draw_command(alloc)?;
-    bare_program(alloc)
-        .subcommand(replay)?
-        .subcommand(serial)?
-        .subcommand(check)?
-        .subcommand(run)?
-        .subcommand(explain)?
-        .subcommand(draw)
+    explains.subcommand(draw)
 }
 
 /// What the words of the command line ask for.

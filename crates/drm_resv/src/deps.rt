@@ -34,6 +34,14 @@ impl Deps {
         Deps { list }
     }
 
+    /// Nothing is waited for any more. So a list that is kept for one job after another is filled with zeros once, as it is
+    /// made.
+    pub fn clear(&mut self)
+        ensures { self.new ≡ [] }
+    {
+        self.list.clear();
+    }
+
     /// How many entities there is a fence of.
     pub fn len(&self) -> usize
         ensures { result ≡ length self.now }
