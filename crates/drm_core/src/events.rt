@@ -5,20 +5,22 @@ ghost use Rattle.drm_core.specs.Cores.{core_state, IsCore};
 
 use crate::cores::CoreTable;
 use crate::event::Event;
+use drm_resv::Deps;
 use drm_sched::Answer;
 use std::alloc::Global;
 
 impl CoreTable {
-    /// One event. It names only what the device has.
+    /// One event. It names only what the device has. A submission collects what its job waits for in the list that is
+    /// handed to it; what stands there before and after is nobody's matter.
     #[inline(always)]
-    pub(crate) fn apply(&mut self, alloc: Global, event: Event) -> Answer
+    pub(crate) fn apply(&mut self, alloc: Global, event: Event, dependencies: &mut Deps) -> Answer
         requires names { IsTrue (names_exist_in self.old.device.state.spec event) }
         requires core { IsCore self.old }
         ensures step { Step (core_state self.old) event result (core_state self.new) }
         ensures core { IsCore self.new }
     {
         match event {
-            Event::Submit { draft } => self.submit(draft),
+            Event::Submit { draft } => self.submit(draft, dependencies),
             Event::Begin { ctx } => self.begin(ctx),
             Event::Try { ctx, buffer } => self.try_claim(ctx, buffer),
             Event::Done { ctx } => self.done(ctx),

@@ -75,9 +75,10 @@ impl CoreTable {
         }
     }
 
-    /// Checks the job, collects what it waits for, and arms it, all in one step and with no lock.
+    /// Checks the job, collects what it waits for, and arms it, all in one step and with no lock. The list in which it
+    /// collects is emptied first.
     #[inline(always)]
-    pub(crate) fn submit(&mut self, draft: Draft) -> Answer
+    pub(crate) fn submit(&mut self, draft: Draft, dependencies: &mut Deps) -> Answer
         requires core { IsCore self.old }
         ensures step { Step (core_state self.old) (event.Submit draft) result (core_state self.new) }
         ensures core { IsCore self.new }
@@ -95,9 +96,9 @@ impl CoreTable {
         if let Some(refusal) = self.arm_refusal(&job) {
             return Answer::Refused(refusal);
         }
-        let mut deps = Deps::new();
-        self.collect(&job, &mut deps);
-        let fence = self.arm_job(job, &mut deps);
+        dependencies.clear();
+        self.collect(&job, dependencies);
+        let fence = self.arm_job(job, dependencies);
         Answer::Armed { fence }
     }
 }
