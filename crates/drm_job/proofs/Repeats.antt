@@ -1,5 +1,6 @@
 -- The first buffer that a draft declares twice, found one place after another.
-use Rattle.std.proofs.Common.{◌≡◌, ℕ, ◌+◌, ◌<◌, ◌==◌, Bool, false, List, [], ◌∷◌, ◌++◌, map, length, get_or, take, drop, Option, sym, ap, ◌∙◌}
+use Rattle.std.proofs.Common.{◌≡◌, ℕ, ◌+◌, ◌<◌, ◌==◌, ◌||◌, Bool, true, false, cond, List, [], ◌∷◌, ◌++◌, map, length, get_or, take, drop, Option, Some, is_some, refl, sym, ap, ◌∙◌}
+use Rattle.std.specs.Prelude.{find, option_map}
 use Rattle.std.specs.List.{list_any}
 use Rattle.std.proofs.lemmas.List.{at_drop_more, take_more, map-append}
 use Rattle.drm_types.specs.declared.access.Access.{Access}
@@ -32,3 +33,18 @@ look_at declared i d b lt is test =
 pub passed : (declared : List (ℕ × Access)) (i : ℕ) (d : ℕ × Access) → i < length declared → d ≡ get_or declared i d
     → list_any (λ y. y == d.0) (buffers (take i declared)) ≡ false → left_at declared i ≡ left_at declared (i + 1)
 passed declared i d lt is test = look_at declared i d false lt is test ∙ first_of_one (left_at declared (i + 1))
+
+-- no place stands before the first, so the second is looked at first
+pub from_second : (declared : List (ℕ × Access)) → left_at declared 1 ≡ repeat_after [] (buffers declared)
+from_second [] = refl
+from_second (d ∷ ds) = sym (first_of_one (repeat_after (d.0 ∷ []) (buffers ds)))
+
+-- a buffer stands among these where it is declared by them
+pub among : (declared : List (ℕ × Access)) (b : ℕ)
+    → list_any (λ y. y == b) (buffers declared) ≡ is_some (option_map (λ d. d.1) (find (λ d. d.0 == b) declared))
+among [] b = refl
+among (d ∷ ds) b =
+    elim (d.0 == b) as (λ t. (t || list_any (λ y. y == b) (buffers ds)) ≡ is_some (option_map (λ d. d.1) (cond t (Some d) (find (λ d. d.0 == b) ds)))) [
+      | true ↦ refl
+      | false ↦ among ds b
+    ]

@@ -1,7 +1,5 @@
-ghost use Rattle.std.specs.Prelude.{◌≡◌, ◌<◌, length, slice_get, Some, is_some};
-ghost use Rattle.drm_job.specs.Uses.{access_of as access_in, can_read, can_write, is_writable, StaysWithin};
-ghost use Rattle.std.specs.List.{list_all};
-ghost use Rattle.drm_packet.specs.Touches.{touches};
+ghost use Rattle.std.specs.Prelude.{◌≡◌, ◌<◌, ◌==◌, length, slice_get, Some, is_some, option_map, find};
+ghost use Rattle.drm_job.specs.Uses.{access_of as access_in, StaysWithin};
 
 use crate::Draft;
 use drm_packet::Packet;
@@ -99,73 +97,19 @@ impl Draft {
     pub fn access_of(&self, buffer: BufferId) -> Option<Access>
         ensures { result ≡ access_in self.now buffer }
     {
-        self.declared
-            .as_slice()
-            .iter()
-            .find(|declared| declared.0 == buffer)
-            .map(|declared| declared.1)
+        declared_as(self.declared.as_slice(), buffer)
     }
+}
 
-    // Whether the draft declares each buffer that the packet touches.
-    pub(crate) fn declares(&self, packet: &Packet) -> bool
-        ensures { result ≡ list_all (λ b. is_some (access_in self.now b)) (touches packet.now) }
-    {
-        self.declares_all(packet.reads().as_slice())
-            && self.declares_all(packet.writes().as_slice())
-    }
-
-    // Whether the draft declares each of these buffers.
-    fn declares_all(&self, buffers: &[BufferId]) -> bool
-        ensures { result ≡ list_all (λ b. is_some (access_in self.now b)) buffers.now }
-    {
-        buffers
-            .iter()
-            .all(|buffer| self.access_of(*buffer).is_some())
-    }
-
-    // Whether its packets may touch each buffer that the packet touches: it is declared, and not for holding alone.
-    pub(crate) fn lets_touch(&self, packet: &Packet) -> bool
-        ensures { result ≡ list_all (can_read self.now) (touches packet.now) }
-    {
-        self.lets_read_all(packet.reads().as_slice())
-            && self.lets_read_all(packet.writes().as_slice())
-    }
-
-    // Whether its packets may read each of these buffers.
-    fn lets_read_all(&self, buffers: &[BufferId]) -> bool
-        ensures { result ≡ list_all (can_read self.now) buffers.now }
-    {
-        buffers.iter().all(|buffer| self.lets_read(*buffer))
-    }
-
-    // Whether its packets may read the buffer.
-    fn lets_read(&self, buffer: BufferId) -> bool
-        ensures { result ≡ can_read self.now buffer }
-    {
-        match self.access_of(buffer) {
-            Some(Access::Read | Access::Write | Access::Move) => true,
-            Some(Access::Hold) | None => false,
+// How the buffer is declared among these, if it is.
+#[inline]
+pub(crate) fn declared_as(declared: &[(BufferId, Access)], buffer: BufferId) -> Option<Access>
+    ensures { result ≡ option_map (λ d. d.1) (find (λ d. d.0 == buffer) declared.now) }
+{
+    for (other, access) in declared {
+        if *other == buffer {
+            return Some(*access);
         }
     }
-
-    // Whether its packets may write each buffer that the packet writes.
-    pub(crate) fn lets_write(&self, packet: &Packet) -> bool
-        ensures { result ≡ is_writable self.now packet.now }
-    {
-        packet
-            .writes()
-            .as_slice()
-            .iter()
-            .all(|buffer| self.lets_write_to(*buffer))
-    }
-
-    // Whether its packets may write the buffer.
-    fn lets_write_to(&self, buffer: BufferId) -> bool
-        ensures { result ≡ can_write self.now buffer }
-    {
-        match self.access_of(buffer) {
-            Some(Access::Write | Access::Move) => true,
-            Some(Access::Read | Access::Hold) | None => false,
-        }
-    }
+    None
 }

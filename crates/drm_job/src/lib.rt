@@ -9,6 +9,7 @@ mod conflict;
 mod faults;
 mod job;
 mod laws;
+mod packet_faults;
 mod short_list;
 
 pub use conflict::conflicts;
