@@ -26,6 +26,7 @@ fn read_context_and_buffer(spec: &DeviceSpec, words: &mut Words) -> Result<(CtxI
     Ok((ctx, BufferId::new(buffer)))
 }
 
+#[inline(always)]
 #[tactic(auto, unfolding(crate::specs::Commands::ring_and_moment_at))]
 fn read_ring_and_moment(spec: &DeviceSpec, words: &mut Words) -> Result<(RingId, Moment), Fault>
     ensures value { Reads (λ names. names) result (ring_and_moment_at spec.now words.old) }

@@ -85,6 +85,7 @@ fn last_number(pieces: &mut Parts) -> Option<Option<u32>>
 }
 
 /// The piece that is left, if it is one.
+#[inline]
 fn one<'a>(pieces: &mut Parts<'a>) -> Option<&'a [u8]>
     ensures { option_map (λ piece. piece.now) result ≡ one_of pieces.old.parts }
 {
@@ -364,7 +365,8 @@ fn bare_draft(alloc: Global, entity: u32, credits: u16) -> Draft
     }
 }
 
-/// The job that the words left spell.
+/// The job that the words left spell. A job is large, so where it is read it stands where it is used, and is not handed up.
+#[inline(always)]
 #[tactic(auto, unfolding(crate::specs::Job::job_at))]
 pub fn read_job(alloc: Global, words: &mut Words) -> Result<Draft, ReadError>
     ensures { Gives (λ d. d) result (job_at words.old) }
