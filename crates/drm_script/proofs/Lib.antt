@@ -6,6 +6,7 @@ pub mod HeaderReaders
 pub mod JobReaders
 pub mod PacketReaders
 pub mod InTurn
+pub mod Placed
 pub mod RingLists
 pub mod RunReaders
 pub mod ScriptReaders

@@ -1,5 +1,5 @@
--- How short numbers are written.
-use Rattle.std.proofs.Common.{◌≡◌, ℕ, ◌+◌, ◌<◌, ◌≤◌, ◌/◌, ◌%◌, List, [], ◌∷◌, ◌++◌, refl, arith, ap, ◌∙◌}
+-- How short numbers are written, and how long they are.
+use Rattle.std.proofs.Common.{◌≡◌, ℕ, ◌+◌, ◌<◌, ◌≤◌, ◌/◌, ◌%◌, List, [], ◌∷◌, ◌++◌, length, refl, arith, ap, ◌∙◌, length-append}
 use Rattle.std.specs.Fmt.{decimal}
 use Rattle.std.proofs.lemmas.Fmt.{decimal_by_steps, decimal_step}
 
@@ -21,18 +21,22 @@ written_short n small =
 pub two_digits : (n : ℕ) → 10 ≤ n → n < 100 → decimal n ≡ (48 + n / 10) ∷ (48 + n % 10) ∷ []
 two_digits n ten small = (written_short n small).1 ten small
 
--- a number is written as its tens, and its last digit behind them
-pub three_digits : (n : ℕ) → 100 ≤ n → n < 1000 → decimal n ≡ (48 + n / 10 / 10) ∷ (48 + n / 10 % 10) ∷ (48 + n % 10) ∷ []
-three_digits n least most =
-    let tens = two_digits (n / 10) (omega (arith, least)) (omega (arith, most)) in
-    decimal_step n (omega (arith, least)) (omega (arith, most)) ∙ ap (λ ds. ds ++ (48 + n % 10) ∷ []) tens
+-- a number has one digit more than its tens
+length_more : (n k : ℕ) → 10 ≤ n → n < 100000 → length (decimal (n / 10)) ≡ k → length (decimal n) ≡ k + 1
+length_more n k ten few tens =
+    ap length (decimal_step n ten (omega (arith, few))) ∙ length-append (decimal (n / 10)) ((48 + n % 10) ∷ []) ∙ ap (λ m. m + 1) tens
 
-pub four_digits : (n : ℕ) → 1000 ≤ n → n < 10000 → decimal n ≡ (48 + n / 10 / 10 / 10) ∷ (48 + n / 10 / 10 % 10) ∷ (48 + n / 10 % 10) ∷ (48 + n % 10) ∷ []
-four_digits n least most =
-    let tens = three_digits (n / 10) (omega (arith, least)) (omega (arith, most)) in
-    decimal_step n (omega (arith, least)) (omega (arith, most)) ∙ ap (λ ds. ds ++ (48 + n % 10) ∷ []) tens
+pub three_long : (n : ℕ) → 100 ≤ n → n < 1000 → length (decimal n) ≡ 3
+three_long n least most =
+    let tens = ap length (two_digits (n / 10) (omega (arith, least)) (omega (arith, most))) in
+    length_more n 2 (omega (arith, least)) (omega (arith, most)) tens
 
-pub five_digits : (n : ℕ) → 10000 ≤ n → n < 100000 → decimal n ≡ (48 + n / 10 / 10 / 10 / 10) ∷ (48 + n / 10 / 10 / 10 % 10) ∷ (48 + n / 10 / 10 % 10) ∷ (48 + n / 10 % 10) ∷ (48 + n % 10) ∷ []
-five_digits n least most =
-    let tens = four_digits (n / 10) (omega (arith, least)) (omega (arith, most)) in
-    decimal_step n (omega (arith, least)) (omega (arith, most)) ∙ ap (λ ds. ds ++ (48 + n % 10) ∷ []) tens
+pub four_long : (n : ℕ) → 1000 ≤ n → n < 10000 → length (decimal n) ≡ 4
+four_long n least most =
+    let tens = three_long (n / 10) (omega (arith, least)) (omega (arith, most)) in
+    length_more n 3 (omega (arith, least)) (omega (arith, most)) tens
+
+pub five_long : (n : ℕ) → 10000 ≤ n → n < 100000 → length (decimal n) ≡ 5
+five_long n least most =
+    let tens = four_long (n / 10) (omega (arith, least)) (omega (arith, most)) in
+    length_more n 4 (omega (arith, least)) most tens

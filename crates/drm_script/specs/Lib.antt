@@ -8,3 +8,4 @@ pub mod RunGrammar
 pub mod Script
 pub mod Transfer
 pub mod Kept
+pub mod Lines
