@@ -8,7 +8,6 @@ use Rattle.drm_packet.specs.declared.Packet.{Packet}
 use Rattle.drm_packet.specs.declared.Packet.TheVariants.{Fill, Copy, Add}
 use Rattle.drm_packet.specs.Touches.{is_in_range}
 use Rattle.drm_job.specs.declared.Draft.{Draft}
-use Rattle.drm_job.specs.declared.JobFault.TheVariants.{PacketUndeclared}
 use Rattle.drm_job.specs.Uses.{access_of}
 use Rattle.drm_job.specs.Fault.{packet_fault}
 use Rattle.drm_job.specs.PacketUses.{fault_of_uses}
@@ -32,11 +31,6 @@ target_twice n (Some source) (Some access.Read) r = refl
 target_twice n (Some source) (Some access.Write) r = refl
 target_twice n (Some source) (Some access.Hold) r = refl
 target_twice n (Some source) (Some access.Move) r = refl
-
--- an undeclared target is told, whatever is read
-pub undeclared_target : (n : ℕ) (source : Option Access) (r : Bool) → fault_of_uses n (source ∷ None ∷ []) (None ∷ []) r ≡ Some (PacketUndeclared n)
-undeclared_target n None r = refl
-undeclared_target n (Some access) r = refl
 
 -- a fill, by how its buffer is declared
 pub fill_fault : (spec : DeviceSpec) (job : Draft) (n : ℕ) (p : Packet) (b offset len byte : ℕ) (o : Option Access) (r : Bool) → o ≡ access_of job b

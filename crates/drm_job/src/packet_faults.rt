@@ -1,5 +1,5 @@
 //! The fault of a packet. Each of its buffers is looked up once.
-ghost use Rattle.std.specs.Prelude.{◌≡◌, Bool, [], ◌∷◌};
+ghost use Rattle.std.specs.Prelude.{◌≡◌, [], ◌∷◌};
 ghost use Rattle.drm_types.specs.declared.spec.DeviceSpec.{DeviceSpec};
 ghost use Rattle.drm_job.specs.declared.Draft.{Draft};
 ghost use Rattle.drm_job.specs.Fault.{packet_fault as fault_of_packet};

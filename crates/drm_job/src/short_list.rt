@@ -120,20 +120,7 @@ impl<T: Copy> ShortList<T> {
     }
 
     /// Adds an item at the end. A refusal of memory leaves the list as it was.
-    #[inline]
     pub fn push(&mut self, item: T) -> Result<(), AllocError>
-        ensures ok { OnOk result (self.new ≡ self.old ++ item ∷ []) }
-        ensures err { OnErr result (self.new ≡ self.old) }
-    {
-        match &mut self.items {
-            Items::Many(items) => Ok(items.push(item)?),
-            Items::Empty | Items::One(_) => self.push_to_few(item),
-        }
-    }
-
-    // The same where there is at most one item.
-    #[inline(never)]
-    fn push_to_few(&mut self, item: T) -> Result<(), AllocError>
         ensures ok { OnOk result (self.new ≡ self.old ++ item ∷ []) }
         ensures err { OnErr result (self.new ≡ self.old) }
     {

@@ -1,8 +1,11 @@
 //! A run of jobs from a description to its report.
-ghost use Rattle.std.specs.Prelude.{◌≡◌, ◌<◌, ◌≤◌, [], All, IfErr, IfOk, None, length, vec_len};
+ghost use Rattle.std.specs.Prelude.{◌≡◌, ◌<◌, ◌≤◌, ℕ, List, [], All, IfErr, IfOk, None, length, vec_len};
 ghost use Rattle.drm_types.specs.Limits.{spec_fault};
+ghost use Rattle.drm_job.specs.declared.Draft.{Draft};
 ghost use Rattle.drm_job.specs.Fault.{IsJob};
-ghost use Rattle.drm_report.specs.Reports.{IsReport};
+ghost use Rattle.drm_gpu.specs.declared.gpu.Closed.{Closed};
+ghost use Rattle.drm_gpu.specs.Closing.{Leaves};
+ghost use Rattle.drm_report.specs.Reports.{HasRun, IsReport};
 ghost use Rattle.drm_workers.specs.Faults.{IsFaultOf, IsOfWorkers};
 
 use crate::gather::{Counts, first_that_gave_up, gather};
@@ -14,10 +17,42 @@ use drm_gpu::{CloseError, Gpu, Pass};
 use drm_job::Job;
 use drm_report::{Report, armed_jobs_stay, deal, tell};
 use drm_sched::BuildError;
-use drm_types::DeviceSpec;
+use drm_types::{DeviceSpec, FenceId};
 use std::alloc::Global;
 use std::sync::Wait;
 use std::thread::Threads;
+
+// Takes the device apart once all workers are over, whose passes were joined, and reports what they have left, where that is
+// a run of so many jobs.
+fn take_apart(
+    gpu: Gpu,
+    alloc: Global,
+    pass: Pass,
+    armed: Vec<Vec<FenceId>>,
+    counts: Counts,
+    jobs: u32,
+) -> Result<Report, RunFault>
+    requires pass { pass.gpu ≡ gpu }
+    requires described { spec_fault gpu.spec ≡ None }
+    ensures report { IfOk result (λ report. (list : List Draft) (n : ℕ) → length list ≡ jobs
+        → ((closed : Closed) → Leaves pass closed → HasRun (λ v. v.items) gpu.spec list n closed armed.items) → IsReport gpu.spec list n report) }
+    ensures fault { IfErr result IsOfWorkers }
+{
+    let closed = match gpu.close(alloc, pass) {
+        Ok(closed) => closed,
+        Err(CloseError::Memory(_, _)) => return Err(RunFault::Memory),
+        Err(CloseError::Inside) => return Err(RunFault::GaveUp { worker: 0 }),
+    };
+    let Counts {
+        picked,
+        finished,
+        resets,
+    } = counts;
+    match tell(closed, armed, picked, finished, resets, jobs) {
+        Ok(report) => Ok(report),
+        Err(_) => Err(RunFault::GaveUp { worker: 0 }),
+    }
+}
 
 // Runs the jobs on the device by workers in threads, and reports what they have left.
 fn drive<R: Threads + Wait + Sync, C: Clock + Sync, G: Gate + Sync>(
@@ -65,20 +100,7 @@ fn drive<R: Threads + Wait + Sync, C: Clock + Sync, G: Gate + Sync>(
     let count = submitters as usize;
     let pass = gather(&gpu, pass, dones, count, &mut armed, &mut counts);
     armed.truncate(count);
-    let closed = match gpu.close(alloc, pass) {
-        Ok(closed) => closed,
-        Err(CloseError::Memory(_, _)) => return Err(RunFault::Memory),
-        Err(CloseError::Inside) => return Err(RunFault::GaveUp { worker: 0 }),
-    };
-    let Counts {
-        picked,
-        finished,
-        resets,
-    } = counts;
-    match tell(closed, armed, picked, finished, resets, limits.jobs) {
-        Ok(report) => Ok(report),
-        Err(_) => Err(RunFault::GaveUp { worker: 0 }),
-    }
+    take_apart(gpu, alloc, pass, armed, counts, limits.jobs)
 }
 
 /// Runs the jobs on a new device of this description, by workers in threads of their own, and reports what they have left.

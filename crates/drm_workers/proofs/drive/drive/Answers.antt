@@ -1,7 +1,6 @@
 use Rattle.std.proofs.Common.{rules, ◌≡◌, ◌≤◌, All, true, arith, length, refl, take, ap, ◌∙◌, subst, vec_len}
+use Rattle.std.proofs.lemmas.Result.{IfOk-weaker}
 use Rattle.drm_job.specs.Fault.{IsJob}
-use Rattle.drm_types.specs.Limits.{spec_fault}
-use Rattle.drm_gpu.specs.Passes.{GpuState}
 use Rattle.drm_workers.specs.declared.work.Done.{Done}
 use Rattle.drm_workers.proofs.Described.{few_rings}
 use Rattle.drm_workers.proofs.Running.{all_tell, as_many, few_workers, has_run}
@@ -29,16 +28,11 @@ gather-pass-requires-clause-room g c =
     let dones : length c.in-Ok-run_workers.dones.items ≡ vec_len c.in-Ok-run_workers.dones = search rules in
     (c.in-Ok-with_capacity.ensures.items, omega (arith, many, workers, dones, c.len.ensures, c.in-Ok-with_capacity.ensures.exact))
 
-pub tell-requires : goal.tell-requires
-tell-requires g c = record {
-  limits = ap spec_fault (c.in-Ok-close.ensures.closed.spec.1 ∙ ap (λ (it : GpuState). it.spec) c.gather-pass.ensures.gathered.device) ∙ c.requires.described;
-}
-
-pub returns-in-Ok-tell-clause-report : goal.returns-in-Ok-tell-clause-report
-returns-in-Ok-tell-clause-report g c =
+pub returns-clause-report : goal.returns-clause-report
+returns-clause-report g c =
     let jobs : length c.args.jobs.items ≡ vec_len c.args.jobs = search rules in
     let all = subst (λ ds. All (λ (d : Done). d.is_done ≡ true) ds) c.deref.ensures.value (c.first_that_gave_up.ensures.none c.in_default-first_that_gave_up.is) in
-    c.in-Ok-tell.ensures.report c.args.gpu.spec c.args.jobs.items c.args.submitters (jobs ∙ c.requires.jobs.1)
-    (has_run c.armed_jobs_stay.ensures c.args.gpu.spec c.args.jobs.items c.args.submitters c.args.limits.rings c.args.gpu c.in-Ok.shares.items c.in-Ok-hire_all.workers.items c.in-Ok-run_workers.dones.items
-    c.gather-pass.result c.in-Ok-close.closed _ c.requires.submitters.0 refl c.in-Ok.ensures.shares c.in-Ok-hire_all.ensures.jobs c.in-Ok-run_workers.ensures.worked all c.gather-pass.ensures.gathered
-    (c.truncate.ensures.items ∙ ap (take _) c.gather-pass.ensures.lists) c.in-Ok-close.ensures.closed)
+    IfOk-weaker c.take_apart.result _ _ (λ report told. told c.args.jobs.items c.args.submitters (jobs ∙ c.requires.jobs.1) (λ closed left.
+    has_run c.armed_jobs_stay.ensures c.args.gpu.spec c.args.jobs.items c.args.submitters c.args.limits.rings c.args.gpu c.in-Ok.shares.items c.in-Ok-hire_all.workers.items c.in-Ok-run_workers.dones.items
+    c.gather-pass.result closed _ c.requires.submitters.0 refl c.in-Ok.ensures.shares c.in-Ok-hire_all.ensures.jobs c.in-Ok-run_workers.ensures.worked all c.gather-pass.ensures.gathered
+    (c.truncate.ensures.items ∙ ap (take _) c.gather-pass.ensures.lists) left)) c.take_apart.ensures.report
