@@ -11,6 +11,7 @@ mod comparison;
 mod ending;
 mod engine;
 mod leaving;
+mod piece;
 mod replaying;
 mod serializing;
 

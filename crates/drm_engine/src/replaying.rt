@@ -9,8 +9,9 @@ ghost use Rattle.drm_script.specs.Transfer.{AppendsFront};
 ghost use Rattle.drm_engine.specs.Replaying.{AppendsPiece, IsAnswered, Plays, Replays};
 
 use crate::ending::Ending;
+use crate::piece::Piece;
 use drm_core::{Answer, Core, every_run_is_lawful, headline};
-use drm_script::{Events, Script, put_all, put_line, read_script_from};
+use drm_script::{Events, Script, put_all, read_script_from};
 use std::alloc::Global;
 use std::io::{self, Read, Write};
 
@@ -21,13 +22,13 @@ const PIECE: usize = 32_768;
 const ROOM: usize = PIECE + 8_320;
 
 /// Puts the line of an answer behind those of a piece, and writes the piece where it is long enough.
-fn tell<W: Write>(writer: &mut W, piece: &mut Vec<u8>, answer: &Answer) -> io::Result<()>
-    ensures ok { OnOk result (AppendsPiece (W.contents writer.old) (W.contents writer.new) (piece.old.items ++ line_of answer.now) piece.new.items) }
-    ensures err { OnErr result (AppendsFront (W.contents writer.old) (W.contents writer.new) (piece.old.items ++ line_of answer.now)) }
+fn tell<W: Write>(writer: &mut W, piece: &mut Piece, answer: &Answer) -> io::Result<()>
+    ensures ok { OnOk result (AppendsPiece (W.contents writer.old) (W.contents writer.new) (piece.old ++ line_of answer.now) piece.new) }
+    ensures err { OnErr result (AppendsFront (W.contents writer.old) (W.contents writer.new) (piece.old ++ line_of answer.now)) }
 {
-    put_line(piece, answer)?;
+    piece.put_line(answer)?;
     if piece.len() >= PIECE {
-        put_all(writer, piece)?;
+        put_all(writer, piece.as_slice())?;
         piece.clear();
     }
     Ok(())
@@ -39,12 +40,12 @@ fn tell_answers<W: Write>(
     alloc: Global,
     core: &mut Core,
     events: Events,
-    piece: &mut Vec<u8>,
+    piece: &mut Piece,
     writer: &mut W,
 ) -> io::Result<()>
     requires names { AllNamesExist core.old.device.spec events }
-    requires bare { piece.old.items ≡ [] }
-    ensures ok { OnOk result (IsAnswered core.old events core.new (λ answers. AppendsPiece (W.contents writer.old) (W.contents writer.new) (text_of_answers answers) piece.new.items)) }
+    requires bare { piece.old ≡ [] }
+    ensures ok { OnOk result (IsAnswered core.old events core.new (λ answers. AppendsPiece (W.contents writer.old) (W.contents writer.new) (text_of_answers answers) piece.new)) }
     ensures err { OnErr result (IsAnswered core.old events core.new (λ answers. AppendsFront (W.contents writer.old) (W.contents writer.new) (text_of_answers answers))) }
 {
     let mut told = Ok(());
@@ -63,16 +64,16 @@ fn write_lines<W: Write>(
     alloc: Global,
     core: &mut Core,
     events: Events,
-    piece: &mut Vec<u8>,
+    piece: &mut Piece,
     writer: &mut W,
 ) -> io::Result<()>
     requires names { AllNamesExist core.old.device.spec events }
-    requires bare { piece.old.items ≡ [] }
+    requires bare { piece.old ≡ [] }
     ensures ok { OnOk result (IsAnswered core.old events core.new (λ answers. Appends (W.contents writer.old) (W.contents writer.new) (text_of_answers answers))) }
     ensures err { OnErr result (IsAnswered core.old events core.new (λ answers. AppendsFront (W.contents writer.old) (W.contents writer.new) (text_of_answers answers))) }
 {
     tell_answers(alloc, core, events, piece, writer)?;
-    put_all(writer, piece)
+    put_all(writer, piece.as_slice())
 }
 
 /// Writes the answers to a script. The script's device passes its check, so only memory can lack, and it lacks before
@@ -84,7 +85,7 @@ fn play<W: Write>(alloc: Global, script: Script, writer: &mut W) -> Ending
 {
     every_run_is_lawful();
     headline();
-    let Ok(mut piece) = Vec::with_capacity(alloc, ROOM) else {
+    let Ok(mut piece) = Piece::with_room(alloc, ROOM) else {
         return Ending::NoMemory;
     };
     let Ok(mut core) = Core::build(alloc, script.spec) else {

@@ -23,9 +23,9 @@ loop-event-preserved g c =
         turn c.args.core.now before after c.args.events left so.0 c.in-Some.event c.apply-answer.result c.apply-answer.ensures.step goes_on,
         rw text (elim c.if-is_ok.branch [
           | then-is_ok w ↦ rw (w.told-is, w.writer-is, w.piece-is) (told_more (contents c.args.writer.now) (contents c.loop-event.writer) (contents w.tell-told.new.writer) c.loop-event.told w.tell-told.result
-              (text_of_answers so.0) (line_of c.apply-answer.result) c.loop-event.piece.items w.tell-told.new.piece.items (sym c.is_ok.ensures.value ∙ w.if-is_ok.true) so.2 w.tell-told.ensures.ok w.tell-told.ensures.err)
+              (text_of_answers so.0) (line_of c.apply-answer.result) c.loop-event.piece w.tell-told.new.piece (sym c.is_ok.ensures.value ∙ w.if-is_ok.true) so.2 w.tell-told.ensures.ok w.tell-told.ensures.err)
           | else-is_ok w ↦ rw (w.told-is, w.writer-is, w.piece-is) (told_less (contents c.args.writer.now) (contents c.loop-event.writer) c.loop-event.told
-              (text_of_answers so.0) (line_of c.apply-answer.result) c.loop-event.piece.items (sym c.is_ok.ensures.value ∙ w.if-is_ok.false) so.2)
+              (text_of_answers so.0) (line_of c.apply-answer.result) c.loop-event.piece (sym c.is_ok.ensures.value ∙ w.if-is_ok.false) so.2)
         ]),
       );
     }
@@ -48,9 +48,9 @@ loop-event-preserved-after-is_ok g c =
         turn c.args.core.now before after c.args.events left so.0 c.in-Some.event c.apply-answer.result c.apply-answer.ensures.step goes_on,
         rw text (elim c.if-is_ok.branch [
           | then-is_ok w ↦ rw (w.told-is, w.writer-is, w.piece-is) (told_more (contents c.args.writer.now) (contents c.loop-event.writer) (contents w.tell-told.new.writer) c.loop-event.told w.tell-told.result
-              (text_of_answers so.0) (line_of c.apply-answer.result) c.loop-event.piece.items w.tell-told.new.piece.items (sym c.is_ok.ensures.value ∙ w.if-is_ok.true) so.2 w.tell-told.ensures.ok w.tell-told.ensures.err)
+              (text_of_answers so.0) (line_of c.apply-answer.result) c.loop-event.piece w.tell-told.new.piece (sym c.is_ok.ensures.value ∙ w.if-is_ok.true) so.2 w.tell-told.ensures.ok w.tell-told.ensures.err)
           | else-is_ok w ↦ rw (w.told-is, w.writer-is, w.piece-is) (told_less (contents c.args.writer.now) (contents c.loop-event.writer) c.loop-event.told
-              (text_of_answers so.0) (line_of c.apply-answer.result) c.loop-event.piece.items (sym c.is_ok.ensures.value ∙ w.if-is_ok.false) so.2)
+              (text_of_answers so.0) (line_of c.apply-answer.result) c.loop-event.piece (sym c.is_ok.ensures.value ∙ w.if-is_ok.false) so.2)
         ]),
       );
     }
@@ -58,11 +58,11 @@ loop-event-preserved-after-is_ok g c =
 pub returns-clause-ok : goal.returns-clause-ok
 returns-clause-ok g c =
     let so = c.loop-event.invariant.so_far in
-    told_all _ _ c.args.core.now c.loop-event.core c.args.events so.0 c.loop-event.told c.loop-event.piece.items
+    told_all _ _ c.args.core.now c.loop-event.core c.args.events so.0 c.loop-event.told c.loop-event.piece
     (run_ends c.args.core.now c.loop-event.core c.args.events c.loop-event.rest so.0 c.in_default.ensures.none so.1) so.2
 
 pub returns-clause-err : goal.returns-clause-err
 returns-clause-err g c =
     let so = c.loop-event.invariant.so_far in
-    told_front _ _ c.args.core.now c.loop-event.core c.args.events so.0 c.loop-event.told c.loop-event.piece.items
+    told_front _ _ c.args.core.now c.loop-event.core c.args.events so.0 c.loop-event.told c.loop-event.piece
     (run_ends c.args.core.now c.loop-event.core c.args.events c.loop-event.rest so.0 c.in_default.ensures.none so.1) so.2

@@ -9,7 +9,7 @@ abbrev pub invariant-loop-event : goal.invariant-loop-event
 invariant-loop-event g l = record {
   names : AllNamesExist l.core.device.spec l.rest;
   so_far : (given : List Answer) × GoesOn l.fn.core l.fn.events given l.core l.rest
-      × Told (g.W.Write.contents l.fn.writer) (g.W.Write.contents l.writer) l.told (text_of_answers given) l.piece.items;
+      × Told (g.W.Write.contents l.fn.writer) (g.W.Write.contents l.writer) l.told (text_of_answers given) l.piece;
 }
 
 abbrev pub decreases-loop-event : goal.decreases-loop-event
