@@ -1,7 +1,7 @@
-use Rattle.std.proofs.Common.{◌≡◌, ◌∷◌, ◌++◌, List, [], length, refl, sym, ap, subst, ◌∙◌, arith}
+use Rattle.std.proofs.Common.{◌≡◌, ◌∷◌, ◌++◌, [], sym, subst, ◌∙◌}
 use Rattle.drm_script.specs.Answers.{line_of, text_of_answers}
 use Rattle.drm_script.specs.Commands.{AllNamesExist}
-use Rattle.drm_engine.proofs.Pieces.{GoesOn, Told, turn, run_ends, one_more, told_more, told_less, told_all, told_front}
+use Rattle.drm_engine.proofs.Pieces.{GoesOn, turn, run_ends, one_more, told_more, told_less, told_all, told_front}
 use Rattle.drm_engine.proofs.replaying.tell_answers.Goals as goal
 use Rattle.drm_engine.proofs.replaying.tell_answers.Goals.{then-is_ok, else-is_ok}
 
