@@ -83,10 +83,10 @@ impl CoreTable {
         ensures step { Step (core_state self.old) (event.Submit draft) result (core_state self.new) }
         ensures core { IsCore self.new }
     {
-        let job = match drm_job::check(draft, self.device.spec()) {
-            Ok(job) => job,
-            Err(back) => return Answer::Refused(Refusal::Faulty(back.1)),
-        };
+        if let Some(fault) = drm_job::first_fault(&draft, self.device.spec()) {
+            return Answer::Refused(Refusal::Faulty(fault));
+        }
+        let job = Job::of_sound(draft);
         if let Some(buffer) = planning::first_held(&self.holders, job.declared()) {
             return Answer::Refused(Refusal::Held { buffer });
         }

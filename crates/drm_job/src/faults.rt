@@ -21,7 +21,6 @@ const MAX_PACKETS: usize = 64;
 /// # Errors
 ///
 /// The draft, untouched, with the first of the faults in the order of `JobFault`.
-#[inline(always)]
 pub fn check(draft: Draft, spec: &DeviceSpec) -> Result<Job, (Draft, JobFault)>
     ensures { MatchResult result
         (λ job. (job ≡ draft) × IsJob spec.now draft)
@@ -29,12 +28,13 @@ pub fn check(draft: Draft, spec: &DeviceSpec) -> Result<Job, (Draft, JobFault)>
 {
     match first_fault(&draft, spec) {
         Some(fault) => Err((draft, fault)),
-        None => Ok(Job { draft }),
+        None => Ok(Job::of_sound(draft)),
     }
 }
 
-// The first fault of the draft, in the order of `JobFault`.
-fn first_fault(draft: &Draft, spec: &DeviceSpec) -> Option<JobFault>
+/// The first fault of the draft, in the order of `JobFault`, if it has one. Who keeps the draft where it stands asks here, and makes
+/// a job of it by `Job::of_sound`: a draft that `check` takes over and gives back is copied twice.
+pub fn first_fault(draft: &Draft, spec: &DeviceSpec) -> Option<JobFault>
     ensures { result ≡ job_fault spec.now draft.now }
 {
     if draft.entity as usize >= spec.entities.len() {

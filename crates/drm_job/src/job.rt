@@ -1,4 +1,6 @@
 ghost use Rattle.std.specs.Prelude.{◌≡◌, ◌<◌, ◌==◌, length, slice_get, Some, is_some, option_map, find};
+ghost use Rattle.drm_types.specs.declared.spec.DeviceSpec.{DeviceSpec};
+ghost use Rattle.drm_job.specs.Fault.{IsJob};
 ghost use Rattle.drm_job.specs.Uses.{access_of as access_in, StaysWithin};
 
 use crate::Draft;
@@ -25,6 +27,15 @@ impl Model for Job {
 }
 
 impl Job {
+    /// The job that a draft is which has no fault on a device.
+    #[inline(always)]
+    pub fn of_sound(draft: Draft) -> Job
+        requires { (spec : DeviceSpec) × IsJob spec draft }
+        ensures { result ≡ draft }
+    {
+        Job { draft }
+    }
+
     /// The entity whose queue takes the job.
     pub fn entity(&self) -> EntityId
         ensures { result ≡ self.now.entity }

@@ -15,7 +15,7 @@ mod short_list;
 pub use conflict::conflicts;
 use drm_packet::Packet;
 use drm_types::{Access, BufferId, EntityId, FenceId};
-pub use faults::check;
+pub use faults::{check, first_fault};
 pub use job::Job;
 pub use laws::{jobs_are_the_sound_drafts, jobs_run_in_their_device, jobs_stay_within};
 pub use short_list::ShortList;

@@ -365,8 +365,7 @@ fn bare_draft(alloc: Global, entity: u32, credits: u16) -> Draft
     }
 }
 
-/// The job that the words left spell. A job is large, so where it is read it stands where it is used, and is not handed up.
-#[inline(always)]
+/// The job that the words left spell.
 #[tactic(auto, unfolding(crate::specs::Job::job_at))]
 pub fn read_job(alloc: Global, words: &mut Words) -> Result<Draft, ReadError>
     ensures { Gives (λ d. d) result (job_at words.old) }
