@@ -1,6 +1,6 @@
 -- Answers that are told in pieces.
 use Rattle.std.proofs.Common.{◌≡◌, ◌<◌, ℕ, ◌+◌, List, [], ◌∷◌, ◌++◌, length, take, append_assoc, append-nil, Option, Ok, Err, Result, refl, sym, ap, subst, ◌∙◌, arith}
-use Rattle.std.specs.Prelude.{is_ok, OnOk, OnErr, true, false}
+use Rattle.std.specs.Prelude.{is_ok, is_err, OnOk, OnErr, true, false}
 use Rattle.std.specs.Io.KnownBytes.{Appends}
 use Rattle.std.proofs.KnownBytes.{Appends-nil, Appends-trans}
 use Rattle.std.proofs.Math.Seq.{take-append-add}
@@ -13,6 +13,7 @@ use Rattle.drm_core.specs.Run.{EveryRunIsLawful, Run}
 use Rattle.drm_core.specs.Step.{Step}
 use Rattle.drm_script.specs.Answers.{line_of, text_of_answers}
 use Rattle.drm_script.specs.Commands.{AllNamesExist}
+use Rattle.drm_script.specs.Kept.{AnswersFirst}
 use Rattle.drm_script.specs.Transfer.{AppendsFront}
 use Rattle.drm_script.specs.declared.script.Script.{Script}
 use Rattle.drm_engine.specs.Replaying.{AppendsPiece, AreAnswers, IsAnswered}
@@ -25,6 +26,12 @@ pub turn : (start now next : CoreState) (events rest : List Event) (so_far : Lis
     → GoesOn start events so_far now (event ∷ rest) → GoesOn start events (so_far ++ answer ∷ []) next rest
 turn start now next events rest so_far event answer step goes_on more new run =
     subst (λ given. Run start events given new) (sym (append_assoc so_far (answer ∷ []) more)) (goes_on (answer ∷ more) new (next, step, run))
+
+-- the same by the first event that is left
+pub turned : (start now next : CoreState) (events rest left : List Event) (so_far : List Answer) (answer : Answer) → AnswersFirst now rest answer next left
+    → GoesOn start events so_far now rest → GoesOn start events (so_far ++ answer ∷ []) next left
+turned start now next events rest left so_far answer first goes_on =
+    turn start now next events left so_far first.0 answer first.2 (subst (GoesOn start events so_far now) first.1 goes_on)
 
 pub run_ends : (start now : CoreState) (events rest : List Event) (so_far : List Answer) → rest ≡ [] → GoesOn start events so_far now rest → Run start events so_far now
 run_ends start now events [] so_far none goes_on = subst (λ given. Run start events given now) (append-nil so_far) (goes_on [] now refl)
@@ -62,6 +69,17 @@ front_of_more a b text more p =
 abbrev pub Told : {E : Type 0} → Option (List ℕ) → Option (List ℕ) → Result (Unit {0}) E → List ℕ → List ℕ → Type 0
 Told old new (Ok done) text piece = AppendsPiece old new text piece
 Told old new (Err e) text piece = AppendsFront old new text
+
+-- what is still to be written of what was not written at all, and of what was written whole
+pub piece_kept : (a : Option (List ℕ)) (piece : List ℕ) → AppendsPiece a a piece piece
+piece_kept a piece = ([], Appends-nil a, refl)
+
+piece_written : (a b : Option (List ℕ)) (piece left : List ℕ) → Appends a b piece → left ≡ [] → AppendsPiece a b piece left
+piece_written a b piece left wrote none = (piece, wrote, rw none (sym (append-nil piece)))
+
+pub all_written : {A E : Type 0} (r : Result A E) (a b : Option (List ℕ)) (piece left : List ℕ) → OnOk r (Appends a b piece × (left ≡ [])) → OnOk r (AppendsPiece a b piece left)
+all_written (Ok x) a b piece left wrote = piece_written a b piece left wrote.0 wrote.1
+all_written (Err e) a b piece left wrote = tt
 
 -- one answer more, where all could be told so far
 pub told_more : {E : Type 0} (a b c : Option (List ℕ)) (told next : Result (Unit {0}) E) (text line piece left : List ℕ) → is_ok told ≡ true → Told a b told text piece
@@ -109,6 +127,22 @@ written_front a b c start final events piece (Err e) p err = (p.0, p.1, last_fro
 pub any_err : {A E : Type 0} (r : Result A E) (P : Type 0) → P → OnErr r P
 any_err (Ok x) P p = tt
 any_err (Err e) P p = p
+
+pub any_ok : {A E : Type 0} (r : Result A E) (P : Type 0) → P → OnOk r P
+any_ok (Ok x) P p = p
+any_ok (Err e) P p = tt
+
+pub holds_of_ok : {A E : Type 0} (r : Result A E) (P : Type 0) → is_err r ≡ false → OnOk r P → P
+holds_of_ok (Ok x) P is p = p
+holds_of_ok (Err e) P is p = absurd (cc)
+
+pub ok_of_no_err : {A E : Type 0} (r : Result A E) → is_err r ≡ false → is_ok r ≡ true
+ok_of_no_err (Ok x) is = refl
+ok_of_no_err (Err e) is = absurd (cc)
+
+pub no_ok_of_err : {A E : Type 0} (r : Result A E) → is_err r ≡ true → is_ok r ≡ false
+no_ok_of_err (Ok x) is = absurd (cc)
+no_ok_of_err (Err e) is = refl
 
 -- nothing of a line was written
 pub nothing_told : (a : Option (List ℕ)) (bytes : List ℕ) (answer : Answer) → AppendsFront a a (bytes ++ line_of answer)

@@ -1,18 +1,18 @@
 //! The engine `replay`: from a script to the answers of the core.
 
-ghost use Rattle.std.specs.Prelude.{◌≡◌, ◌++◌, [], None, OnErr, OnOk};
+ghost use Rattle.std.specs.Prelude.{◌≡◌, [], None, OnErr, OnOk};
 ghost use Rattle.std.specs.Io.KnownBytes.{Appends};
 ghost use Rattle.drm_types.specs.Limits.{spec_fault};
-ghost use Rattle.drm_script.specs.Answers.{line_of, text_of_answers};
+ghost use Rattle.drm_script.specs.Answers.{text_of_answers};
 ghost use Rattle.drm_script.specs.Commands.{AllNamesExist};
 ghost use Rattle.drm_script.specs.Transfer.{AppendsFront};
 ghost use Rattle.drm_engine.specs.Replaying.{AppendsPiece, IsAnswered, Plays, Replays};
 
 use crate::ending::Ending;
 use crate::piece::Piece;
-use drm_core::{Answer, Core, every_run_is_lawful, headline};
+use drm_core::{Core, every_run_is_lawful, headline};
 use drm_script::{Events, Script, put_all, read_script_from};
-use std::alloc::Global;
+use std::alloc::{AllocError, Global};
 use std::io::{self, Read, Write};
 
 /// The lines of answers are written in pieces of so many bytes or more, but for the last.
@@ -21,21 +21,19 @@ const PIECE: usize = 32_768;
 /// The room of a piece. The longest line tells 4,096 bytes, so a piece never needs more.
 const ROOM: usize = PIECE + 8_320;
 
-/// Puts the line of an answer behind those of a piece, and writes the piece where it is long enough.
-fn tell<W: Write>(writer: &mut W, piece: &mut Piece, answer: &Answer) -> io::Result<()>
-    ensures ok { OnOk result (AppendsPiece (W.contents writer.old) (W.contents writer.new) (piece.old ++ line_of answer.now) piece.new) }
-    ensures err { OnErr result (AppendsFront (W.contents writer.old) (W.contents writer.new) (piece.old ++ line_of answer.now)) }
+/// Writes a piece, and leaves it empty.
+#[inline(never)]
+fn write_piece<W: Write>(writer: &mut W, piece: &mut Piece) -> io::Result<()>
+    ensures ok { OnOk result (Appends (W.contents writer.old) (W.contents writer.new) piece.old × (piece.new ≡ [])) }
+    ensures err { OnErr result (AppendsFront (W.contents writer.old) (W.contents writer.new) piece.old) }
 {
-    piece.put_line(answer)?;
-    if piece.len() >= PIECE {
-        put_all(writer, piece.as_slice())?;
-        piece.clear();
-    }
+    put_all(writer, piece.as_slice())?;
+    piece.clear();
     Ok(())
 }
 
-/// Gives the core all events, and tells the answer to each while it can be told. No answer is kept, and of the text no
-/// more than a piece.
+/// Gives the core all events, and tells the answer to each while it can be told: its line comes behind those of a piece, which
+/// is written where it is long enough. No answer is kept, and of the text no more than a piece.
 fn tell_answers<W: Write>(
     alloc: Global,
     core: &mut Core,
@@ -50,10 +48,14 @@ fn tell_answers<W: Write>(
 {
     let mut told = Ok(());
     let mut rest = events.into_left();
-    while let Some(event) = rest.next() {
-        let answer = core.apply(alloc, event);
-        if told.is_ok() {
-            told = tell(writer, piece, &answer);
+    while let Some(answer) = rest.apply_next(alloc, core) {
+        if told.is_err() {
+            continue;
+        }
+        if piece.put_line(&answer).is_err() {
+            told = Err(io::Error::from(AllocError));
+        } else if piece.len() >= PIECE {
+            told = write_piece(writer, piece);
         }
     }
     told

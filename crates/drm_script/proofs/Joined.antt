@@ -1,10 +1,16 @@
 -- Events that stand without their jobs, joined with these.
-use Rattle.std.proofs.Common.{◌≡◌, ℕ, ◌+◌, ◌<◌, Bool, true, false, cond, List, [], ◌∷◌, ◌++◌, append-nil, length, length-append, Option, Some, None, refl, sym, ap, ◌∙◌, arith, true≢false}
-use Rattle.std.specs.Prelude.{count_by, is_none, option_to_list}
+use Rattle.std.proofs.Common.{◌≡◌, ℕ, ◌+◌, ◌<◌, Bool, true, false, cond, List, [], ◌∷◌, ◌++◌, append-nil, length, length-append, Option, Some, None, Result, Ok, Err, refl, sym, ap, ◌∙◌, arith, true≢false}
+use Rattle.std.specs.Prelude.{count_by, is_none, option_to_list, OnOk}
 use Rattle.std.proofs.lemmas.List.Sums.{sum_by-append, sum_by-cons}
 use Rattle.drm_core.specs.declared.event.Event.{Event}
 use Rattle.drm_job.specs.declared.Draft.{Draft}
 use Rattle.drm_script.specs.declared.kept.Kept.{Kept}
+use Rattle.drm_text.specs.Cut.{Words}
+use Rattle.drm_text.specs.Reading.{Gives}
+use Rattle.drm_text.specs.declared.fault.ReadError.{ReadError}
+use Rattle.drm_text.specs.declared.fault.ReadError.TheVariants as errors
+use Rattle.drm_script.specs.Commands.{with_job_at}
+use Rattle.drm_script.specs.Job.{job_at}
 use Rattle.drm_script.specs.Kept.{AreMatched, brings_job, event_of, event_with, joined, next_joined}
 
 abbrev jobs_of : Kept → ℕ
@@ -83,3 +89,18 @@ rest_with k ks js left j is same matched =
     let one : jobs_of k ≡ 1 = ap (λ (b : Bool). cond b 1 0) is in
     let longer : length js ≡ length (j ∷ left) = ap (λ (l : List Draft). length l) same in
     omega (arith, counted_first k ks, one, matched, longer)
+
+-- ---- one that is read
+
+-- an event with the job that is read behind its line comes behind the others, and a fault is that of the job
+pub joined_read : (k : Kept) (ks : List Kept) (js : List Draft) (events : List Event) (j : Draft) (r : Result (Unit {0}) ReadError) (words : Words) → brings_job k ≡ true → AreMatched ks js → joined ks js ≡ events
+    → Gives (λ _. j) r (job_at words) → Gives (λ _. joined (ks ++ k ∷ []) (js ++ j ∷ [])) r (with_job_at events (event_with k) words)
+joined_read k ks js events j (Ok done) words is matched same read =
+    rw read (ap Ok (ap (λ es. es ++ event_with k j ∷ []) (sym same) ∙ sym (joined_with k j ks js is matched)))
+joined_read k ks js events j (Err errors.Memory) words is matched same read = tt
+joined_read k ks js events j (Err (errors.Fault f)) words is matched same read = rw read refl
+
+pub added_read : (k : Kept) (ks : List Kept) (js : List Draft) (events : List Event) (j : Draft) (r : Result (Unit {0}) ReadError) → brings_job k ≡ true → AreMatched ks js → joined ks js ≡ events
+    → OnOk r ((job : Draft) × (joined (ks ++ k ∷ []) (js ++ j ∷ []) ≡ events ++ event_with k job ∷ []))
+added_read k ks js events j (Ok done) is matched same = (j, joined_with k j ks js is matched ∙ ap (λ es. es ++ event_with k j ∷ []) same)
+added_read k ks js events j (Err e) is matched same = tt

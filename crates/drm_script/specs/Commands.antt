@@ -40,14 +40,6 @@ plan_at words =
     job_at ctx.1 >>= λ draft.
     Ok (event.Plan ctx.0 draft)
 
--- whether a ring is what the command names
-abbrev pub names_ring : Command → Bool
-names_ring command.Pick = true
-names_ring command.Step = true
-names_ring command.Finish = true
-names_ring command.Timeout = true
-names_ring other = false
-
 -- whether the command names a context, and no job
 abbrev pub names_context : Command → Bool
 names_context command.Begin = true

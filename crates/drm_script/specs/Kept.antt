@@ -1,5 +1,8 @@
 -- Events as a script keeps them: those that bring a job stand without it, and the jobs beside.
 use Rattle.std.specs.Prelude.{◌≡◌, Bool, List, [], ◌∷◌, Option, Some, None, count_by, is_none, length}
+use Rattle.drm_table.specs.declared.answer.Answer.{Answer}
+use Rattle.drm_core.specs.State.{CoreState}
+use Rattle.drm_core.specs.Step.{Step}
 use Rattle.drm_core.specs.declared.event.Event.{Event}
 use Rattle.drm_core.specs.declared.event.Event.TheVariants as event
 use Rattle.drm_job.specs.declared.Draft.{Draft}
@@ -51,3 +54,7 @@ joined (kept ∷ rest) jobs = next_joined (event_of kept) kept (joined rest) job
 -- there are as many jobs as events that bring one
 abbrev pub AreMatched : List Kept → List Draft → Type 0
 AreMatched kept jobs = count_by brings_job kept ≡ length jobs
+
+-- the core may give this answer to the first of these events, and those behind it are left
+abbrev pub AnswersFirst : CoreState → List Event → Answer → CoreState → List Event → Type 0
+AnswersFirst old events answer new left = (event : Event) × (events ≡ event ∷ left) × Step old event answer new

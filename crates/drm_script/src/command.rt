@@ -3,11 +3,11 @@
 ghost use Rattle.std.specs.Prelude.{◌≡◌, ◌<◌, ◌≤◌, ◌++◌, ◌∷◌, [], true, length, IfOk, IsTrue, OnOk};
 ghost use Rattle.drm_job.specs.declared.Draft.{Draft as DraftValue};
 ghost use Rattle.drm_text.specs.Reading.{Reads, Gives};
+ghost use Rattle.drm_text.specs.declared.keywords.Command.TheVariants as command;
 ghost use Rattle.drm_script.specs.Kept.{brings_job, event_with};
-ghost use Rattle.drm_script.specs.Commands.{AllNamesExist, with_event, with_job_at, context_and_buffer_at, ring_and_moment_at, names_ring, names_context, command_of, event_at, event_line};
+ghost use Rattle.drm_script.specs.Commands.{AllNamesExist, with_event, with_job_at, context_and_buffer_at, ring_and_moment_at, names_context, command_of, event_at, event_line};
 
 use crate::events::Events;
-use crate::job::read_job;
 use crate::kept::Kept;
 use drm_text::{Command, Fault, Keyword, Line, ReadError, Words, order_fault};
 use drm_types::{BufferId, CtxId, DeviceSpec, Moment, RingId};
@@ -37,38 +37,48 @@ fn read_ring_and_moment(spec: &DeviceSpec, words: &mut Words) -> Result<(RingId,
     Ok((ring, now))
 }
 
-/// Reads the event of a command that names a ring, and adds it to those before it.
+/// Reads the event of a `pick`, and adds it to those before it.
 #[tactic(auto, unfolding(crate::specs::Commands::event_at))]
-fn read_ring_event(
-    spec: &DeviceSpec,
-    command: Command,
-    words: &mut Words,
-    events: &mut Events,
-) -> Result<(), ReadError>
-    requires ring { IsTrue (names_ring command) }
+fn read_pick(spec: &DeviceSpec, words: &mut Words, events: &mut Events) -> Result<(), ReadError>
     requires exist { AllNamesExist spec.now events.old }
-    ensures value { Gives (λ _. events.new) result (with_event events.old (event_at spec.now command words.old)) }
+    ensures value { Gives (λ _. events.new) result (with_event events.old (event_at spec.now command.Pick words.old)) }
     ensures exist { OnOk result (AllNamesExist spec.now events.new) }
 {
-    match command {
-        Command::Pick => {
-            let (ring, now) = read_ring_and_moment(spec, words)?;
-            Ok(events.push(Kept::Pick { ring, now })?)
-        }
-        Command::Step => {
-            let ring = words.last_name(spec.rings.len())?;
-            Ok(events.push(Kept::Step { ring })?)
-        }
-        Command::Finish => {
-            let (ring, now) = read_ring_and_moment(spec, words)?;
-            Ok(events.push(Kept::Finish { ring, now })?)
-        }
-        Command::Timeout => {
-            let (ring, now) = read_ring_and_moment(spec, words)?;
-            Ok(events.push(Kept::Timeout { ring, now })?)
-        }
-        _ => unreachable!(),
-    }
+    let (ring, now) = read_ring_and_moment(spec, words)?;
+    Ok(events.push(Kept::Pick { ring, now })?)
+}
+
+/// Reads the event of a `step`, and adds it to those before it.
+#[tactic(auto, unfolding(crate::specs::Commands::event_at))]
+fn read_step(spec: &DeviceSpec, words: &mut Words, events: &mut Events) -> Result<(), ReadError>
+    requires exist { AllNamesExist spec.now events.old }
+    ensures value { Gives (λ _. events.new) result (with_event events.old (event_at spec.now command.Step words.old)) }
+    ensures exist { OnOk result (AllNamesExist spec.now events.new) }
+{
+    let ring = words.last_name(spec.rings.len())?;
+    Ok(events.push(Kept::Step { ring })?)
+}
+
+/// Reads the event of a `finish`, and adds it to those before it.
+#[tactic(auto, unfolding(crate::specs::Commands::event_at))]
+fn read_finish(spec: &DeviceSpec, words: &mut Words, events: &mut Events) -> Result<(), ReadError>
+    requires exist { AllNamesExist spec.now events.old }
+    ensures value { Gives (λ _. events.new) result (with_event events.old (event_at spec.now command.Finish words.old)) }
+    ensures exist { OnOk result (AllNamesExist spec.now events.new) }
+{
+    let (ring, now) = read_ring_and_moment(spec, words)?;
+    Ok(events.push(Kept::Finish { ring, now })?)
+}
+
+/// Reads the event of a `timeout`, and adds it to those before it.
+#[tactic(auto, unfolding(crate::specs::Commands::event_at))]
+fn read_timeout(spec: &DeviceSpec, words: &mut Words, events: &mut Events) -> Result<(), ReadError>
+    requires exist { AllNamesExist spec.now events.old }
+    ensures value { Gives (λ _. events.new) result (with_event events.old (event_at spec.now command.Timeout words.old)) }
+    ensures exist { OnOk result (AllNamesExist spec.now events.new) }
+{
+    let (ring, now) = read_ring_and_moment(spec, words)?;
+    Ok(events.push(Kept::Timeout { ring, now })?)
 }
 
 /// Reads the event of a command that names a context, and no job, and adds it to those before it.
@@ -130,8 +140,7 @@ fn read_with_job(
     ensures value { Gives (λ _. events.new) result (with_job_at events.old (event_with kept) words.old) }
     ensures added { OnOk result ((job : DraftValue) × (events.new ≡ events.old ++ event_with kept job ∷ [])) }
 {
-    let job = read_job(alloc, words)?;
-    Ok(events.push_job(kept, job)?)
+    events.push_read(alloc, kept, words)
 }
 
 /// Reads the event of a command, and adds it to those before it.
@@ -153,9 +162,10 @@ fn read_event(
             let ctx = words.name(CONTEXTS)?;
             read_with_job(alloc, Kept::Plan { ctx }, words, events)
         }
-        Command::Pick | Command::Step | Command::Finish | Command::Timeout => {
-            read_ring_event(spec, command, words, events)
-        }
+        Command::Pick => read_pick(spec, words, events),
+        Command::Step => read_step(spec, words, events),
+        Command::Finish => read_finish(spec, words, events),
+        Command::Timeout => read_timeout(spec, words, events),
         Command::Cancel => {
             let entity = words.last_name(spec.entities.len())?;
             Ok(events.push(Kept::Cancel { entity })?)
@@ -197,7 +207,8 @@ pub(crate) fn read_event_line(
     ensures value { Gives (λ _. events.new) result (with_event events.old (event_line spec.now line.now.number line.now.bytes)) }
     ensures exist { OnOk result (AllNamesExist spec.now events.new) }
 {
-    let (keyword, mut words) = line.start()?;
+    let mut words = line.words();
+    let keyword = line.read_start(&mut words)?;
     let command = find_command(keyword).ok_or(order_fault(line.number()))?;
     read_event(alloc, spec, command, &mut words, events)
 }

@@ -2,11 +2,16 @@
 
 ghost use Rattle.std.specs.Prelude.{◌≡◌, [], ◌∷◌, ◌++◌, true, false, length, IfSome, IfNone, OnOk, OnErr};
 ghost use Rattle.std.specs.Option.{option_to_list};
-ghost use Rattle.drm_script.specs.Kept.{brings_job, event_of, event_with};
+ghost use Rattle.drm_job.specs.declared.Draft.{Draft as DraftValue};
+ghost use Rattle.drm_text.specs.Reading.{Gives};
+ghost use Rattle.drm_script.specs.Commands.{AllNamesExist, with_job_at};
+ghost use Rattle.drm_script.specs.Kept.{AnswersFirst, brings_job, event_of, event_with};
 
-use crate::kept::Kept;
-use drm_core::Event;
+use crate::job::push_job;
+use crate::kept::{Kept, next_job};
+use drm_core::{Answer, Core, Event};
 use drm_job::Draft;
+use drm_text::{ReadError, Words};
 use std::alloc::{AllocError, Global};
 use std::marker::Model;
 use std::vec::IntoIter;
@@ -54,19 +59,23 @@ impl Events {
         Ok(())
     }
 
-    /// Adds an event that brings this job at the end. A refusal of memory leaves the list as it was and drops the job.
+    /// Adds an event that brings the job which the words left spell at the end. The job is read where it is kept. What the
+    /// list has where that fails tells nothing.
     #[inline]
-    #[tactic(auto, using(crate::proofs::Joined::joined_with, crate::proofs::Joined::matched_with))]
-    pub(crate) fn push_job(&mut self, kept: Kept, job: Draft) -> Result<(), AllocError>
+    pub(crate) fn push_read(
+        &mut self,
+        alloc: Global,
+        kept: Kept,
+        words: &mut Words,
+    ) -> Result<(), ReadError>
         requires { brings_job kept ≡ true }
-        ensures ok { OnOk result (self.new ≡ self.old ++ event_with kept job ∷ []) }
-        ensures err { OnErr result (self.new ≡ self.old) }
+        ensures value { Gives (λ _. self.new) result (with_job_at self.old (event_with kept) words.old) }
+        ensures added { OnOk result ((job : DraftValue) × (self.new ≡ self.old ++ event_with kept job ∷ [])) }
     {
         self.kept.reserve(1)?;
         self.jobs.reserve(1)?;
         self.kept.push_reserved(kept);
-        self.jobs.push_reserved(job);
-        Ok(())
+        push_job(alloc, &mut self.jobs, words)
     }
 
     /// The events, to be taken one after the other.
@@ -111,5 +120,43 @@ impl EventsLeft {
     {
         let kept = self.rest.next()?;
         Some(kept.into_event(&mut self.jobs))
+    }
+
+    /// Has the next event happen to the core, if one is left, and gives the answer. Each arm hands over an event of its own, so
+    /// that none is put together for the core to take it apart again.
+    #[inline(always)]
+    pub fn apply_next(&mut self, alloc: Global, core: &mut Core) -> Option<Answer>
+        requires names { AllNamesExist core.old.device.spec self.old }
+        ensures some { IfSome result (λ answer. AnswersFirst core.old self.old answer core.new self.new) }
+        ensures none { IfNone result ((self.old ≡ []) × (core.new ≡ core.old)) }
+        ensures names { AllNamesExist core.new.device.spec self.new }
+    {
+        let kept = self.rest.next()?;
+        let answer = match kept {
+            Kept::Submit => {
+                let draft = next_job(&mut self.jobs);
+                core.apply(alloc, Event::Submit { draft })
+            }
+            Kept::Plan { ctx } => {
+                let draft = next_job(&mut self.jobs);
+                core.apply(alloc, Event::Plan { ctx, draft })
+            }
+            Kept::Begin { ctx } => core.apply(alloc, Event::Begin { ctx }),
+            Kept::Try { ctx, buffer } => core.apply(alloc, Event::Try { ctx, buffer }),
+            Kept::Done { ctx } => core.apply(alloc, Event::Done { ctx }),
+            Kept::Drop { ctx, buffer } => core.apply(alloc, Event::Drop { ctx, buffer }),
+            Kept::End { ctx } => core.apply(alloc, Event::End { ctx }),
+            Kept::Arm { ctx } => core.apply(alloc, Event::Arm { ctx }),
+            Kept::Pick { ring, now } => core.apply(alloc, Event::Pick { ring, now }),
+            Kept::Step { ring } => core.apply(alloc, Event::Step { ring }),
+            Kept::Finish { ring, now } => core.apply(alloc, Event::Finish { ring, now }),
+            Kept::Timeout { ring, now } => core.apply(alloc, Event::Timeout { ring, now }),
+            Kept::Cancel { entity } => core.apply(alloc, Event::Cancel { entity }),
+            Kept::Reap { entity } => core.apply(alloc, Event::Reap { entity }),
+            Kept::Read { ctx, buffer } => core.apply(alloc, Event::Read { ctx, buffer }),
+            Kept::Status { fence } => core.apply(alloc, Event::Status { fence }),
+            Kept::Dump { buffer } => core.apply(alloc, Event::Dump { buffer }),
+        };
+        Some(answer)
     }
 }

@@ -99,7 +99,7 @@ fn read_ring_list(alloc: Global, word: &[u8], fault: Fault) -> Result<Sequence<R
     ensures { Gives (λ rings. rings) result (or_fault (rings_of word.now) fault) }
 {
     let mut rings = Sequence::new(alloc);
-    let mut pieces = Parts::new(word, b',');
+    let mut pieces: Parts<b','> = Parts::new(word);
     while let Some(piece) = pieces.next() {
         let ring = read_number(piece, u64::from(u32::MAX)).ok_or(fault)?;
         rings.push(ring as u32)?;

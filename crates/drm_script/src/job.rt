@@ -1,8 +1,9 @@
 //! The words of a job.
 
-ghost use Rattle.std.specs.Prelude.{◌≡◌, ◌≤◌, ◌==◌, ◌++◌, [], ◌∷◌, false, length, IfNone, IfSome, IsTrue, OnOk};
+ghost use Rattle.std.specs.Prelude.{◌≡◌, ◌<◌, ◌≤◌, ◌==◌, ◌++◌, [], ◌∷◌, false, length, vec_len, vec_capacity, IfNone, IfSome, IsTrue, OnOk};
 ghost use Rattle.std.specs.List.{list_any};
 ghost use Rattle.std.specs.Option.{option_map};
+ghost use Rattle.drm_job.specs.declared.Draft.{Draft as DraftValue};
 ghost use Rattle.drm_text.specs.Reading.{Reads, Gives};
 ghost use Rattle.drm_script.specs.Job.{kind_read, one_of, number_first, byte_alone, number_alone, fill_from, fill_in_turn, route_from, route_in_turn, fill_at, route_at, copy_at, add_at, stall_at, packet_at, is_late, tail_at, with_item, with_word, with_words, job_at, is_job};
 
@@ -53,7 +54,7 @@ fn read_kind(word: &[u8]) -> Kind
 }
 
 /// The next piece as a number, if a piece is left. It may spell none.
-fn next_number(pieces: &mut Parts) -> Option<Option<u32>>
+fn next_number(pieces: &mut Parts<b':'>) -> Option<Option<u32>>
     ensures { option_map (λ n. (n, pieces.new.parts)) result ≡ number_first pieces.old.parts }
 {
     let (_, number) = pieces.next_number(u64::from(u32::MAX))?;
@@ -65,7 +66,7 @@ fn next_number(pieces: &mut Parts) -> Option<Option<u32>>
 
 /// The last piece as a byte, if one piece is left. It may spell none.
 #[tactic(auto, unfolding(crate::specs::Job::byte_alone))]
-fn last_byte(pieces: &mut Parts) -> Option<Option<u8>>
+fn last_byte(pieces: &mut Parts<b':'>) -> Option<Option<u8>>
     ensures { result ≡ byte_alone pieces.old.parts }
 {
     let piece = one(pieces)?;
@@ -74,7 +75,7 @@ fn last_byte(pieces: &mut Parts) -> Option<Option<u8>>
 
 /// The last piece as a number, if one piece is left. It may spell none.
 #[tactic(auto, unfolding(crate::specs::Job::number_alone))]
-fn last_number(pieces: &mut Parts) -> Option<Option<u32>>
+fn last_number(pieces: &mut Parts<b':'>) -> Option<Option<u32>>
     ensures { result ≡ number_alone pieces.old.parts }
 {
     let number = next_number(pieces)?;
@@ -85,8 +86,8 @@ fn last_number(pieces: &mut Parts) -> Option<Option<u32>>
 }
 
 /// The piece that is left, if it is one.
-#[inline]
-fn one<'a>(pieces: &mut Parts<'a>) -> Option<&'a [u8]>
+#[inline(always)]
+fn one<'a>(pieces: &mut Parts<'a, b':'>) -> Option<&'a [u8]>
     ensures { option_map (λ piece. piece.now) result ≡ one_of pieces.old.parts }
 {
     let first = pieces.next()?;
@@ -108,7 +109,7 @@ struct Route {
 
 /// What the pieces of a `fill` spell, each cut and read before the next, if they are four. They may spell none.
 #[tactic(auto, unfolding(crate::specs::Job::fill_in_turn))]
-fn read_fill(pieces: &mut Parts) -> Option<Option<Packet>>
+fn read_fill(pieces: &mut Parts<b':'>) -> Option<Option<Packet>>
     ensures { result ≡ fill_in_turn pieces.old.parts }
 {
     let buffer = next_number(pieces)?;
@@ -138,7 +139,7 @@ fn make_fill(
 /// What the pieces of a `copy` or an `add` spell, each cut and read before the next, if they are five. They may spell
 /// none.
 #[tactic(auto, unfolding(crate::specs::Job::route_in_turn))]
-fn read_route(pieces: &mut Parts) -> Option<Option<Route>>
+fn read_route(pieces: &mut Parts<b':'>) -> Option<Option<Route>>
     ensures { result ≡ route_in_turn pieces.old.parts }
 {
     let source = next_number(pieces)?;
@@ -169,7 +170,7 @@ fn make_route(
 }
 
 #[tactic(auto, using(crate::proofs::InTurn::fill_is_in_turn))]
-fn read_fill_pieces(position: Position, pieces: &mut Parts) -> Result<Packet, Fault>
+fn read_fill_pieces(position: Position, pieces: &mut Parts<b':'>) -> Result<Packet, Fault>
     ensures { Reads (λ p. p) result (fill_at position pieces.old.parts) }
 {
     let packet = read_fill(pieces).ok_or(position.fault(TextFault::Word))?;
@@ -177,14 +178,14 @@ fn read_fill_pieces(position: Position, pieces: &mut Parts) -> Result<Packet, Fa
 }
 
 #[tactic(auto, using(crate::proofs::InTurn::route_is_in_turn))]
-fn read_route_pieces(position: Position, pieces: &mut Parts) -> Result<Route, Fault>
+fn read_route_pieces(position: Position, pieces: &mut Parts<b':'>) -> Result<Route, Fault>
     ensures { Reads (λ r. r) result (route_at position pieces.old.parts) }
 {
     let route = read_route(pieces).ok_or(position.fault(TextFault::Word))?;
     route.ok_or(position.fault(TextFault::Number))
 }
 
-fn read_copy(position: Position, pieces: &mut Parts) -> Result<Packet, Fault>
+fn read_copy(position: Position, pieces: &mut Parts<b':'>) -> Result<Packet, Fault>
     ensures { Reads (λ p. p) result (copy_at position pieces.old.parts) }
 {
     let route = read_route_pieces(position, pieces)?;
@@ -197,7 +198,7 @@ fn read_copy(position: Position, pieces: &mut Parts) -> Result<Packet, Fault>
     })
 }
 
-fn read_add(position: Position, pieces: &mut Parts) -> Result<Packet, Fault>
+fn read_add(position: Position, pieces: &mut Parts<b':'>) -> Result<Packet, Fault>
     ensures { Reads (λ p. p) result (add_at position pieces.old.parts) }
 {
     let route = read_route_pieces(position, pieces)?;
@@ -211,7 +212,7 @@ fn read_add(position: Position, pieces: &mut Parts) -> Result<Packet, Fault>
 }
 
 #[tactic(auto, unfolding(crate::specs::Job::stall_at))]
-fn read_stall(position: Position, pieces: &mut Parts) -> Result<Packet, Fault>
+fn read_stall(position: Position, pieces: &mut Parts<b':'>) -> Result<Packet, Fault>
     ensures { Reads (λ p. p) result (stall_at position pieces.old.parts) }
 {
     let field = one(pieces).ok_or(position.fault(TextFault::Word))?;
@@ -226,7 +227,7 @@ fn read_packet(position: Position, word: &[u8]) -> Result<Packet, Fault>
     requires { length word.now ≤ 1048576 }
     ensures { Reads (λ p. p) result (packet_at position word.now) }
 {
-    let mut pieces = Parts::new(word, b':');
+    let mut pieces = Parts::new(word);
     let name = pieces.next().ok_or(position.fault(TextFault::Word))?;
     if is_word(name, b"fill") {
         return read_fill_pieces(position, &mut pieces);
@@ -296,8 +297,8 @@ fn most_packets(left: usize) -> usize
     (1 + left.div_ceil(PACKET_BYTES)).min(MAX_PACKETS)
 }
 
-/// Adds a packet, behind which `left` bytes of the line are left. The first one takes room for those that these may spell
-/// too, so that a list mostly takes memory once.
+/// Adds a packet, behind which `left` bytes of the line are left. Where there are some, the first one takes room for the packets
+/// that these may spell too, so that a list mostly takes memory once.
 fn add_packet(
     alloc: Global,
     packets: &mut ShortList<Packet>,
@@ -306,7 +307,7 @@ fn add_packet(
 ) -> Result<(), AllocError>
     ensures { OnOk result (packets.new ≡ packets.old ++ packet ∷ []) }
 {
-    if packets.is_empty() {
+    if left > 0 && packets.is_empty() {
         let room = most_packets(left);
         *packets = ShortList::with_capacity(alloc, room)?;
     }
@@ -353,28 +354,52 @@ fn add_words(alloc: Global, draft: &mut Draft, words: &mut Words) -> Result<(), 
 }
 
 /// A draft that declares nothing, waits for nothing and runs nothing.
-fn bare_draft(alloc: Global, entity: u32, credits: u16) -> Draft
-    ensures { result ≡ record { entity = entity; credits = credits; declared = []; after = []; packets = [] } }
+#[inline]
+fn bare_draft(alloc: Global) -> Draft
+    ensures { result ≡ record { entity = 0; credits = 0; declared = []; after = []; packets = [] } }
 {
     Draft {
-        entity,
-        credits,
+        entity: 0,
+        credits: 0,
         declared: ShortList::new(alloc),
         after: ShortList::new(alloc),
         packets: ShortList::new(alloc),
     }
 }
 
-/// The job that the words left spell.
+/// Makes of a bare draft the job that the words left spell.
 #[tactic(auto, unfolding(crate::specs::Job::job_at))]
+fn fill_job(alloc: Global, draft: &mut Draft, words: &mut Words) -> Result<(), ReadError>
+    requires { draft.old ≡ record { entity = 0; credits = 0; declared = []; after = []; packets = [] } }
+    ensures { Gives (λ _. draft.new) result (job_at words.old) }
+{
+    draft.entity = words.number(u64::from(u32::MAX))? as u32;
+    draft.credits = words.number(65535)? as u16;
+    add_words(alloc, draft, words)
+}
+
+/// The job that the words left spell.
 pub fn read_job(alloc: Global, words: &mut Words) -> Result<Draft, ReadError>
     ensures { Gives (λ d. d) result (job_at words.old) }
 {
-    let entity = words.number(u64::from(u32::MAX))?;
-    let credits = words.number(65535)?;
-    let mut draft = bare_draft(alloc, entity as u32, credits as u16);
-    add_words(alloc, &mut draft, words)?;
+    let mut draft = bare_draft(alloc);
+    fill_job(alloc, &mut draft, words)?;
     Ok(draft)
+}
+
+/// Reads the job that the words left spell into its place behind these, for which there is room.
+#[inline]
+pub(crate) fn push_job(
+    alloc: Global,
+    jobs: &mut Vec<Draft>,
+    words: &mut Words,
+) -> Result<(), ReadError>
+    requires { vec_len jobs.old < vec_capacity jobs.old }
+    ensures { (job : DraftValue) × (jobs.new.items ≡ jobs.old.items ++ job ∷ []) × Gives (λ _. job) result (job_at words.old) }
+{
+    let place = jobs.len();
+    jobs.push_reserved(bare_draft(alloc));
+    fill_job(alloc, &mut jobs[place], words)
 }
 
 /// The draft as a job of the device.

@@ -35,7 +35,7 @@ pub enum Kept {
 
 // The next of these jobs.
 #[inline]
-fn next_job(jobs: &mut IntoIter<Draft>) -> Draft
+pub fn next_job(jobs: &mut IntoIter<Draft>) -> Draft
     requires { 0 < length (into_iter_items jobs.old) }
     ensures { into_iter_items jobs.old ≡ result ∷ into_iter_items jobs.new }
 {

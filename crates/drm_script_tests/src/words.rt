@@ -30,7 +30,7 @@ fn a_word_behind_the_last(rt: HostRuntime) {
 
 #[test]
 fn parts_may_be_empty(rt: HostRuntime) {
-    let mut parts = Parts::new(b"a::b", b':');
+    let mut parts: Parts<b':'> = Parts::new(b"a::b");
     assert!(rt; parts.next() == Some(b"a".as_slice()));
     assert_eq!(rt; parts.at(), 2);
     assert!(rt; parts.next() == Some(b"".as_slice()));

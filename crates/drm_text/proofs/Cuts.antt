@@ -81,3 +81,20 @@ none_in_front p n bytes room none =
     let joined : prefix_len q (front ++ back) ≡ length front + prefix_len q back = rw all at append in
     let whole : prefix_len q bytes ≡ length front + prefix_len q back = rw (take-append-drop n bytes) at joined in
     omega arith
+
+-- bytes before the first that is sought may be left out
+pub behind_front : (p : ℕ → Bool) (n : ℕ) (bytes : List ℕ) → n ≤ length bytes → n ≤ position_or_len p bytes
+    → n + position_or_len p (drop n bytes) ≡ position_or_len p bytes
+behind_front p n bytes room before =
+    let q = λ (b : ℕ). not (p b) in
+    let front = take n bytes in
+    let len : length front ≡ n = length-take-le n bytes room in
+    elim (cases_lt (prefix_len q front) n) [
+      | inl lt ↦
+          let some = ne_eqb (prefix_len q front) (length front) (λ same. omega arith) in
+          let append : prefix_len q (front ++ drop n bytes) ≡ cond (prefix_len q front == length front) (length front + prefix_len q (drop n bytes)) (prefix_len q front) = prefix_len-append q front (drop n bytes) in
+          let joined : prefix_len q (front ++ drop n bytes) ≡ prefix_len q front = rw some at append in
+          let whole : prefix_len q bytes ≡ prefix_len q front = rw (take-append-drop n bytes) at joined in
+          absurd (omega arith)
+      | inr le ↦ none_in_front p n bytes room le
+    ]

@@ -3,6 +3,7 @@
 ghost use Rattle.std.specs.Prelude.{◌≡◌, ◌+◌, ◌≤◌, [], ◌∷◌, length, nat_le, IfSome, IfNone};
 ghost use Rattle.std.specs.List.{list_all};
 ghost use Rattle.drm_text.specs.Reading.{Reads};
+ghost use Rattle.drm_text.specs.Cut.{cut_from};
 ghost use Rattle.drm_text.specs.Lines.{is_printable, is_of_lines, text_fault, start_at, last_line, lines_of, out_of_order};
 
 use crate::fault::{Fault, TextFault};
@@ -63,17 +64,35 @@ impl<'a> Line<'a> {
         check_text(self.number, self.bytes)
     }
 
-    /// The first word of the line, and its other words.
+    /// All words of the line.
+    #[inline(always)]
+    pub fn words(&self) -> Words<'a>
+        ensures { result ≡ record { line = self.now.number; rest = cut_from 32 self.now.bytes 0 } }
+    {
+        Words::new(self.number, self.bytes)
+    }
+
+    /// The first word of the line, cut off its words, which stay where the caller has them.
     #[inline(always)]
     #[tactic(auto, unfolding(crate::specs::Lines::start_at))]
-    pub fn start(&self) -> Result<(Keyword, Words<'a>), Fault>
-        ensures { Reads (λ start. start) result (start_at self.now.number self.now.bytes) }
+    pub fn read_start(&self, words: &mut Words<'a>) -> Result<Keyword, Fault>
+        requires { words.old ≡ record { line = self.now.number; rest = cut_from 32 self.now.bytes 0 } }
+        ensures { Reads (λ keyword. (keyword, words.new)) result (start_at self.now.number self.now.bytes) }
     {
         self.check()?;
-        let mut words = Words::new(self.number, self.bytes);
         let fault = words.fault(TextFault::Word);
         let first = words.word()?;
         let keyword = read_keyword(first).ok_or(fault)?;
+        Ok(keyword)
+    }
+
+    /// The first word of the line, and its other words.
+    #[inline(always)]
+    pub fn start(&self) -> Result<(Keyword, Words<'a>), Fault>
+        ensures { Reads (λ start. start) result (start_at self.now.number self.now.bytes) }
+    {
+        let mut words = self.words();
+        let keyword = self.read_start(&mut words)?;
         Ok((keyword, words))
     }
 }
@@ -83,7 +102,7 @@ impl<'a> Line<'a> {
 pub struct Lines<'a> {
     line: u32,
     bytes: &'a [u8],
-    rest: Parts<'a>,
+    rest: Parts<'a, b'\n'>,
     /// Whether it is known that each byte of each line is one that texts have.
     known_text: bool,
 }
@@ -108,7 +127,7 @@ impl<'a> Lines<'a> {
         ensures { result ≡ lines_of text.now }
     {
         let known_text = is_text_of_lines(text);
-        let mut rest = Parts::new(text, b'\n');
+        let mut rest = Parts::new(text);
         let bytes = match rest.next() {
             Some(first) => first,
             None => &[],

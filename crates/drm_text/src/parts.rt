@@ -21,6 +21,9 @@ const LANES: usize = 16;
 /// How many bytes are looked at at once where there are fewer than that.
 const FEW_LANES: usize = 8;
 
+/// How many bytes are looked at at once where there are still fewer.
+const LEAST_LANES: usize = 4;
+
 /// The lowest place of a byte that was found, or how many were looked at.
 #[inline(always)]
 fn first_found(found: u64, lanes: usize) -> usize
@@ -53,41 +56,100 @@ fn end_in_few_lanes(bytes: &[u8], separator: u8) -> usize
     first_found(found.to_bitmask(), FEW_LANES)
 }
 
-/// The place of the first such byte from a place on, or the length, sought byte by byte.
-#[inline]
-fn end_by_bytes(bytes: &[u8], from: usize, separator: u8) -> usize
-    requires { from ≤ length bytes.now }
-    ensures { result ≡ from + position_or_len (λ b. b == separator) (drop from bytes.now) }
+/// The place of the first such byte among the first four, or four.
+#[inline(always)]
+fn end_in_least_lanes(bytes: &[u8], separator: u8) -> usize
+    requires { 4 ≤ length bytes.now }
+    ensures { result ≡ position_or_len (λ b. b == separator) (take 4 bytes.now) }
 {
-    let mut end = from;
+    let found = u8x4::from_slice(bytes).simd_eq(u8x4::splat(separator));
+    first_found(found.to_bitmask(), LEAST_LANES)
+}
+
+/// The place of the first such byte, or the length, sought byte by byte.
+#[inline]
+fn end_by_bytes(bytes: &[u8], separator: u8) -> usize
+    ensures { result ≡ position_or_len (λ b. b == separator) bytes.now }
+{
+    let mut end = 0;
     while end < bytes.len() && bytes[end] != separator {
         end += 1;
     }
     end
 }
 
-/// The place of the first such byte, or the length, in fewer than sixteen bytes. Eight are looked at at once, where there
-/// are so many: the first word of a line ends among them.
+/// The place of the first such byte, or the length, in fewer than eight bytes. Where they are four or more, the first four are
+/// looked at at once, and then the last four.
+#[inline]
+fn end_of_least(bytes: &[u8], separator: u8) -> usize
+    requires { length bytes.now < 8 }
+    ensures { result ≡ position_or_len (λ b. b == separator) bytes.now }
+{
+    if bytes.len() < LEAST_LANES {
+        return end_by_bytes(bytes, separator);
+    }
+    let end = end_in_least_lanes(bytes, separator);
+    if end < LEAST_LANES {
+        return end;
+    }
+    let from = bytes.len() - LEAST_LANES;
+    let (_, last) = bytes.split_at(from);
+    from + end_in_least_lanes(last, separator)
+}
+
+/// The place of the first such byte, or the length, in fewer than sixteen bytes. Where they are eight or more, the first
+/// eight are looked at at once, and then the last eight.
 #[inline]
 fn end_of_few(bytes: &[u8], separator: u8) -> usize
+    requires { length bytes.now < 16 }
     ensures { result ≡ position_or_len (λ b. b == separator) bytes.now }
 {
     if bytes.len() < FEW_LANES {
-        return end_by_bytes(bytes, 0, separator);
+        return end_of_least(bytes, separator);
     }
     let end = end_in_few_lanes(bytes, separator);
     if end < FEW_LANES {
         return end;
     }
-    end_by_bytes(bytes, FEW_LANES, separator)
+    let from = bytes.len() - FEW_LANES;
+    let (_, last) = bytes.split_at(from);
+    from + end_in_few_lanes(last, separator)
 }
 
 /// The place of the first such byte, or the length, where it is not near.
-#[inline(never)]
+#[inline]
 fn end_of_many(bytes: &[u8], separator: u8) -> usize
     ensures { result ≡ position_or_len (λ b. b == separator) bytes.now }
 {
     memchr(separator, bytes).unwrap_or(bytes.len())
+}
+
+/// The place of the first such byte, or the length, in sixteen bytes or more. The first sixteen are looked at at once.
+#[inline(always)]
+fn end_near_or_far(bytes: &[u8], separator: u8) -> usize
+    requires { 16 ≤ length bytes.now }
+    ensures { result ≡ position_or_len (λ b. b == separator) bytes.now }
+{
+    let near = end_in_lanes(bytes, separator);
+    if near == LANES {
+        return end_of_many(bytes, separator);
+    }
+    near
+}
+
+/// The place of the first such byte, or the length, where the first sixteen bytes have none. The next sixteen are looked at
+/// at once, where there are so many.
+#[inline(never)]
+fn end_behind_lanes(bytes: &[u8], separator: u8) -> usize
+    requires many { 16 ≤ length bytes.now }
+    requires none { 16 ≤ position_or_len (λ b. b == separator) (take 16 bytes.now) }
+    ensures { result ≡ position_or_len (λ b. b == separator) bytes.now }
+{
+    if bytes.len() < 2 * LANES {
+        return end_of_many(bytes, separator);
+    }
+    let (_, behind) = bytes.split_at(LANES);
+    LANES + end_near_or_far(behind, separator)
 }
 
 /// The place of the first such byte, or the length. Words and most lines are short.
@@ -101,7 +163,7 @@ fn end_of(bytes: &[u8], separator: u8) -> usize
     if end < LANES {
         return end;
     }
-    end_of_many(bytes, separator)
+    end_behind_lanes(bytes, separator)
 }
 
 /// The number that a part spells whose digits have this value.
@@ -147,35 +209,30 @@ fn cut_digits(bytes: &[u8], separator: u8, most: u64) -> (usize, Option<u64>)
 
 /// What is left of a text that is cut at each separator.
 #[derive(Drop)]
-pub struct Parts<'a> {
+pub struct Parts<'a, const SEPARATOR: u8> {
     bytes: &'a [u8],
-    separator: u8,
     at: usize,
 }
 
-impl<'a> Model for Parts<'a> {
+impl<'a, const SEPARATOR: u8> Model for Parts<'a, SEPARATOR> {
     ghost use Rattle.std.specs.Prelude.{◌+◌, ◌≤◌, length};
     ghost use Rattle.drm_text.specs.Cut.{Cut, cut_from};
 
     ghost Value = { Cut };
 
-    ghost view = { λ p. cut_from p.separator p.bytes.now p.at };
+    ghost view = { λ p. cut_from SEPARATOR p.bytes.now p.at };
 
     ghost invariant = { λ p. (p.at ≤ length p.bytes.now + 1) × (length p.bytes.now ≤ 1048576) };
 }
 
-impl<'a> Parts<'a> {
+impl<'a, const SEPARATOR: u8> Parts<'a, SEPARATOR> {
     /// All parts of these bytes, which the separator separates. Bytes without a separator are one part.
     #[inline]
-    pub fn new(bytes: &'a [u8], separator: u8) -> Parts<'a>
+    pub fn new(bytes: &'a [u8]) -> Parts<'a, SEPARATOR>
         requires { length bytes.now ≤ 1048576 }
-        ensures { result ≡ cut_from separator bytes.now 0 }
+        ensures { result ≡ cut_from SEPARATOR bytes.now 0 }
     {
-        Parts {
-            bytes,
-            separator,
-            at: 0,
-        }
+        Parts { bytes, at: 0 }
     }
 
     /// How many bytes lie before the next part, separators too.
@@ -214,7 +271,7 @@ impl<'a> Parts<'a> {
             return None;
         }
         let (_, rest) = self.bytes.split_at(self.at);
-        let len = end_of(rest, self.separator);
+        let len = end_of(rest, SEPARATOR);
         let (part, _) = rest.split_at(len);
         self.at += len + 1;
         Some(part)
@@ -229,7 +286,7 @@ impl<'a> Parts<'a> {
         ensures small { IfSome result (λ n. n ≤ most) }
         ensures none { IfNone result (self.new ≡ self.old) }
     {
-        if !is_one_byte(self.bytes, self.at, self.separator) {
+        if !is_one_byte(self.bytes, self.at, SEPARATOR) {
             return None;
         }
         let digit = digit_value(self.bytes[self.at], most)?;
@@ -251,7 +308,7 @@ impl<'a> Parts<'a> {
             return None;
         }
         let (_, rest) = self.bytes.split_at(self.at);
-        let (end, number) = cut_digits(rest, self.separator, most);
+        let (end, number) = cut_digits(rest, SEPARATOR, most);
         let (part, _) = rest.split_at(end);
         self.at += end + 1;
         Some((part, number))
@@ -267,7 +324,7 @@ impl<'a> Parts<'a> {
         ensures small { IfSome result (λ read. IfSome read.1 (λ n. n ≤ most)) }
         ensures none { IfNone result ((self.old.parts ≡ []) × (self.new ≡ self.old)) }
     {
-        if !is_one_byte(self.bytes, self.at, self.separator) {
+        if !is_one_byte(self.bytes, self.at, SEPARATOR) {
             return self.next_by_digits(most);
         }
         let (_, rest) = self.bytes.split_at(self.at);

@@ -16,7 +16,7 @@ use std::marker::Model;
 #[derive(Drop)]
 pub struct Words<'a> {
     line: u32,
-    rest: Parts<'a>,
+    rest: Parts<'a, b' '>,
 }
 
 impl<'a> Model for Words<'a> {
@@ -36,7 +36,7 @@ impl<'a> Words<'a> {
     {
         Words {
             line,
-            rest: Parts::new(bytes, b' '),
+            rest: Parts::new(bytes),
         }
     }
 

@@ -5,12 +5,12 @@ use Rattle.drm_script.specs.Commands.{AllNamesExist}
 use Rattle.drm_engine.proofs.Pieces.{GoesOn, Told}
 use Rattle.drm_engine.proofs.replaying.tell_answers.Given as goal
 
-abbrev pub invariant-loop-event : goal.invariant-loop-event
-invariant-loop-event g l = record {
+abbrev pub invariant-loop-answer : goal.invariant-loop-answer
+invariant-loop-answer g l = record {
   names : AllNamesExist l.core.device.spec l.rest;
   so_far : (given : List Answer) × GoesOn l.fn.core l.fn.events given l.core l.rest
       × Told (g.W.Write.contents l.fn.writer) (g.W.Write.contents l.writer) l.told (text_of_answers given) l.piece;
 }
 
-abbrev pub decreases-loop-event : goal.decreases-loop-event
-decreases-loop-event g l = length l.rest
+abbrev pub decreases-loop-answer : goal.decreases-loop-answer
+decreases-loop-answer g l = length l.rest

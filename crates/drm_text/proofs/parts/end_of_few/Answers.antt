@@ -1,6 +1,15 @@
-use Rattle.std.proofs.Common.{◌==◌, ◌∙◌, arith}
-use Rattle.drm_text.proofs.Cuts.{none_in_front}
+use Rattle.std.proofs.Common.{◌≡◌, ℕ, ◌-◌, ◌+◌, ◌==◌, ◌∙◌, take, drop, length, ap, arith}
+use Rattle.std.specs.List.{position_or_len}
+use Rattle.std.proofs.lemmas.List.{take_all, length-drop}
+use Rattle.drm_text.proofs.Cuts.{behind_front, none_in_front}
 use Rattle.drm_text.proofs.parts.end_of_few.Goals as goal
 
 pub returns : goal.returns
-returns c = c.end_by_bytes-2.ensures ∙ none_in_front (λ b. b == c.args.separator) 8 c.args.bytes.now (omega arith) (omega arith)
+returns c =
+    let p = λ (b : ℕ). b == c.args.separator in
+    let bytes = c.args.bytes.now in
+    let from = length bytes - 8 in
+    let behind = none_in_front p 8 bytes (omega arith) (omega arith) in
+    let all : take 8 (drop from bytes) ≡ drop from bytes = take_all 8 (drop from bytes) (omega (arith, length-drop from bytes)) in
+    ap (λ n. from + n) (c.end_in_few_lanes.ensures ∙ ap (λ xs. position_or_len p (take 8 xs)) c.split_at.ensures.back ∙ ap (position_or_len p) all)
+    ∙ behind_front p from bytes (omega arith) (omega (arith, behind))

@@ -2,4 +2,4 @@ use Rattle.drm_text.proofs.PartsLeft.{left_of_cut}
 use Rattle.drm_text.proofs.parts.Parts.left.Goals as goal
 
 pub returns : goal.returns
-returns c = λ separator. rw (← c.self.view_is, c.saturating_sub.ensures) (left_of_cut c.self.inside.separator separator c.self.inside.bytes.now c.self.inside.at)
+returns g c = λ separator. rw (← c.self.view_is, c.saturating_sub.ensures) (left_of_cut g.row.SEPARATOR separator c.self.inside.bytes.now c.self.inside.at)
