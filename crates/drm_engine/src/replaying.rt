@@ -21,7 +21,7 @@ const PIECE: usize = 32_768;
 /// The room of a piece. The longest line tells 4,096 bytes, so a piece never needs more.
 const ROOM: usize = PIECE + 8_320;
 
-/// Writes a piece, and leaves it empty.
+/// Writes a piece, and leaves it empty. The room of its result is not made for each answer.
 #[inline(never)]
 fn write_piece<W: Write>(writer: &mut W, piece: &mut Piece) -> io::Result<()>
     ensures ok { OnOk result (Appends (W.contents writer.old) (W.contents writer.new) piece.old × (piece.new ≡ [])) }

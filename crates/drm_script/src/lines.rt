@@ -18,16 +18,18 @@ pub(crate) const NUMBER_ROOM: usize = 21;
 /// Room for the line of each answer that tells no bytes.
 pub(crate) const LINE_ROOM: usize = 80;
 
-/// Puts a word at this place, and answers the place behind it.
+/// Puts a word at this place, and answers the place behind it. Most words are constants, whose bytes are so a few stores. (To copy
+/// them as a slice asks first whether the constant lies within the room.)
 #[inline(always)]
 fn place_word(room: &mut [u8], at: usize, word: &[u8]) -> usize
     requires { at + length word.now ≤ length room.old }
     ensures text { take result room.new ≡ take at room.old ++ word.now }
     ensures end { result ≡ at + length word.now }
 {
-    let end = at + word.len();
-    room[at..end].copy_from_slice(word);
-    end
+    'bytes: for place in 0..word.len() {
+        room[at + place] = word[place];
+    }
+    at + word.len()
 }
 
 /// A separator, and a number of one digit.

@@ -1,6 +1,6 @@
-use Rattle.std.proofs.Common.{rules}
-use Rattle.std.proofs.lemmas.Slice.{overwrites}
+use Rattle.std.proofs.Common.{arith}
+use Rattle.drm_script.proofs.Placed.{byte_placed}
 use Rattle.drm_script.proofs.lines.place_word.Goals as goal
 
-pub returns-clause-text : goal.returns-clause-text
-returns-clause-text c = search (rules, overwrites)
+pub bytes-preserved : goal.bytes-preserved
+bytes-preserved c = byte_placed c.args.room.now c.bytes.room c.args.word.now c.args.at c.bytes.place (omega arith) (omega arith) c.bytes.invariant
