@@ -36,3 +36,16 @@ fn starts_of_lines(rt: HostRuntime) {
     let tab = fault_at(4, 5, TextFault::NotText);
     assert!(rt; matches!(Line::new(4, b"pick\t0").start(), Err(fault) if fault == tab));
 }
+
+#[test]
+fn first_words_are_cut_off_their_lines(rt: HostRuntime) {
+    let line = Line::new(4, b"step 7");
+    let mut words = line.words();
+    assert!(rt;
+        matches!(
+            line.read_start(&mut words),
+            Ok(Keyword::Command(Command::Step))
+        )
+    );
+    assert_eq!(rt; words.last_number(7), Ok(7));
+}
