@@ -1,9 +1,9 @@
 -- The counts of the pairs, where one is taken out or put in.
 use Rattle.std.proofs.Common.{◌≡◌, ◌≢◌, ℕ, zero, suc, ◌+◌, ◌-◌, ◌*◌, ◌<◌, ◌≤◌, Bool, true, false, ◌&&◌, ◌==◌, cond, List, [], ◌∷◌, set, length, length-set, get_or, replicate, Option, Some, None, refl, sym, ap, subst, ◌∙◌, inl, inr, arith, slice_get, eq-eqb}
-use Rattle.std.specs.Prelude.{IsFalse, is_some}
+use Rattle.std.specs.Prelude.{IsFalse, is_some, nat_lt}
 use Rattle.std.specs.List.{AllByRecursion}
-use Rattle.std.proofs.lemmas.Bool.{cases_eq, eqb-true, and_parts}
-use Rattle.std.proofs.lemmas.List.{get_or-set_same, get_or-set_other, length-replicate}
+use Rattle.std.proofs.lemmas.Bool.{cases_eq, eqb-true, ltb-true, ltb-false, and_parts}
+use Rattle.std.proofs.lemmas.List.{get_or-set_same, get_or-set_other, get_or_past, length-replicate}
 use Rattle.std.proofs.lemmas.List.Elements.{recursion_from_All, All-from_recursion}
 use Rattle.std.proofs.lemmas.Option.{slice_get-get_or, get_or_from_slice_get}
 use Rattle.drm_fence.specs.declared.pair.Pair.{Pair}
@@ -143,6 +143,16 @@ count_fits cells unmet e x is lt x_is =
 pub nothing_past : (cells : List (Option Pair)) (unmet : List ℕ) (e : ℕ) → IsCounted cells unmet → length unmet ≤ e → unmet_in (pairs_in cells) e ≡ 0
 nothing_past cells unmet e is past =
     unmet_none cells e (λ k p at. let placed = is.placed k p at in differs p.entity e (λ same. absurd (omega (arith, past, placed.2, same))))
+
+pub count_at : (cells : List (Option Pair)) (unmet seen : List ℕ) (e : ℕ) → IsCounted cells unmet → seen ≡ unmet → get_or seen e 0 ≡ unmet_in (pairs_in cells) e
+count_at cells unmet seen e is same =
+    ap (λ l. get_or l e 0) same
+    ∙ elim (nat_lt e (length unmet)) as (λ t. nat_lt e (length unmet) ≡ t → get_or unmet e 0 ≡ unmet_in (pairs_in cells) e) [
+      | true ↦ λ lt. is.counted e (ltb-true e (length unmet) lt)
+      | false ↦ λ not_lt.
+          let past : length unmet ≤ e = ltb-false e (length unmet) not_lt in
+          get_or_past unmet e 0 past ∙ sym (nothing_past cells unmet e is past)
+    ] refl
 
 -- nobody waits
 pub none_there : (n k : ℕ) (p : Pair) → slice_get (replicate n None) k ≡ Some (Some p) → ⊥

@@ -1,4 +1,4 @@
-ghost use Rattle.std.specs.Prelude.{◌≡◌, ◌<◌, ◌≤◌, [], ◌∷◌, IfOk, length, IsFalse, ◌↔◌};
+ghost use Rattle.std.specs.Prelude.{◌≡◌, ℕ, ◌<◌, ◌≤◌, [], ◌∷◌, IfOk, length, IsFalse, ◌↔◌, get_or};
 ghost use Rattle.std.specs.List.Sorted.{IsPermutation};
 ghost use Rattle.drm_fence.specs.Waiting.{unmet_in, HasNoPair, without_early, without_fence, without_entity};
 
@@ -84,14 +84,19 @@ impl Waiters {
         self.table.cells[entity as usize * 64 + of as usize].is_some()
     }
 
+    /// How many fences each entity waits for, by its place in the device. For who looks at many entities.
+    pub fn counts(&self) -> &[u32]
+        ensures entities { length result.now ≡ self.now.entities }
+        ensures counts { (entity : ℕ) → get_or result.now entity 0 ≡ unmet_in self.now.pairs entity }
+    {
+        &self.table.unmet
+    }
+
     /// How many fences the entity waits for: none, where it is not there. One look-up.
     pub fn unmet(&self, entity: EntityId) -> u32
         ensures { result ≡ unmet_in self.now.pairs entity }
     {
-        match self.table.unmet.get(entity as usize) {
-            Some(count) => *count,
-            None => 0,
-        }
+        self.counts().get(entity as usize).copied().unwrap_or(0)
     }
 
     /// The fence was scheduled: its early pairs are met.

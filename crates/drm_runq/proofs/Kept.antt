@@ -48,6 +48,12 @@ lighter_before p q is a_fits e_fits =
           (inr (eqb-true (rank_of p.key.priority) (rank_of q.key.priority) parts.0, ltb-true p.key.age q.key.age parts.1))
     ]
 
+-- each place of the order has its key
+pub place_has_key : (keys now : List (Option Key)) (order seen : List Place) (i : ℕ) (p : Place) → keys ≡ now → seen ≡ order → IsOrderOf keys order
+    → slice_get seen i ≡ Some p → HasKey now p.entity p.key
+place_has_key keys now order seen i p view seen_is is at =
+    subst (λ (l : List (Option Key)). HasKey l p.entity p.key) view (is.sound i p (subst (λ (l : List Place). slice_get l i ≡ Some p) seen_is at))
+
 -- the first in the order that was answered true is the first that is ready
 pub first_found : (keys now : List (Option Key)) (order seen : List Place) (Answers : ℕ → Bool → Type 0) (place : ℕ) (p : Place) → keys ≡ now → seen ≡ order
     → IsOrderOf keys order → slice_get seen place ≡ Some p → Answers p.entity true

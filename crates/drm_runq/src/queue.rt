@@ -84,9 +84,9 @@ impl RunQueue {
     }
 
     /// The first entity that is ready (`drm_sched_rq_select_entity`): of the least key for which `ready` answers true.
-    /// `ready` is asked from the front on, and no further than the answer.
+    /// `ready` is asked from the front on, of no entity without a key, and no further than the answer.
     pub fn first<F: Fn(EntityId) -> bool>(&self, ready: F) -> Option<EntityId>
-        requires { F.IsAlwaysCallable ready }
+        requires { (entity : ℕ) (key : Key) → HasKey self.now entity key → F.pre ready entity }
         ensures found { IfSome result (IsFirstReady (F.post ready) self.now) }
         ensures none { IfNone result (NoneReady (F.post ready) self.now) }
     {

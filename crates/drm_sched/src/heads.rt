@@ -85,12 +85,13 @@ impl Heads {
 
     // The first entity of the ring's run queue whose head waits for nothing.
     fn first(&self, ring: RingId) -> Option<EntityId>
-        requires { ring < length self.now.queues.items }
+        requires ring { ring < length self.now.queues.items }
+        requires entities { length (keys_at self.now.queues.items ring) ≤ self.now.waiters.entities }
         ensures found { IfSome result (IsFirstReady (λ e ready. ready ≡ (unmet_in self.now.waiters.pairs e == 0)) (keys_at self.now.queues.items ring)) }
         ensures none { IfNone result (NoneReady (λ e ready. ready ≡ (unmet_in self.now.waiters.pairs e == 0)) (keys_at self.now.queues.items ring)) }
     {
-        let waiters = &self.waiters;
-        self.queues[ring as usize].first(|entity| waiters.unmet(entity) == 0)
+        let unmet = self.waiters.counts();
+        self.queues[ring as usize].first(|entity| unmet[entity as usize] == 0)
     }
 
     /// The job that the ring takes next (`drm_sched_select_entity`). It looks at no dependency.

@@ -1,7 +1,7 @@
 -- A pick of a choice that fits is the pick of its definition, and keeps the tables whole.
-use Rattle.std.proofs.Common.{◌≡◌, ℕ, zero, suc, ◌+◌, ◌<◌, ◌≤◌, Bool, true, false, not, ◌||◌, List, [], ◌∷◌, length, get_or, cond, map, set, min, Some, None, Option, refl, sym, ap, subst, ◌∙◌, inl, inr, ◌⊎◌, arith, slice_get, ◌++◌}
+use Rattle.std.proofs.Common.{◌≡◌, ℕ, zero, suc, ◌+◌, ◌<◌, ◌≤◌, Bool, true, false, not, ◌||◌, List, [], ◌∷◌, length, get_or, map, set, min, Some, None, Option, refl, sym, ap, subst, ◌∙◌, inl, inr, ◌⊎◌, arith, slice_get, ◌++◌}
 use Rattle.std.specs.declared.alloc.Global.{Global}
-use Rattle.std.specs.Prelude.{vec_capacity, Vec, sum_by, position, nat_lt, nat_le, option_map, ◌||◌, ◌==◌, IfSome, IfNone}
+use Rattle.std.specs.Prelude.{vec_capacity, Vec, sum_by, nat_lt, nat_le, ◌||◌, ◌==◌, IfSome, IfNone}
 use Rattle.std.specs.Option.{option_map_or}
 use Rattle.std.specs.Vec.{with_item}
 use Rattle.std.proofs.lemmas.Option.{slice_get_within, slice_get-get_or}

@@ -86,6 +86,11 @@ fn four_pairs(rt: &impl Abort, waiters: &mut Waiters) {
         ),
         (2, 1, 1, 0)
     );
+    let counts = waiters.counts();
+    assert_eq!(rt;
+        (counts.len(), counts.get(2).copied(), counts.get(3).copied()),
+        (64, Some(2), Some(0))
+    );
 }
 
 fn four_pairs_are_met(rt: &impl Abort, waiters: &mut Waiters) {
