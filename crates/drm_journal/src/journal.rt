@@ -5,15 +5,15 @@ ghost use Rattle.std.specs.List.{list_all};
 ghost use Rattle.drm_types.specs.Limits.{spec_fault};
 ghost use Rattle.drm_text.specs.Reading.{Reads, Gives};
 ghost use Rattle.drm_script.specs.Job.{is_job};
-ghost use Rattle.drm_journal.specs.Journal.{IsJournal, IsRead, status_of, may_have_run, size_of, has_place as has_place_in, is_record, record_or, record_at, final_at, with_job, with_final, with_end, with_body, journal_line, body_of, nothing_read, judge_journal};
+ghost use Rattle.drm_journal.specs.Journal.{IsJournal, IsRead, status_of, may_have_run, size_of, is_record, record_or, record_at, final_at, with_job, with_final, with_end, with_body, journal_line, body_of, nothing_read, judge_journal};
 ghost use Rattle.drm_script.specs.Grammar.{IsReadAsSpelled};
 ghost use Rattle.drm_journal.specs.JournalGrammar.{SpellsJournal};
 
-use drm_job::{Draft, Job};
-use drm_script::{make_job, read_header, read_job};
+use drm_job::{Draft, Job, first_fault};
+use drm_script::{read_header, read_job};
 use drm_text::{
-    Command, Fault, Keyword, Line, Lines, MAX_TEXT, ReadError, TextFault, Words, order_fault,
-    read_bytes_word,
+    Command, Fault, Keyword, Line, Lines, MAX_TEXT, ReadError, TextFault, Words, is_word,
+    order_fault, read_bytes_word,
 };
 use drm_types::{DeviceSpec, FenceId, Outcome, Sequence};
 use std::alloc::Global;
@@ -96,16 +96,16 @@ pub struct Reading {
 fn read_status(word: &[u8]) -> Option<Option<Outcome>>
     ensures { result ≡ status_of word.now }
 {
-    if word == b"0".as_slice() {
+    if is_word(word, b"0") {
         return Some(None);
     }
-    if word == b"1".as_slice() {
+    if is_word(word, b"1") {
         return Some(Some(Outcome::Good));
     }
-    if word == b"-125".as_slice() {
+    if is_word(word, b"-125") {
         return Some(Some(Outcome::Cancelled));
     }
-    if word == b"-3".as_slice() {
+    if is_word(word, b"-3") {
         return Some(Some(Outcome::Stopped));
     }
     None
@@ -129,19 +129,26 @@ fn are_earlier(fences: &[FenceId], number: usize) -> bool
     fences.iter().all(|fence| (*fence as usize) < number)
 }
 
-impl JournalJob {
-    /// Whether the job can have this number, waits only for earlier jobs, and can have run its packets.
-    fn has_place(&self, max_jobs: u32, number: usize) -> bool
-        ensures { result ≡ has_place_in max_jobs number self.now }
-    {
-        number < max_jobs as usize
-            && are_earlier(self.job.after(), number)
-            && may_run(self.outcome, self.job.packets().len(), self.ran)
-    }
+/// Whether the device can have armed the job of this draft under this number: it has no fault, waits only for earlier jobs, and
+/// can have run its packets. It is judged where it stands, and copied once it is known to be a job.
+#[tactic(auto, unfolding(drm_script::specs::Job::is_job))]
+fn can_be_armed(
+    spec: &DeviceSpec,
+    number: usize,
+    draft: &Draft,
+    ran: u32,
+    outcome: Option<Outcome>,
+) -> bool
+    ensures { result ≡ is_record spec.now number (record { job = draft.now; ran = ran; outcome = outcome }) }
+{
+    first_fault(draft, spec).is_none()
+        && number < spec.max_jobs as usize
+        && are_earlier(draft.after.as_slice(), number)
+        && may_run(outcome, draft.packets.len(), ran)
 }
 
 /// The job with what was told of it, or the fault where the device can't have armed it.
-#[tactic(auto, unfolding(crate::specs::Journal::record_or))]
+#[tactic(auto, unfolding(crate::specs::Journal::record_or, drm_script::specs::Job::is_job))]
 fn check_record(
     spec: &DeviceSpec,
     number: usize,
@@ -153,13 +160,11 @@ fn check_record(
     ensures value { Reads (λ job. job) result (record_or spec.now number (record { job = draft; ran = ran; outcome = outcome }) fault) }
     ensures lawful { IfOk result (λ job. IsTrue (is_record spec.now number job)) }
 {
-    let job = make_job(draft, spec).ok_or(fault)?;
-    let armed = JournalJob { job, ran, outcome };
-    if armed.has_place(spec.max_jobs, number) {
-        Ok(armed)
-    } else {
-        Err(fault)
+    if !can_be_armed(spec, number, &draft, ran, outcome) {
+        return Err(fault);
     }
+    let job = Job::of_sound(draft);
+    Ok(JournalJob { job, ran, outcome })
 }
 
 /// The job of a line, under this number.

@@ -379,6 +379,7 @@ fn fill_job(alloc: Global, draft: &mut Draft, words: &mut Words) -> Result<(), R
 }
 
 /// The job that the words left spell.
+#[inline(always)]
 pub fn read_job(alloc: Global, words: &mut Words) -> Result<Draft, ReadError>
     ensures { Gives (λ d. d) result (job_at words.old) }
 {
