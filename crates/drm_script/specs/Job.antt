@@ -21,6 +21,12 @@ use Rattle.drm_types.specs.Firsts.{is_nil}
 use Rattle.drm_text.specs.Words.{number_at}
 use Rattle.drm_text.specs.Number.{number_up_to}
 
+-- what a word without a colon is that keeps its buffer from others, by its first byte
+abbrev pub held_by_first : List ℕ → Option Kind
+held_by_first [] = None
+held_by_first (byte ∷ rest) =
+    if byte == 104 then Some (kind.Declared access.Hold) else if byte == 109 then Some (kind.Declared access.Move) else None
+
 -- what a word without a colon is, by its first byte
 abbrev pub kind_by_first : List ℕ → Option Kind
 kind_by_first [] = None

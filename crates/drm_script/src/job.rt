@@ -5,7 +5,7 @@ ghost use Rattle.std.specs.List.{list_any};
 ghost use Rattle.std.specs.Option.{option_map};
 ghost use Rattle.drm_job.specs.declared.Draft.{Draft as DraftValue};
 ghost use Rattle.drm_text.specs.Reading.{Reads, Gives};
-ghost use Rattle.drm_script.specs.Job.{kind_read, one_of, number_first, byte_alone, number_alone, fill_from, fill_in_turn, route_from, route_in_turn, fill_at, route_at, copy_at, add_at, stall_at, packet_at, is_late, tail_at, with_item, with_word, with_words, job_at, is_job};
+ghost use Rattle.drm_script.specs.Job.{held_by_first, kind_by_first, kind_read, one_of, number_first, byte_alone, number_alone, fill_from, fill_in_turn, route_from, route_in_turn, fill_at, route_at, copy_at, add_at, stall_at, packet_at, is_late, tail_at, with_item, with_word, with_words, job_at, is_job};
 
 use drm_job::{Draft, Job, ShortList, check};
 use drm_packet::Packet;
@@ -35,17 +35,37 @@ fn has_colon(word: &[u8]) -> bool
     word.iter().any(|b| *b == b':')
 }
 
+/// What a word without a colon is that keeps its buffer from others, by its first byte. It stands apart, since more than four ways
+/// at once become a jump through a table.
+#[inline(never)]
+fn held_kind(word: &[u8]) -> Option<Kind>
+    ensures { result ≡ held_by_first word.now }
+{
+    match word {
+        [b'h', ..] => Some(Kind::Declared(Access::Hold)),
+        [b'm', ..] => Some(Kind::Declared(Access::Move)),
+        _ => None,
+    }
+}
+
+/// What a word without a colon is, by its first byte.
+fn first_kind(word: &[u8]) -> Option<Kind>
+    ensures { result ≡ kind_by_first word.now }
+{
+    match word {
+        [b'r', ..] => Some(Kind::Declared(Access::Read)),
+        [b'w', ..] => Some(Kind::Declared(Access::Write)),
+        [b'a', ..] => Some(Kind::After),
+        _ => held_kind(word),
+    }
+}
+
 /// What a word is read as: where it begins as no declaration and no fence, a packet, whose name then tells whether it is one.
 fn read_kind(word: &[u8]) -> Kind
     ensures { result ≡ kind_read word.now }
 {
-    let kind = match word {
-        [b'r', ..] => Kind::Declared(Access::Read),
-        [b'w', ..] => Kind::Declared(Access::Write),
-        [b'h', ..] => Kind::Declared(Access::Hold),
-        [b'm', ..] => Kind::Declared(Access::Move),
-        [b'a', ..] => Kind::After,
-        _ => return Kind::Packet,
+    let Some(kind) = first_kind(word) else {
+        return Kind::Packet;
     };
     if has_colon(word) {
         return Kind::Packet;

@@ -67,9 +67,15 @@ fn left_with(alloc: Global, spec: &DeviceSpec, first: &Job) -> Result<Sequence<S
     Ok(left_by(alloc, spec, first, &second)?)
 }
 
-// Two buffers of a byte, and jobs that add one to the other: the first has three packets.
+// A device of two buffers of a byte. What its parts are is asked of no call below.
+fn two_bytes(alloc: Global) -> Result<DeviceSpec, AllocError> {
+    let buffers = buffers_of(alloc, &[&[0], &[1]])?;
+    device(alloc, buffers, (1, 4), 1, 8)
+}
+
+// Jobs that add one of the two buffers to the other: the first has three packets.
 fn two_jobs_run(alloc: Global) -> Result<Sequence<Sequence<u8>>, Fail> {
-    let spec = device(alloc, buffers_of(alloc, &[&[0], &[1]])?, (1, 4), 1, 8)?;
+    let spec = two_bytes(alloc)?;
     let first = adding_job(alloc, &spec, 1, 0, 3)?;
     left_with(alloc, &spec, &first)
 }

@@ -1,4 +1,4 @@
--- The one word that a second and a last byte leave.
+-- The one word that a length, a second and a last byte leave.
 use Rattle.std.proofs.Common.{◌≡◌, ℕ, ◌-◌, ◌<◌, ◌≤◌, Bool, true, false, cond, List, length, slice_index, Some, None, Option, refl, sym, ap, ◌∙◌, arith}
 use Rattle.std.specs.Str.{bytes_eq}
 use Rattle.std.proofs.lemmas.Slice.Eq.{bytes_eq-Decides}
@@ -10,7 +10,7 @@ use Rattle.drm_text.proofs.KeywordsWritten.{keyword_takes, keyword_written}
 
 -- the guess for a word
 abbrev guess_for : List ℕ → Keyword
-guess_for word = guess_of (slice_index word 1) (slice_index word (length word - 1))
+guess_for word = guess_of (length word) (slice_index word 1) (slice_index word (length word - 1))
 
 guess_again : (keyword : Keyword) → guess_for (keyword_text keyword) ≡ keyword
 guess_again line.Buffer = refl
@@ -90,7 +90,7 @@ none_wrong word (Some keyword) other is =
     let never : false ≡ true = sym other ∙ same in
     absurd (cc (never))
 
-guess_wrong : (word : List ℕ) (guess : Keyword) → guess ≡ guess_of (slice_index word 1) (slice_index word (length word - 1)) → bytes_eq word (keyword_text guess) ≡ false
+guess_wrong : (word : List ℕ) (guess : Keyword) → guess ≡ guess_of (length word) (slice_index word 1) (slice_index word (length word - 1)) → bytes_eq word (keyword_text guess) ≡ false
     → None ≡ keyword_of word
 guess_wrong word guess is other = none_wrong word (keyword_of word) (rw is at other) refl
 
@@ -99,5 +99,5 @@ guess_cases word true is = guess_right word (guess_for word) is
 guess_cases word false is = guess_wrong word (guess_for word) refl is
 
 -- a word is the guess for it, or no keyword
-pub guess_is : (word : List ℕ) → spelled_as word (guess_of (slice_index word 1) (slice_index word (length word - 1))) ≡ keyword_of word
+pub guess_is : (word : List ℕ) → spelled_as word (guess_of (length word) (slice_index word 1) (slice_index word (length word - 1))) ≡ keyword_of word
 guess_is word = guess_cases word (bytes_eq word (keyword_text (guess_for word))) refl

@@ -1,8 +1,8 @@
 //! The first words of lines.
 
-ghost use Rattle.std.specs.Prelude.{◌≡◌, None, Some, if◌then◌else◌};
+ghost use Rattle.std.specs.Prelude.{◌≡◌, None, Some, if◌then◌else◌, length};
 ghost use Rattle.std.specs.Str.{bytes_eq};
-ghost use Rattle.drm_text.specs.Keywords.{guess_of, spelled_as, keyword_of};
+ghost use Rattle.drm_text.specs.Keywords.{guess_of_four, guess_of_five, guess_of_six, guess_of_other, guess_of, spelled_as, keyword_of};
 
 /// The first word of a line of a text. Each but `Command` is spelled as its name, in lower case.
 #[derive(Clone, Copy)]
@@ -69,50 +69,94 @@ fn if_spelled(word: &[u8], text: &[u8], keyword: Keyword) -> Option<Keyword>
     }
 }
 
-/// The line that begins with this word, which has these for its second and its last byte: no two first words have both
-/// in common.
+/// The line that begins with this word of four bytes, which has these for its second and its last byte.
 #[inline(always)]
-fn read_guessed(word: &[u8], second: u8, last: u8) -> Option<Keyword>
-    ensures { result ≡ spelled_as word.now (guess_of second last) }
+fn read_four(word: &[u8], second: u8, last: u8) -> Option<Keyword>
+    ensures { result ≡ spelled_as word.now (guess_of_four second last) }
+{
+    if last == b'p' {
+        return match second {
+            b't' => if_spelled(word, b"step", Keyword::Command(Command::Step)),
+            b'e' => if_spelled(word, b"reap", Keyword::Command(Command::Reap)),
+            b'r' => if_spelled(word, b"drop", Keyword::Command(Command::Drop)),
+            _ => if_spelled(word, b"dump", Keyword::Command(Command::Dump)),
+        };
+    }
+    match second {
+        b'i' => match last {
+            b'k' => if_spelled(word, b"pick", Keyword::Command(Command::Pick)),
+            _ => if_spelled(word, b"ring", Keyword::Ring),
+        },
+        b'e' => match last {
+            b'd' => if_spelled(word, b"read", Keyword::Command(Command::Read)),
+            _ => if_spelled(word, b"zero", Keyword::Zero),
+        },
+        b'o' => match last {
+            b'e' => if_spelled(word, b"done", Keyword::Command(Command::Done)),
+            _ => if_spelled(word, b"jobs", Keyword::Jobs),
+        },
+        _ => if_spelled(word, b"plan", Keyword::Command(Command::Plan)),
+    }
+}
+
+/// The line that begins with this word of five bytes, of which this is the last.
+#[inline(always)]
+fn read_five(word: &[u8], last: u8) -> Option<Keyword>
+    ensures { result ≡ spelled_as word.now (guess_of_five last) }
+{
+    match last {
+        b'e' => if_spelled(word, b"fence", Keyword::Command(Command::Fence)),
+        b'n' => if_spelled(word, b"begin", Keyword::Command(Command::Begin)),
+        _ => if_spelled(word, b"final", Keyword::Final),
+    }
+}
+
+/// The line that begins with this word of six bytes, which has these for its second and its last byte.
+#[inline(always)]
+fn read_six(word: &[u8], second: u8, last: u8) -> Option<Keyword>
+    ensures { result ≡ spelled_as word.now (guess_of_six second last) }
 {
     match second {
         b'u' => match last {
-            b'r' => if_spelled(word, b"buffer", Keyword::Buffer),
             b't' => if_spelled(word, b"submit", Keyword::Command(Command::Submit)),
-            _ => if_spelled(word, b"dump", Keyword::Command(Command::Dump)),
+            _ => if_spelled(word, b"buffer", Keyword::Buffer),
         },
-        b'e' => match last {
-            b'o' => if_spelled(word, b"zero", Keyword::Zero),
-            b'n' => if_spelled(word, b"begin", Keyword::Command(Command::Begin)),
-            b'p' => if_spelled(word, b"reap", Keyword::Command(Command::Reap)),
-            b'd' => if_spelled(word, b"read", Keyword::Command(Command::Read)),
-            _ => if_spelled(word, b"fence", Keyword::Command(Command::Fence)),
-        },
-        b'i' => match last {
-            b'g' => if_spelled(word, b"ring", Keyword::Ring),
-            b'l' => if_spelled(word, b"final", Keyword::Final),
-            b'k' => if_spelled(word, b"pick", Keyword::Command(Command::Pick)),
-            b'h' => if_spelled(word, b"finish", Keyword::Command(Command::Finish)),
-            _ => if_spelled(word, b"timeout", Keyword::Command(Command::Timeout)),
-        },
-        b'n' => match last {
-            b'y' => if_spelled(word, b"entity", Keyword::Entity),
-            _ => if_spelled(word, b"end", Keyword::Command(Command::End)),
-        },
-        b'o' => match last {
-            b's' => if_spelled(word, b"jobs", Keyword::Jobs),
-            b'o' => if_spelled(word, b"go", Keyword::Go),
-            b'b' => if_spelled(word, b"job", Keyword::Job),
-            _ => if_spelled(word, b"done", Keyword::Command(Command::Done)),
-        },
+        b'i' => if_spelled(word, b"finish", Keyword::Command(Command::Finish)),
+        b'n' => if_spelled(word, b"entity", Keyword::Entity),
+        _ => if_spelled(word, b"cancel", Keyword::Command(Command::Cancel)),
+    }
+}
+
+/// The line that begins with this word of any other length, which has these for its second and its last byte.
+#[inline(always)]
+fn read_other(word: &[u8], second: u8, last: u8) -> Option<Keyword>
+    ensures { result ≡ spelled_as word.now (guess_of_other second last) }
+{
+    match second {
         b'r' => match last {
             b'y' => if_spelled(word, b"try", Keyword::Command(Command::Try)),
-            b'p' => if_spelled(word, b"drop", Keyword::Command(Command::Drop)),
             _ => if_spelled(word, b"arm", Keyword::Command(Command::Arm)),
         },
-        b'l' => if_spelled(word, b"plan", Keyword::Command(Command::Plan)),
-        b't' => if_spelled(word, b"step", Keyword::Command(Command::Step)),
-        _ => if_spelled(word, b"cancel", Keyword::Command(Command::Cancel)),
+        b'n' => if_spelled(word, b"end", Keyword::Command(Command::End)),
+        b'o' => match last {
+            b'b' => if_spelled(word, b"job", Keyword::Job),
+            _ => if_spelled(word, b"go", Keyword::Go),
+        },
+        _ => if_spelled(word, b"timeout", Keyword::Command(Command::Timeout)),
+    }
+}
+
+/// The line that begins with this word, which has these for its second and its last byte: no two first words of one length
+/// have both in common. No step tells more than four ways apart, so that none becomes a jump through a table.
+#[inline(always)]
+fn read_guessed(word: &[u8], second: u8, last: u8) -> Option<Keyword>
+    ensures { result ≡ spelled_as word.now (guess_of (length word.now) second last) }
+{
+    match word.len() {
+        4 => read_four(word, second, last),
+        5 => read_five(word, last),
+        6 => read_six(word, second, last),
+        _ => read_other(word, second, last),
     }
 }
 
