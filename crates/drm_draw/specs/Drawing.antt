@@ -16,7 +16,7 @@ use Rattle.drm_picture.specs.Pictures.{IsPicture, part_of}
 use Rattle.drm_svg.specs.Svg.{IsSvg}
 use Rattle.drm_script.specs.declared.script.Script.{Script}
 use Rattle.drm_script.specs.Script.{judge_script}
-use Rattle.drm_script.specs.Transfer.{AppendsFront}
+use Rattle.drm_stream.specs.Transfer.{AppendsFront}
 use Rattle.drm_engine.specs.Endings.{status_of}
 use Rattle.drm_engine.specs.Replaying.{AreAnswers, Replays}
 use Rattle.drm_draw.specs.declared.drawing.Drawing.{Drawing}

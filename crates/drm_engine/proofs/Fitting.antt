@@ -9,7 +9,7 @@ use Rattle.drm_job.specs.Ranges.{RunsIn}
 use Rattle.drm_job.proofs.InRange.{runs_in}
 use Rattle.drm_serial.proofs.Sizes.{sizes-serial}
 use Rattle.drm_journal.specs.declared.journal.JournalJob.{JournalJob}
-use Rattle.drm_script.specs.Job.{is_job}
+use Rattle.drm_parse.specs.Job.{is_job}
 use Rattle.drm_journal.specs.Journal.{JournalParts, AreRecords, IsJournal, is_record, has_place}
 use Rattle.drm_journal.specs.Leaving.{turn_of, turns_of, left_by}
 

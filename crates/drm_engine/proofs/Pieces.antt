@@ -11,10 +11,10 @@ use Rattle.drm_core.specs.State.{CoreState, opened}
 use Rattle.drm_core.specs.Headline.{Headline}
 use Rattle.drm_core.specs.Run.{EveryRunIsLawful, Run}
 use Rattle.drm_core.specs.Step.{Step}
-use Rattle.drm_script.specs.Answers.{line_of, text_of_answers}
+use Rattle.drm_answer.specs.Answers.{line_of, text_of_answers}
 use Rattle.drm_script.specs.Commands.{AllNamesExist}
 use Rattle.drm_script.specs.Kept.{AnswersFirst}
-use Rattle.drm_script.specs.Transfer.{AppendsFront}
+use Rattle.drm_stream.specs.Transfer.{AppendsFront}
 use Rattle.drm_script.specs.declared.script.Script.{Script}
 use Rattle.drm_engine.specs.Replaying.{AppendsPiece, AreAnswers, IsAnswered}
 

@@ -3,8 +3,8 @@ use Rattle.std.specs.Prelude.{ℕ, Bool, true, false, List, ◌++◌, codes}
 use Rattle.std.specs.Fmt.{decimal}
 use Rattle.drm_text.specs.Faults.{number_of_fault}
 use Rattle.drm_text.specs.declared.fault.Fault.TheVariants.{Text, Device}
-use Rattle.drm_script.specs.declared.input.InputError.{InputError}
-use Rattle.drm_script.specs.declared.input.InputError.TheVariants as input
+use Rattle.drm_stream.specs.declared.input.InputError.{InputError}
+use Rattle.drm_stream.specs.declared.input.InputError.TheVariants as input
 use Rattle.drm_engine.specs.declared.ending.Ending.{Ending}
 use Rattle.drm_engine.specs.declared.ending.Ending.TheVariants as ending
 

@@ -2,7 +2,7 @@
 use Rattle.std.specs.Prelude.{◌≡◌, ℕ, List, Option, Ok, Err, IfSome}
 use Rattle.std.specs.Io.KnownBytes.{Appends, Keeps}
 use Rattle.drm_journal.specs.Journal.{JournalParts, judge_journal}
-use Rattle.drm_script.specs.Transfer.{AppendsFront}
+use Rattle.drm_stream.specs.Transfer.{AppendsFront}
 use Rattle.drm_engine.specs.declared.comparison.Comparison.{Comparison}
 use Rattle.drm_engine.specs.declared.comparison.Comparison.TheVariants as comparison
 use Rattle.drm_engine.specs.declared.ending.Ending.{Ending}

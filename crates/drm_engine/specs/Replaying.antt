@@ -7,9 +7,9 @@ use Rattle.drm_core.specs.declared.event.Event.{Event}
 use Rattle.drm_core.specs.Run.{LawfulRun, Run}
 use Rattle.drm_core.specs.Headline.{Promises}
 use Rattle.drm_script.specs.declared.script.Script.{Script}
-use Rattle.drm_script.specs.Answers.{text_of_answers}
+use Rattle.drm_answer.specs.Answers.{text_of_answers}
 use Rattle.drm_script.specs.Script.{judge_script}
-use Rattle.drm_script.specs.Transfer.{AppendsFront}
+use Rattle.drm_stream.specs.Transfer.{AppendsFront}
 use Rattle.drm_engine.specs.declared.ending.Ending.{Ending}
 use Rattle.drm_engine.specs.declared.ending.Ending.TheVariants as ending
 

@@ -9,7 +9,7 @@ use crate::comparison::{Comparison, compare};
 use crate::ending::Ending;
 use crate::leaving::run_journal;
 use drm_journal::{Journal, read_journal_from};
-use drm_script::put_all;
+use drm_stream::put_all;
 use std::alloc::{AllocError, Global};
 use std::io::{Read, Write};
 

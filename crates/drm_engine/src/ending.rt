@@ -3,7 +3,8 @@
 ghost use Rattle.std.specs.Prelude.{◌≡◌, Some};
 ghost use Rattle.drm_engine.specs.Endings.{ending_of_input, is_told, status_of, text_of_ending};
 
-use drm_script::{Fault, InputError};
+use drm_script::Fault;
+use drm_stream::InputError;
 use drm_types::BadSpec;
 use std::fmt;
 

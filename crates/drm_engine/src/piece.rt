@@ -1,11 +1,11 @@
 //! A piece of text in room that is taken at once.
 
 ghost use Rattle.std.specs.Prelude.{◌≡◌, ◌≤◌, ◌++◌, [], length, vec_len, ◌↔◌, IsTrue, IfOk, OnOk};
-ghost use Rattle.drm_script.specs.Answers.{line_of};
-ghost use Rattle.drm_script.specs.Lines.{line_room};
+ghost use Rattle.drm_answer.specs.Answers.{line_of};
+ghost use Rattle.drm_answer.specs.Lines.{line_room};
 
+use drm_answer::place_line;
 use drm_core::Answer;
-use drm_script::place_line;
 use std::alloc::{AllocError, Global};
 use std::marker::Model;
 

@@ -3,15 +3,16 @@
 ghost use Rattle.std.specs.Prelude.{◌≡◌, [], None, OnErr, OnOk};
 ghost use Rattle.std.specs.Io.KnownBytes.{Appends};
 ghost use Rattle.drm_types.specs.Limits.{spec_fault};
-ghost use Rattle.drm_script.specs.Answers.{text_of_answers};
+ghost use Rattle.drm_answer.specs.Answers.{text_of_answers};
 ghost use Rattle.drm_script.specs.Commands.{AllNamesExist};
-ghost use Rattle.drm_script.specs.Transfer.{AppendsFront};
+ghost use Rattle.drm_stream.specs.Transfer.{AppendsFront};
 ghost use Rattle.drm_engine.specs.Replaying.{AppendsPiece, IsAnswered, Plays, Replays};
 
 use crate::ending::Ending;
 use crate::piece::Piece;
 use drm_core::{Core, every_run_is_lawful, headline};
-use drm_script::{Events, Script, put_all, read_script_from};
+use drm_script::{Events, Script, read_script_from};
+use drm_stream::put_all;
 use std::alloc::{AllocError, Global};
 use std::io::{self, Read, Write};
 

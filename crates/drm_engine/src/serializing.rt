@@ -7,9 +7,10 @@ ghost use Rattle.drm_engine.specs.Leaving.{text_of_buffers};
 
 use crate::ending::Ending;
 use crate::leaving::run_journal;
+use drm_answer::write_answers;
 use drm_core::Answer;
 use drm_journal::{Journal, read_journal_from};
-use drm_script::{put_all, write_answers};
+use drm_stream::put_all;
 use std::alloc::{AllocError, Global};
 use std::io::{Read, Write};
 

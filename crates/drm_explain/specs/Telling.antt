@@ -3,7 +3,7 @@ use Rattle.std.specs.Prelude.{◌≡◌, ℕ, List, Option, Some, None, find}
 use Rattle.std.specs.Fmt.{decimal}
 use Rattle.std.specs.Str.{bytes_eq}
 use Rattle.std.specs.Io.KnownBytes.{Appends, Keeps}
-use Rattle.drm_script.specs.Transfer.{AppendsFront}
+use Rattle.drm_stream.specs.Transfer.{AppendsFront}
 use Rattle.drm_explain.specs.Numbers.{numbers}
 use Rattle.drm_explain.specs.Texts.{IsList, text_of}
 use Rattle.drm_explain.specs.declared.explanation.Explanation.{Explanation}

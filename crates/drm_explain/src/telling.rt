@@ -5,7 +5,7 @@ ghost use Rattle.drm_explain.specs.Telling.{IsAnswer, NamesNone, Tells};
 
 use crate::explanation::{explain, number_of_word};
 use crate::text::list_text;
-use drm_script::put_all;
+use drm_stream::put_all;
 use std::alloc::{AllocError, Global};
 use std::io::Write;
 

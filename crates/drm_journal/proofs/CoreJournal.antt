@@ -20,7 +20,7 @@ use Rattle.drm_table.specs.Lawful.{HasRightOutcome}
 use Rattle.drm_core.specs.Headline.{Promises, TellsOutcome}
 use Rattle.drm_core.specs.State.{CoreState}
 use Rattle.drm_journal.specs.declared.journal.JournalJob.{JournalJob}
-use Rattle.drm_script.specs.Job.{is_job}
+use Rattle.drm_parse.specs.Job.{is_job}
 use Rattle.drm_journal.specs.Journal.{JournalParts, AreRecords, IsJournal, is_record, has_place, may_have_run}
 use Rattle.drm_journal.specs.Leaving.{IsLeft, AreLeft, turn_of, left_by, told_of, journal_told, journal_left}
 

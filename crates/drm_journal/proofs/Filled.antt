@@ -8,7 +8,7 @@ use Rattle.drm_types.specs.declared.spec.EntitySpec.{EntitySpec}
 use Rattle.drm_types.specs.Limits.{is_between, are_rings, each, spec_fault, spec_tests}
 use Rattle.drm_text.specs.Grammar.{AreBytes}
 use Rattle.drm_types.proofs.Firsts.{none_at, each_passes}
-use Rattle.drm_script.specs.Grammar.{IsNumber, EntityFits}
+use Rattle.drm_parse.specs.Grammar.{IsNumber, EntityFits}
 use Rattle.drm_journal.specs.JournalGrammar.{HasBytes}
 
 -- the size of a buffer is within the limits

@@ -32,17 +32,18 @@ use Rattle.drm_text.proofs.Spelled.{is_graphic, decimal_graphic, bytes_graphic}
 use Rattle.drm_text.proofs.WordReaders.{bind_ok, ok_is, or_fault_ok, test_ok, ReadsLine, any_word, no_word, numbers_read, bytes_read}
 use Rattle.drm_journal.specs.declared.journal.JournalJob.{JournalJob}
 use Rattle.drm_journal.specs.declared.journal.Reading.{Reading}
-use Rattle.drm_script.specs.Grammar.{Line, job_words}
-use Rattle.drm_script.specs.Header.{header_at}
-use Rattle.drm_script.specs.Job.{job_at}
+use Rattle.drm_parse.specs.Grammar.{Line, job_words}
+use Rattle.drm_parse.specs.Header.{header_at}
+use Rattle.drm_parse.specs.Job.{job_at}
 use Rattle.drm_journal.specs.Journal.{JournalParts, IsJournal, AreRecords, IsRead, status_of, is_record, record_or, record_at, final_at, size_of, with_job, with_final, with_end, with_body, journal_line, body_of, nothing_read, journal_of, judge_journal}
 use Rattle.drm_journal.specs.JournalGrammar.{status_word, record_words, RecordFits, final_words, end_words, SpellsJournal}
-use Rattle.drm_script.proofs.CommandReaders.{same_cons, some_lines, job_graphic}
-use Rattle.drm_script.proofs.HeaderReaders.{as_bytes, left_in, header_takes, header_again}
-use Rattle.drm_script.proofs.JobReaders.{in_time, jobs_read, not_true}
-use Rattle.drm_script.proofs.PacketReaders.{some_is, choose, same_name}
+use Rattle.drm_parse.proofs.HeaderReaders.{same_cons}
+use Rattle.drm_parse.proofs.SpelledLines.{some_lines, job_graphic}
+use Rattle.drm_parse.proofs.HeaderReaders.{as_bytes, left_in, header_takes, header_again}
+use Rattle.drm_parse.proofs.JobReaders.{in_time, jobs_read, not_true}
+use Rattle.drm_parse.proofs.PacketReaders.{some_is, choose, same_name}
 use Rattle.drm_journal.proofs.Records.{one_more_job, one_more_final, below_length}
-use Rattle.drm_script.proofs.ScriptReaders.{header_graphic, lines-append, lines_are, text_is}
+use Rattle.drm_parse.proofs.SpelledLines.{header_graphic, lines-append, lines_are, text_is}
 
 -- ---- the words of a job and of a buffer
 

@@ -20,8 +20,8 @@ use Rattle.drm_types.specs.declared.spec.RingSpec.{RingSpec}
 use Rattle.drm_text.specs.Grammar.{AreBytes, line_of_words, text_of_lines}
 use Rattle.drm_text.specs.Hexadecimal.{text_of_byte, text_of_bytes}
 use Rattle.drm_journal.specs.declared.journal.JournalJob.{JournalJob}
-use Rattle.drm_script.specs.Answers.{numbers, separated}
-use Rattle.drm_script.specs.Grammar.{Line, Each, SpellsBuffer, declaration_word, fence_word, packet_word, job_words, ring_words, priority_word, rings_word, entity_words, opening}
+use Rattle.drm_answer.specs.Answers.{numbers, separated}
+use Rattle.drm_parse.specs.Grammar.{Line, Each, SpellsBuffer, declaration_word, fence_word, packet_word, job_words, ring_words, priority_word, rings_word, entity_words, opening}
 use Rattle.drm_journal.specs.Journal.{JournalParts, IsJournal}
 use Rattle.drm_journal.specs.JournalGrammar.{status_word, record_words, final_words, end_words, HasBytes, DeviceFits, RecordFits, SpellsJournal, SpellsIfShort}
 use Rattle.drm_journal.specs.JournalText.{line_of_bytes, text_of_priority, line_of_ring, text_of_rings, line_of_entity, text_of_header, word_of_declaration, word_of_fence, pieces, word_of_packet, words_of_job, text_of_status, line_of_job, text_of_journal}

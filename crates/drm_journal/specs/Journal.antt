@@ -17,9 +17,9 @@ use Rattle.drm_text.specs.declared.keywords.Keyword.{Keyword}
 use Rattle.drm_text.specs.declared.keywords.Keyword.TheVariants as line
 use Rattle.drm_text.specs.Cut.{Words, Left}
 use Rattle.drm_text.specs.Reading.{◌>>=◌, or_fault}
-use Rattle.drm_script.specs.Header.{header_at}
+use Rattle.drm_parse.specs.Header.{header_at}
 use Rattle.drm_text.specs.Hexadecimal.{bytes_at}
-use Rattle.drm_script.specs.Job.{is_job, job_at}
+use Rattle.drm_parse.specs.Job.{is_job, job_at}
 use Rattle.drm_text.specs.Lines.{start_at, last_line, out_of_order, lines_of}
 use Rattle.drm_text.specs.Words.{word_at, number_at, end_at, fault_here}
 

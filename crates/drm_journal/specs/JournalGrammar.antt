@@ -8,7 +8,7 @@ use Rattle.drm_types.specs.declared.spec.DeviceSpec.{DeviceSpec}
 use Rattle.drm_text.specs.Grammar.{AreBytes, text_of_lines}
 use Rattle.drm_text.specs.Hexadecimal.{text_of_bytes}
 use Rattle.drm_journal.specs.declared.journal.JournalJob.{JournalJob}
-use Rattle.drm_script.specs.Grammar.{IsNumber, Line, job_words, JobFits, RingFits, SpellsHeader}
+use Rattle.drm_parse.specs.Grammar.{IsNumber, Line, job_words, JobFits, RingFits, SpellsHeader}
 use Rattle.drm_journal.specs.Journal.{JournalParts, IsJournal, judge_journal}
 
 -- the word of a status: of a job with this outcome, or with none

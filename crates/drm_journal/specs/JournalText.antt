@@ -13,7 +13,7 @@ use Rattle.drm_types.specs.declared.spec.Priority.{Priority}
 use Rattle.drm_types.specs.declared.spec.Priority.TheVariants as priority
 use Rattle.drm_types.specs.declared.spec.RingSpec.{RingSpec}
 use Rattle.drm_journal.specs.declared.journal.JournalJob.{JournalJob}
-use Rattle.drm_script.specs.Answers.{numbers, separated, text_of_outcome}
+use Rattle.drm_answer.specs.Answers.{numbers, separated, text_of_outcome}
 use Rattle.drm_text.specs.Hexadecimal.{text_of_byte, text_of_bytes}
 use Rattle.drm_journal.specs.Journal.{JournalParts}
 

@@ -1,11 +1,11 @@
 //! From a reader to the journal that its bytes spell.
 
 ghost use Rattle.std.specs.Prelude.{IfOk};
-ghost use Rattle.drm_script.specs.Transfer.{IsReadOf, LosesAtMost};
+ghost use Rattle.drm_stream.specs.Transfer.{IsReadOf, LosesAtMost};
 ghost use Rattle.drm_journal.specs.Journal.{IsJournal, judge_journal};
 
 use crate::journal::{Journal, read_journal};
-use drm_script::{InputError, read_input, to_input_error};
+use drm_stream::{InputError, read_input, to_input_error};
 use std::alloc::Global;
 use std::io::Read;
 

@@ -4,13 +4,13 @@ ghost use Rattle.std.specs.Prelude.{◌≡◌, ◌≤◌, None, true, false, len
 ghost use Rattle.std.specs.List.{list_all};
 ghost use Rattle.drm_types.specs.Limits.{spec_fault};
 ghost use Rattle.drm_text.specs.Reading.{Reads, Gives};
-ghost use Rattle.drm_script.specs.Job.{is_job};
+ghost use Rattle.drm_parse.specs.Job.{is_job};
 ghost use Rattle.drm_journal.specs.Journal.{IsJournal, IsRead, status_of, may_have_run, size_of, is_record, record_or, record_at, final_at, with_job, with_final, with_end, with_body, journal_line, body_of, nothing_read, judge_journal};
-ghost use Rattle.drm_script.specs.Grammar.{IsReadAsSpelled};
+ghost use Rattle.drm_parse.specs.Spelling.{IsReadAsSpelled};
 ghost use Rattle.drm_journal.specs.JournalGrammar.{SpellsJournal};
 
 use drm_job::{Draft, Job, first_fault};
-use drm_script::{read_header, read_job};
+use drm_parse::{read_header, read_job};
 use drm_text::{
     Command, Fault, Keyword, Line, Lines, MAX_TEXT, ReadError, TextFault, Words, is_word,
     order_fault, read_bytes_word,
@@ -131,7 +131,7 @@ fn are_earlier(fences: &[FenceId], number: usize) -> bool
 
 /// Whether the device can have armed the job of this draft under this number: it has no fault, waits only for earlier jobs, and
 /// can have run its packets. It is judged where it stands, and copied once it is known to be a job.
-#[tactic(auto, unfolding(drm_script::specs::Job::is_job))]
+#[tactic(auto, unfolding(drm_parse::specs::Job::is_job))]
 fn can_be_armed(
     spec: &DeviceSpec,
     number: usize,
@@ -148,7 +148,7 @@ fn can_be_armed(
 }
 
 /// The job with what was told of it, or the fault where the device can't have armed it.
-#[tactic(auto, unfolding(crate::specs::Journal::record_or, drm_script::specs::Job::is_job))]
+#[tactic(auto, unfolding(crate::specs::Journal::record_or, drm_parse::specs::Job::is_job))]
 fn check_record(
     spec: &DeviceSpec,
     number: usize,

@@ -1,6 +1,6 @@
 //! Laws over the definitions, on functions that do nothing.
 
-ghost use Rattle.drm_script.specs.Grammar.{IsJudgedAsSpelled, SpellsOne};
+ghost use Rattle.drm_parse.specs.Spelling.{IsJudgedAsSpelled, SpellsOne};
 ghost use Rattle.drm_journal.specs.Journal.{judge_journal};
 ghost use Rattle.drm_journal.specs.JournalGrammar.{SpellsJournal};
 

@@ -11,7 +11,7 @@ use Rattle.drm_journal.specs.Journal.{JournalParts}
 use Rattle.drm_journal.specs.JournalText.{text_of_journal}
 use Rattle.drm_journal.specs.Leaving.{AreLeft, journal_told}
 use Rattle.drm_script.specs.Run.{judge_run}
-use Rattle.drm_script.specs.Transfer.{AppendsFront}
+use Rattle.drm_stream.specs.Transfer.{AppendsFront}
 use Rattle.drm_engine.specs.declared.ending.Ending.TheVariants as ending
 use Rattle.drm_run.specs.declared.ending.RunEnding.{RunEnding}
 use Rattle.drm_run.specs.declared.ending.RunEnding.TheVariants.{Ended, GaveUp, NoThread}

@@ -1,16 +1,11 @@
 -- Command lines are read as they are written, and as nothing else.
-use Rattle.std.proofs.Common.{◌≡◌, ℕ, ◌+◌, ◌-◌, ◌^◌, ◌<◌, ◌≤◌, true, List, [], ◌∷◌, ◌++◌, append_assoc, length, map, Some, Result, Ok, refl, sym, ap, subst, ◌∙◌, arith}
+use Rattle.std.proofs.Common.{◌≡◌, ℕ, ◌+◌, ◌-◌, ◌^◌, ◌<◌, true, List, [], ◌∷◌, ◌++◌, append_assoc, length, map, Some, Result, Ok, refl, sym, ap, subst, ◌∙◌, arith}
 use Rattle.std.specs.Prelude.{codes}
 use Rattle.std.specs.List.{AllByRecursion, join_with_byte, list_all}
 use Rattle.std.specs.Fmt.{decimal}
 use Rattle.std.proofs.lemmas.List.{append-nil}
 use Rattle.drm_core.specs.declared.event.Event.{Event}
 use Rattle.drm_core.specs.declared.event.Event.TheVariants as event
-use Rattle.drm_job.specs.declared.Draft.{Draft}
-use Rattle.drm_packet.specs.declared.Packet.{Packet}
-use Rattle.drm_packet.specs.declared.Packet.TheVariants.{Fill, Copy, Add, Stall}
-use Rattle.drm_types.specs.declared.access.Access.{Access}
-use Rattle.drm_types.specs.declared.access.Access.TheVariants as access
 use Rattle.drm_types.specs.declared.spec.DeviceSpec.{DeviceSpec}
 use Rattle.drm_text.specs.Cut.{Words}
 use Rattle.drm_text.specs.Grammar.{IsName}
@@ -24,48 +19,15 @@ use Rattle.drm_text.specs.Lines.{start_at, last_line, out_of_order}
 use Rattle.drm_text.specs.Reading.{◌>>=◌, or_fault}
 use Rattle.drm_text.specs.Words.{last_number_at, name_at, last_name_at}
 use Rattle.drm_text.proofs.LineReaders.{AreWords, start_takes, start_again, last_takes, cut_lines, keyword_is_word}
-use Rattle.drm_text.proofs.Spelled.{is_graphic, passes-joined, decimal_graphic, byte_graphic}
+use Rattle.drm_text.proofs.Spelled.{is_graphic, decimal_graphic}
 use Rattle.drm_text.proofs.WordReaders.{bind_ok, ok_is, or_fault_ok, ReadsWord, ReadsLine, names_read, last_names_read, last_numbers_read}
 use Rattle.drm_script.specs.Commands.{context_and_buffer_at, ring_and_moment_at, plan_at, event_at, command_of, event_line, events_of}
-use Rattle.drm_script.specs.Grammar.{IsNumber, IsMoment, declaration_word, packet_pieces, packet_word, PacketFits, item_words, job_words, ItemsFit, JobFits, command_words, CommandFits}
-use Rattle.drm_script.specs.Job.{job_at}
-use Rattle.drm_script.proofs.JobReaders.{jobs_read}
-
--- ---- words of jobs are words
-
-number_graphic : (n : ℕ) → IsNumber n → list_all is_graphic (decimal n) ≡ true
-number_graphic n small = decimal_graphic n (omega arith)
-
-declaration_graphic : (d : ℕ × Access) → IsNumber d.0 → list_all is_graphic (declaration_word d) ≡ true
-declaration_graphic (buffer, access.Read) small = number_graphic buffer small
-declaration_graphic (buffer, access.Write) small = number_graphic buffer small
-declaration_graphic (buffer, access.Hold) small = number_graphic buffer small
-declaration_graphic (buffer, access.Move) small = number_graphic buffer small
-
-pieces_graphic : (packet : Packet) → PacketFits packet → AreWords (packet_pieces packet)
-pieces_graphic (Fill buffer offset len byte) fits =
-    (refl, (number_graphic buffer fits.0, (number_graphic offset fits.1, (number_graphic len fits.2, (byte_graphic byte fits.3, tt)))))
-pieces_graphic (Copy a b c d x) fits =
-    (refl, (number_graphic a fits.0, (number_graphic b fits.1, (number_graphic c fits.2, (number_graphic d fits.3, (number_graphic x fits.4, tt))))))
-pieces_graphic (Add a b c d x) fits =
-    (refl, (number_graphic a fits.0, (number_graphic b fits.1, (number_graphic c fits.2, (number_graphic d fits.3, (number_graphic x fits.4, tt))))))
-pieces_graphic (Stall resets) fits = (refl, (decimal_graphic resets (omega arith), tt))
-
-packets_graphic : (ps : List Packet) → AllByRecursion PacketFits ps → AreWords (map packet_word ps)
-packets_graphic [] fits = tt
-packets_graphic (p ∷ ps) fits = (passes-joined is_graphic 58 refl (packet_pieces p) (pieces_graphic p fits.0), packets_graphic ps fits.1)
-
-fences_graphic : (fs : List ℕ) (ps : List Packet) → AllByRecursion IsNumber fs → AllByRecursion PacketFits ps → AreWords (item_words [] fs ps)
-fences_graphic [] ps fit fits = packets_graphic ps fits
-fences_graphic (f ∷ fs) ps fit fits = (number_graphic f fit.0, fences_graphic fs ps fit.1 fits)
-
-items_graphic : (ds : List (ℕ × Access)) (fs : List ℕ) (ps : List Packet) → ItemsFit ds fs ps → AreWords (item_words ds fs ps)
-items_graphic [] fs ps fit = fences_graphic fs ps fit.1 fit.2
-items_graphic (d ∷ ds) fs ps fit = (declaration_graphic d fit.0.0, items_graphic ds fs ps (fit.0.1, fit.1, fit.2))
-
-pub job_graphic : (job : Draft) → JobFits job → AreWords (job_words job)
-job_graphic job fits =
-    (number_graphic job.entity fits.0, (decimal_graphic job.credits (let small : job.credits ≤ 65535 = fits.1 in omega arith), items_graphic job.declared job.after job.packets fits.2))
+use Rattle.drm_parse.specs.Grammar.{IsNumber, job_words, JobFits}
+use Rattle.drm_script.specs.Grammar.{IsMoment, command_words, CommandFits}
+use Rattle.drm_parse.specs.Job.{job_at}
+use Rattle.drm_parse.proofs.HeaderReaders.{same_cons}
+use Rattle.drm_parse.proofs.JobReaders.{jobs_read}
+use Rattle.drm_parse.proofs.SpelledLines.{some_lines, number_graphic, job_graphic}
 
 -- ---- fields of commands
 
@@ -277,9 +239,6 @@ line_again spec n x fits =
 abbrev pub Commands : DeviceSpec → List Event → Type 0
 Commands spec events = AllByRecursion (CommandFits spec) events
 
-pub same_cons : {A : Type 0} (x y : A) (xs ys : List A) → x ≡ y → xs ≡ ys → (x ∷ xs) ≡ (y ∷ ys)
-same_cons x y xs ys same rest = cc
-
 -- the lines up to the end of the text are command lines
 pub events_take : (spec : DeviceSpec) (events : List Event) (n : ℕ) (bytes : List ℕ) (more : List (List ℕ)) (all : List Event) → events_of spec events n bytes more ≡ Ok all
     → (tail : List Event) × ((bytes ∷ more) ≡ cut_lines (map command_words tail)) × Commands spec tail × (all ≡ events ++ tail)
@@ -303,10 +262,6 @@ one_event : (spec : DeviceSpec) (events : List Event) (n : ℕ) (bytes : List �
 unfolding events_of
 one_event spec events n bytes [] some = absurd (omega arith)
 one_event spec events n bytes (next ∷ rest) some = refl
-
-pub some_lines : (lines : List (List (List ℕ))) → 0 < length (cut_lines lines)
-some_lines [] = omega arith
-some_lines (words ∷ lines) = omega arith
 
 -- command lines are read as their events
 pub events_again : (spec : DeviceSpec) (events : List Event) (n : ℕ) (tail : List Event) → Commands spec tail → events_in spec events n (cut_lines (map command_words tail)) ≡ Ok (events ++ tail)

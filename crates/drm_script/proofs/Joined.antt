@@ -10,7 +10,7 @@ use Rattle.drm_text.specs.Reading.{Gives}
 use Rattle.drm_text.specs.declared.fault.ReadError.{ReadError}
 use Rattle.drm_text.specs.declared.fault.ReadError.TheVariants as errors
 use Rattle.drm_script.specs.Commands.{with_job_at}
-use Rattle.drm_script.specs.Job.{job_at}
+use Rattle.drm_parse.specs.Job.{job_at}
 use Rattle.drm_script.specs.Kept.{AreMatched, brings_job, event_of, event_with, joined, next_joined}
 
 abbrev jobs_of : Kept → ℕ

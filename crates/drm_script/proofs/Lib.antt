@@ -1,14 +1,6 @@
 pub mod Added
+pub mod CommandReaders
 pub mod Joined
 pub mod Known
-pub mod CommandReaders
-pub mod HeaderReaders
-pub mod JobReaders
-pub mod PacketReaders
-pub mod InTurn
-pub mod Placed
-pub mod RingLists
 pub mod RunReaders
 pub mod ScriptReaders
-pub mod ShortNumbers
-pub mod WordKinds

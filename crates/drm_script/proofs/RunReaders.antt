@@ -23,16 +23,17 @@ use Rattle.drm_text.specs.Reading.{◌>>=◌, Gives}
 use Rattle.drm_text.proofs.LineReaders.{AreLines, start_takes, start_again, last_takes, cut_lines}
 use Rattle.drm_text.proofs.WordReaders.{bind_ok, ok_is, test_ok, ReadsLine}
 use Rattle.drm_script.specs.declared.run_script.RunScript.{RunScript}
-use Rattle.drm_script.specs.Grammar.{Line, job_words, JobFits}
-use Rattle.drm_script.specs.Header.{header_at}
-use Rattle.drm_script.specs.Job.{job_at}
-use Rattle.drm_script.specs.Job.{is_job}
+use Rattle.drm_parse.specs.Grammar.{Line, job_words, JobFits}
+use Rattle.drm_parse.specs.Header.{header_at}
+use Rattle.drm_parse.specs.Job.{job_at}
+use Rattle.drm_parse.specs.Job.{is_job}
 use Rattle.drm_script.specs.Run.{IsRunnable, AreRunnable, is_runnable, runnable_or, run_job_at, submitted_at, run_line, jobs_of, run_of, judge_run}
 use Rattle.drm_script.specs.RunGrammar.{submit_words, SpellsRun}
-use Rattle.drm_script.proofs.CommandReaders.{same_cons, some_lines, job_graphic}
-use Rattle.drm_script.proofs.HeaderReaders.{as_bytes, left_in, header_takes, header_again}
-use Rattle.drm_script.proofs.JobReaders.{in_time, jobs_read}
-use Rattle.drm_script.proofs.ScriptReaders.{header_graphic, lines_are, text_is}
+use Rattle.drm_parse.proofs.HeaderReaders.{same_cons}
+use Rattle.drm_parse.proofs.SpelledLines.{some_lines, job_graphic}
+use Rattle.drm_parse.proofs.HeaderReaders.{as_bytes, left_in, header_takes, header_again}
+use Rattle.drm_parse.proofs.JobReaders.{in_time, jobs_read}
+use Rattle.drm_parse.proofs.SpelledLines.{header_graphic, lines_are, text_is}
 
 -- ---- which jobs can be run
 

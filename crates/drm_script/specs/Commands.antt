@@ -13,7 +13,7 @@ use Rattle.drm_text.specs.declared.keywords.Keyword.{Keyword}
 use Rattle.drm_text.specs.declared.keywords.Keyword.TheVariants as line
 use Rattle.drm_text.specs.Cut.{Words}
 use Rattle.drm_text.specs.Reading.{◌>>=◌, or_fault}
-use Rattle.drm_script.specs.Job.{job_at}
+use Rattle.drm_parse.specs.Job.{job_at}
 use Rattle.drm_text.specs.Lines.{start_at, last_line, out_of_order}
 use Rattle.drm_text.specs.Words.{last_number_at, name_at, last_name_at}
 

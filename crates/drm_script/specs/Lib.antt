@@ -1,11 +1,6 @@
-pub mod Answers
 pub mod Commands
 pub mod Grammar
-pub mod Header
-pub mod Job
+pub mod Kept
 pub mod Run
 pub mod RunGrammar
 pub mod Script
-pub mod Transfer
-pub mod Kept
-pub mod Lines

@@ -15,9 +15,9 @@ use Rattle.drm_script.specs.declared.run_script.RunScript.{RunScript}
 use Rattle.drm_text.specs.Cut.{Words, Left}
 use Rattle.drm_text.specs.Reading.{◌>>=◌}
 use Rattle.drm_text.specs.Lines.{start_at, last_line, out_of_order, lines_of}
-use Rattle.drm_script.specs.Header.{header_at}
-use Rattle.drm_script.specs.Job.{job_at}
-use Rattle.drm_script.specs.Job.{is_job}
+use Rattle.drm_parse.specs.Header.{header_at}
+use Rattle.drm_parse.specs.Job.{job_at}
+use Rattle.drm_parse.specs.Job.{is_job}
 
 -- a job of the device that names no fence
 abbrev pub IsRunnable : DeviceSpec → Draft → Type 0

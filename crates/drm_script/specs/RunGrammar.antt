@@ -4,7 +4,7 @@ use Rattle.std.specs.List.{AllByRecursion}
 use Rattle.drm_job.specs.declared.Draft.{Draft}
 use Rattle.drm_text.specs.Grammar.{text_of_lines}
 use Rattle.drm_script.specs.declared.run_script.RunScript.{RunScript}
-use Rattle.drm_script.specs.Grammar.{Line, job_words, JobFits, SpellsHeader}
+use Rattle.drm_parse.specs.Grammar.{Line, job_words, JobFits, SpellsHeader}
 use Rattle.drm_script.specs.Run.{AreRunnable}
 
 abbrev pub submit_words : Draft → Line

@@ -7,7 +7,7 @@ use Rattle.drm_script.specs.declared.script.Script.{Script}
 use Rattle.drm_text.specs.Cut.{Left}
 use Rattle.drm_text.specs.Reading.{◌>>=◌}
 use Rattle.drm_text.specs.Lines.{lines_of}
-use Rattle.drm_script.specs.Header.{header_at}
+use Rattle.drm_parse.specs.Header.{header_at}
 use Rattle.drm_script.specs.Commands.{events_of}
 
 -- the script of a header and of the events behind it

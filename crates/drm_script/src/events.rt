@@ -7,10 +7,10 @@ ghost use Rattle.drm_text.specs.Reading.{Gives};
 ghost use Rattle.drm_script.specs.Commands.{AllNamesExist, with_job_at};
 ghost use Rattle.drm_script.specs.Kept.{AnswersFirst, brings_job, event_of, event_with};
 
-use crate::job::push_job;
 use crate::kept::{Kept, next_job};
 use drm_core::{Answer, Core, Event};
 use drm_job::Draft;
+use drm_parse::push_job;
 use drm_text::{ReadError, Words};
 use std::alloc::{AllocError, Global};
 use std::marker::Model;

@@ -1,6 +1,7 @@
 //! Laws over the definitions, on functions that do nothing.
 
-ghost use Rattle.drm_script.specs.Grammar.{IsJudgedAsSpelled, SpellsOne, SpellsScript};
+ghost use Rattle.drm_parse.specs.Spelling.{IsJudgedAsSpelled, SpellsOne};
+ghost use Rattle.drm_script.specs.Grammar.{SpellsScript};
 ghost use Rattle.drm_script.specs.Run.{judge_run};
 ghost use Rattle.drm_script.specs.RunGrammar.{SpellsRun};
 ghost use Rattle.drm_script.specs.Script.{judge_script};

@@ -3,19 +3,21 @@
 
 ghost use Rattle.std.specs.Prelude.{◌≡◌, ◌≤◌, [], None, length, IfOk};
 ghost use Rattle.drm_types.specs.Limits.{spec_fault};
+ghost use Rattle.drm_stream.specs.Transfer.{IsReadOf, LosesAtMost};
 ghost use Rattle.drm_text.specs.Reading.{Reads, Gives};
-ghost use Rattle.drm_script.specs.Grammar.{IsReadAsSpelled};
+ghost use Rattle.drm_parse.specs.Spelling.{IsReadAsSpelled};
 ghost use Rattle.drm_script.specs.Run.{AreRunnable, runnable_or, run_job_at, submitted_at, run_line, jobs_of, judge_run};
 ghost use Rattle.drm_script.specs.RunGrammar.{SpellsRun};
 
-use crate::header::read_header;
-use crate::job::{make_job, read_job};
 use drm_job::{Draft, Job};
+use drm_parse::{make_job, read_header, read_job};
+use drm_stream::{InputError, read_input, to_input_error};
 use drm_text::{
     Command, Fault, Keyword, Line, Lines, MAX_TEXT, ReadError, TextFault, Words, order_fault,
 };
 use drm_types::{DeviceSpec, Sequence};
 use std::alloc::Global;
+use std::io::Read;
 
 /// What a script for threads spells.
 #[derive(Drop)]
@@ -136,4 +138,18 @@ pub fn read_run(alloc: Global, text: &[u8]) -> Result<RunScript, ReadError>
     ensures runnable { IfOk result (λ script. AreRunnable script.spec script.jobs × (length script.jobs ≤ script.spec.max_jobs)) }
 {
     read_text(alloc, text)
+}
+
+/// The script for threads that all bytes of the reader spell.
+pub fn read_run_from<R: Read>(alloc: Global, reader: &mut R) -> Result<RunScript, InputError>
+    ensures value { IsReadOf judge_run (R.remaining reader.old) result }
+    ensures most { LosesAtMost 1048577 (R.remaining reader.old) (R.remaining reader.new) }
+    ensures fits { IfOk result (λ script. spec_fault script.spec ≡ None) }
+    ensures runnable { IfOk result (λ script. AreRunnable script.spec script.jobs × (length script.jobs ≤ script.spec.max_jobs)) }
+{
+    let text = read_input(alloc, reader)?;
+    match read_run(alloc, &text) {
+        Ok(script) => Ok(script),
+        Err(error) => Err(to_input_error(error)),
+    }
 }

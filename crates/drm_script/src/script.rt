@@ -1,18 +1,22 @@
 //! Scripts: a header, and a command on each further line.
 
 ghost use Rattle.std.specs.Prelude.{◌≡◌, ◌≤◌, [], None, length, IfOk};
+ghost use Rattle.drm_stream.specs.Transfer.{IsReadOf, LosesAtMost};
 ghost use Rattle.drm_types.specs.Limits.{spec_fault};
 ghost use Rattle.drm_text.specs.Reading.{Gives};
 ghost use Rattle.drm_script.specs.Commands.{AllNamesExist, events_of};
-ghost use Rattle.drm_script.specs.Grammar.{IsReadAsSpelled, SpellsScript};
+ghost use Rattle.drm_parse.specs.Spelling.{IsReadAsSpelled};
+ghost use Rattle.drm_script.specs.Grammar.{SpellsScript};
 ghost use Rattle.drm_script.specs.Script.{script_of, judge_script};
 
 use crate::command::read_event_line;
 use crate::events::Events;
-use crate::header::read_header;
+use drm_parse::read_header;
+use drm_stream::{InputError, read_input, to_input_error};
 use drm_text::{Fault, Lines, MAX_TEXT, ReadError, TextFault};
 use drm_types::DeviceSpec;
 use std::alloc::Global;
+use std::io::Read;
 
 /// What a script spells.
 #[derive(Drop)]
@@ -69,4 +73,18 @@ pub fn read_script(alloc: Global, text: &[u8]) -> Result<Script, ReadError>
     ensures exist { IfOk result (λ script. AllNamesExist script.spec script.lines) }
 {
     read_text(alloc, text)
+}
+
+/// The script that all bytes of the reader spell.
+pub fn read_script_from<R: Read>(alloc: Global, reader: &mut R) -> Result<Script, InputError>
+    ensures value { IsReadOf judge_script (R.remaining reader.old) result }
+    ensures most { LosesAtMost 1048577 (R.remaining reader.old) (R.remaining reader.new) }
+    ensures fits { IfOk result (λ script. spec_fault script.spec ≡ None) }
+    ensures exist { IfOk result (λ script. AllNamesExist script.spec script.lines) }
+{
+    let text = read_input(alloc, reader)?;
+    match read_script(alloc, &text) {
+        Ok(script) => Ok(script),
+        Err(error) => Err(to_input_error(error)),
+    }
 }

@@ -1,6 +1,6 @@
+use drm_answer::write_answers;
 use drm_core::{Answer, Refusal};
 use drm_job::{DraftList, JobFault};
-use drm_script::write_answers;
 use drm_types::{BufferId, Outcome, Sequence};
 use std::test::Fail;
 

@@ -1,5 +1,6 @@
 use crate::{SlowReader, fault_at};
-use drm_script::{InputError, put_all, read_input, read_script_from};
+use drm_script::read_script_from;
+use drm_stream::{InputError, put_all, read_input};
 use drm_text::TextFault;
 use std::io::{self, ErrorKind};
 use std::test::Fail;

@@ -5,7 +5,7 @@ use Rattle.std.specs.Prelude.{IsSome}
 use Rattle.std.proofs.Math.Seq.{take-append_seam}
 use Rattle.std.proofs.lemmas.List.{length-append}
 use Rattle.drm_table.specs.declared.answer.Answer.{Answer}
-use Rattle.drm_script.specs.Answers.{line_of, words_of}
+use Rattle.drm_answer.specs.Answers.{line_of, words_of}
 
 -- two texts that are one behind a byte each are one
 before_last : (xs ys : List ℕ) (x y : ℕ) → xs ++ x ∷ [] ≡ ys ++ y ∷ [] → xs ≡ ys

@@ -8,7 +8,7 @@ use Rattle.drm_table.specs.declared.answer.Answer.{Answer}
 use Rattle.drm_core.specs.declared.event.Event.{Event}
 use Rattle.drm_core.specs.State.{CoreState}
 use Rattle.drm_core.specs.Run.{Run}
-use Rattle.drm_script.specs.Transfer.{AppendsFront}
+use Rattle.drm_stream.specs.Transfer.{AppendsFront}
 use Rattle.drm_engine.specs.Replaying.{AppendsPiece, IsAnswered}
 use Rattle.drm_engine.proofs.Pieces.{GoesOn, Told, last_front, last_piece}
 use Rattle.drm_words.specs.declared.subject.Subject.{Subject}

@@ -4,7 +4,7 @@ use Rattle.std.specs.Io.KnownBytes.{Appends, Keeps}
 use Rattle.drm_table.specs.declared.answer.Answer.{Answer}
 use Rattle.drm_script.specs.declared.script.Script.{Script}
 use Rattle.drm_script.specs.Script.{judge_script}
-use Rattle.drm_script.specs.Transfer.{AppendsFront}
+use Rattle.drm_stream.specs.Transfer.{AppendsFront}
 use Rattle.drm_engine.specs.Replaying.{AreAnswers}
 use Rattle.drm_engine.specs.declared.ending.Ending.{Ending}
 use Rattle.drm_engine.specs.declared.ending.Ending.TheVariants as ending

@@ -4,7 +4,7 @@ ghost use Rattle.std.specs.Prelude.{◌≡◌, ◌++◌, [], None, OnErr, OnOk};
 ghost use Rattle.std.specs.Io.KnownBytes.{Appends};
 ghost use Rattle.drm_types.specs.Limits.{spec_fault};
 ghost use Rattle.drm_script.specs.Commands.{AllNamesExist};
-ghost use Rattle.drm_script.specs.Transfer.{AppendsFront};
+ghost use Rattle.drm_stream.specs.Transfer.{AppendsFront};
 ghost use Rattle.drm_engine.specs.Replaying.{AppendsPiece, IsAnswered};
 ghost use Rattle.drm_words.specs.Lines.{text_with_words, worded_line_of};
 ghost use Rattle.drm_words.specs.Replaying.{PlaysWithWords, ReplaysWithWords};
@@ -13,7 +13,8 @@ use crate::sentences::put_worded_line;
 use crate::subject::Subject;
 use drm_core::{Answer, Core, every_run_is_lawful, headline};
 use drm_engine::Ending;
-use drm_script::{Events, Script, put_all, read_script_from};
+use drm_script::{Events, Script, read_script_from};
+use drm_stream::put_all;
 use std::alloc::Global;
 use std::io::{self, Read, Write};
 

@@ -1,15 +1,15 @@
 //! What is said of answers, and their lines with it.
 
 ghost use Rattle.std.specs.Prelude.{◌≡◌, ◌++◌, OnOk};
-ghost use Rattle.drm_script.specs.Answers.{words_of};
+ghost use Rattle.drm_answer.specs.Answers.{words_of};
 ghost use Rattle.drm_words.specs.Lines.{worded_line_of};
 ghost use Rattle.drm_words.specs.Sentences.{sentence_of, sentence_of_armed, sentence_of_bytes, sentence_of_finished, sentence_of_ok, sentence_of_picked, sentence_of_status};
 
 use crate::filling::put_filled;
 use crate::refused::put_refusal;
 use crate::subject::Subject;
+use drm_answer::put_line;
 use drm_core::Answer;
-use drm_script::put_line;
 use drm_text::Command;
 use drm_types::{FenceId, Outcome};
 use std::alloc::AllocError;

@@ -1,7 +1,7 @@
 use Rattle.std.proofs.Common.{refl}
 use Rattle.std.specs.Io.KnownBytes.{Appends}
-use Rattle.drm_script.specs.Answers.{text_of_answers}
-use Rattle.drm_script.specs.Transfer.{AppendsFront}
+use Rattle.drm_answer.specs.Answers.{text_of_answers}
+use Rattle.drm_stream.specs.Transfer.{AppendsFront}
 use Rattle.drm_engine.proofs.Pieces.{played}
 use Rattle.drm_engine.proofs.replaying.play.Goals as goal
 

@@ -1,5 +1,5 @@
 use Rattle.std.proofs.Common.{◌≡◌, ◌∷◌, ◌++◌, [], Err, sym, ◌∙◌}
-use Rattle.drm_script.specs.Answers.{line_of, text_of_answers}
+use Rattle.drm_answer.specs.Answers.{line_of, text_of_answers}
 use Rattle.drm_engine.proofs.Pieces.{turned, run_ends, one_more, told_more, told_less, told_all, told_front, nothing_told, any_err, any_ok, holds_of_ok, ok_of_no_err, no_ok_of_err, piece_kept, all_written}
 use Rattle.drm_engine.proofs.replaying.tell_answers.Goals as goal
 use Rattle.drm_engine.proofs.replaying.tell_answers.Goals.{then-is_err-2, else-is_err-2+then-len-ge-PIECE, else-is_err-2+else-len-ge-PIECE}

@@ -1,6 +1,6 @@
 use Rattle.std.proofs.Common.{List, length}
 use Rattle.drm_table.specs.declared.answer.Answer.{Answer}
-use Rattle.drm_script.specs.Answers.{text_of_answers}
+use Rattle.drm_answer.specs.Answers.{text_of_answers}
 use Rattle.drm_script.specs.Commands.{AllNamesExist}
 use Rattle.drm_engine.proofs.Pieces.{GoesOn, Told}
 use Rattle.drm_engine.proofs.replaying.tell_answers.Given as goal

@@ -1,7 +1,7 @@
 use Rattle.drm_journal.specs.Journal.{judge_journal}
 use Rattle.drm_journal.proofs.JournalReaders.{journal_stands}
 use Rattle.drm_journal.proofs.Taken.{judge_journal_taken}
-use Rattle.drm_script.proofs.Known.{spelled, not_read}
+use Rattle.drm_stream.proofs.Known.{spelled, not_read}
 use Rattle.drm_journal.proofs.input.read_journal_from.Goals as goal
 
 pub returns-in-Ok-clause-value : goal.returns-in-Ok-clause-value

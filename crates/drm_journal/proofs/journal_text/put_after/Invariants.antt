@@ -1,7 +1,7 @@
 use Rattle.std.proofs.Common.{◌≡◌, ◌++◌, drop, take}
 use Rattle.std.specs.Prelude.{flat_map}
 use Rattle.std.specs.List.{AllByRecursion}
-use Rattle.drm_script.specs.Grammar.{IsNumber}
+use Rattle.drm_parse.specs.Grammar.{IsNumber}
 use Rattle.drm_journal.specs.JournalText.{word_of_fence}
 use Rattle.drm_journal.proofs.journal_text.put_after.Given as goal
 

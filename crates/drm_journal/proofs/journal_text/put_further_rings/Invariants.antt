@@ -1,7 +1,7 @@
 use Rattle.std.proofs.Common.{◌≡◌, ◌++◌, drop, take}
 use Rattle.std.specs.List.{AllByRecursion}
-use Rattle.drm_script.specs.Answers.{separated}
-use Rattle.drm_script.specs.Grammar.{IsNumber}
+use Rattle.drm_answer.specs.Answers.{separated}
+use Rattle.drm_parse.specs.Grammar.{IsNumber}
 use Rattle.drm_journal.proofs.journal_text.put_further_rings.Given as goal
 
 abbrev pub invariant-loop-ring : goal.invariant-loop-ring

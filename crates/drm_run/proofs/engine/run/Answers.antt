@@ -1,7 +1,7 @@
 use Rattle.std.proofs.Common.{◌∙◌, rules, subst}
 use Rattle.std.specs.Io.KnownBytes.{Appends}
 use Rattle.drm_report.specs.Reports.{IsReport}
-use Rattle.drm_script.specs.Transfer.{AppendsFront}
+use Rattle.drm_stream.specs.Transfer.{AppendsFront}
 use Rattle.drm_run.proofs.Placed.{told}
 use Rattle.drm_run.proofs.engine.run.Goals as goal
 

@@ -1,6 +1,6 @@
 use Rattle.std.proofs.Common.{refl}
 use Rattle.std.specs.Io.KnownBytes.{Appends}
-use Rattle.drm_script.specs.Transfer.{AppendsFront}
+use Rattle.drm_stream.specs.Transfer.{AppendsFront}
 use Rattle.drm_engine.proofs.Pieces.{played}
 use Rattle.drm_words.specs.Lines.{text_with_words}
 use Rattle.drm_words.proofs.replaying.play.Goals as goal

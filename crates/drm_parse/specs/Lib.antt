@@ -1,0 +1,4 @@
+pub mod Grammar
+pub mod Header
+pub mod Job
+pub mod Spelling

@@ -1,6 +1,0 @@
-use Rattle.std.proofs.Common.{arith}
-use Rattle.std.proofs.lemmas.Grind.{common_steps}
-use Rattle.drm_script.proofs.answers.write_answers.Goals as goal
-
-pub loop-answer-preserved : goal.loop-answer-preserved
-loop-answer-preserved c = grind (arith, common_steps)

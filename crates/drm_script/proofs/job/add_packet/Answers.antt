@@ -1,5 +1,0 @@
-use Rattle.std.proofs.Common.{rules}
-use Rattle.drm_script.proofs.job.add_packet.Goals as goal
-
-pub returns : goal.returns
-returns c = search rules

@@ -1,7 +1,0 @@
-use Rattle.std.proofs.Common.{rules}
-use Rattle.drm_script.specs.Job.{number_alone}
-use Rattle.drm_script.proofs.job.last_number.Goals as goal
-
-pub returns-in-Some : goal.returns-in-Some
-unfolding number_alone
-returns-in-Some c = search rules

@@ -1,6 +1,0 @@
-use Rattle.std.proofs.Common.{rules}
-use Rattle.drm_script.proofs.InTurn.{fill_is_in_turn}
-use Rattle.drm_script.proofs.job.read_fill_pieces.Goals as goal
-
-pub returns-in_err-packet : goal.returns-in_err-packet
-returns-in_err-packet c = search (rules, fill_is_in_turn)

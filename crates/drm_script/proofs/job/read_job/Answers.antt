@@ -1,7 +1,0 @@
-use Rattle.std.proofs.Common.{rules}
-use Rattle.drm_script.specs.Job.{job_at}
-use Rattle.drm_script.proofs.job.read_job.Goals as goal
-
-pub returns : goal.returns
-unfolding job_at
-returns c = search rules

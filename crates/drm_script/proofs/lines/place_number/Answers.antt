@@ -1,5 +1,0 @@
-use Rattle.std.proofs.Common.{arith}
-use Rattle.drm_script.proofs.lines.place_number.Goals as goal
-
-pub place_digit-requires-clause-most : goal.place_digit-requires-clause-most
-place_digit-requires-clause-most c = omega arith

@@ -1,5 +1,0 @@
-use Rattle.std.proofs.Common.{rules}
-use Rattle.drm_script.proofs.lines.place_outcome.Goals as goal
-
-pub returns-in-Stopped-clause-text : goal.returns-in-Stopped-clause-text
-returns-in-Stopped-clause-text c = search rules

@@ -1,5 +1,0 @@
-use Rattle.std.proofs.Common.{rules}
-use Rattle.drm_script.proofs.lines.place_picked.Goals as goal
-
-pub returns-else-skipped-clause-text : goal.returns-else-skipped-clause-text
-returns-else-skipped-clause-text c = search rules
