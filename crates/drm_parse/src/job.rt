@@ -409,6 +409,10 @@ pub fn read_job(alloc: Global, words: &mut Words) -> Result<Draft, ReadError>
 }
 
 /// Reads the job that the words left spell into its place behind these, for which there is room.
+///
+/// # Errors
+///
+/// The first fault of the words, or want of memory. The list has one more job then too, which tells nothing.
 #[inline]
 pub fn push_job(alloc: Global, jobs: &mut Vec<Draft>, words: &mut Words) -> Result<(), ReadError>
     requires { vec_len jobs.old < vec_capacity jobs.old }

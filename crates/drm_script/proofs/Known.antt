@@ -1,6 +1,5 @@
 -- What the first bytes of a text tell of it.
-use Rattle.std.proofs.Common.{◌≡◌, ℕ, List, length, take, ap, arith, inl, inr}
-use Rattle.std.proofs.Common.{lt-ltb}
+use Rattle.std.proofs.Common.{◌≡◌, ℕ, List, length, take, ap, arith, inl, inr, lt-ltb}
 use Rattle.std.proofs.lemmas.Bool.{cases_lt}
 use Rattle.std.proofs.lemmas.List.{length-take, take_all}
 use Rattle.drm_script.specs.Run.{judge_run}
