@@ -4,19 +4,20 @@ use Rattle.std.specs.Prelude.{is_ok, is_err, OnOk, OnErr, true, false}
 use Rattle.std.specs.Io.KnownBytes.{Appends}
 use Rattle.std.proofs.KnownBytes.{Appends-nil, Appends-trans}
 use Rattle.std.proofs.Math.Seq.{take-append-add}
+use Rattle.std.proofs.lemmas.Grind.{flat_map-append}
 use Rattle.std.proofs.lemmas.List.{length-append, take-append-le, flat_map_more}
+use Rattle.drm_types.specs.declared.spec.DeviceSpec.{DeviceSpec}
 use Rattle.drm_table.specs.declared.answer.Answer.{Answer}
 use Rattle.drm_core.specs.declared.event.Event.{Event}
 use Rattle.drm_core.specs.State.{CoreState, opened}
 use Rattle.drm_core.specs.Headline.{Headline}
-use Rattle.drm_core.specs.Run.{EveryRunIsLawful, Run}
+use Rattle.drm_core.specs.Run.{AllNamesExist, EveryRunIsLawful, Run}
 use Rattle.drm_core.specs.Step.{Step}
 use Rattle.drm_answer.specs.Answers.{line_of, text_of_answers}
-use Rattle.drm_script.specs.Commands.{AllNamesExist}
 use Rattle.drm_script.specs.Kept.{AnswersFirst}
 use Rattle.drm_stream.specs.Transfer.{AppendsFront}
 use Rattle.drm_script.specs.declared.script.Script.{Script}
-use Rattle.drm_engine.specs.Replaying.{AppendsPiece, AreAnswers, IsAnswered}
+use Rattle.drm_engine.specs.Replaying.{AppendsPiece, AreAnswers, IsAnswered, Told}
 
 -- whatever run of the rest follows, it makes one of the whole with the answers so far
 abbrev pub GoesOn : CoreState → List Event → List Answer → CoreState → List Event → Type 0
@@ -33,13 +34,44 @@ pub turned : (start now next : CoreState) (events rest left : List Event) (so_fa
 turned start now next events rest left so_far answer first goes_on =
     turn start now next events left so_far first.0 answer first.2 (subst (GoesOn start events so_far now) first.1 goes_on)
 
+-- a run of some events, and one of those behind them
+run_behind : (start mid new : CoreState) (first rest : List Event) (answers more : List Answer) → Run start first answers mid → Run mid rest more new → Run start (first ++ rest) (answers ++ more) new
+run_behind start mid new [] rest [] more one other = subst (λ (s : CoreState). Run s rest more new) one other
+run_behind start mid new [] rest (answer ∷ answers) more one other = absurd one
+run_behind start mid new (event ∷ first) rest [] more one other = absurd one
+run_behind start mid new (event ∷ first) rest (answer ∷ answers) more one other = (one.0, one.1, run_behind one.0 mid new first rest answers more one.2 other)
+
+-- the same by all events of a chunk
+pub chunk_turned : (start now next : CoreState) (events chunk rest : List Event) (so_far answers : List Answer) → Run now chunk answers next
+    → GoesOn start events so_far now (chunk ++ rest) → GoesOn start events (so_far ++ answers) next rest
+chunk_turned start now next events chunk rest so_far answers run goes_on more new behind =
+    subst (λ given. Run start events given new) (sym (append_assoc so_far answers more)) (goes_on (answers ++ more) new (run_behind now next new chunk rest answers more run behind))
+
+-- the text of these answers, and then of those
+pub text_behind : (so_far answers : List Answer) → text_of_answers (so_far ++ answers) ≡ text_of_answers so_far ++ text_of_answers answers
+text_behind so_far answers = flat_map-append line_of so_far answers
+
+-- all events of a chunk name what is there, and so do those behind it
+pub names_first : (spec : DeviceSpec) (chunk rest : List Event) → AllNamesExist spec (chunk ++ rest) → AllNamesExist spec chunk
+names_first spec [] rest names = tt
+names_first spec (event ∷ chunk) rest names = (names.0, names_first spec chunk rest names.1)
+
+pub names_behind : (old new : DeviceSpec) (chunk rest : List Event) → new ≡ old → AllNamesExist old (chunk ++ rest) → AllNamesExist new rest
+names_behind old new [] rest same names = subst (λ spec. AllNamesExist spec rest) (sym same) names
+names_behind old new (event ∷ chunk) rest same names = names_behind old new chunk rest same names.1
+
 pub run_ends : (start now : CoreState) (events rest : List Event) (so_far : List Answer) → rest ≡ [] → GoesOn start events so_far now rest → Run start events so_far now
 run_ends start now events [] so_far none goes_on = subst (λ given. Run start events given now) (append-nil so_far) (goes_on [] now refl)
 run_ends start now events (event ∷ rest) so_far none goes_on = absurd (cc)
 
 -- the text of one answer more
-pub one_more : (so_far : List Answer) (answer : Answer) → text_of_answers (so_far ++ answer ∷ []) ≡ text_of_answers so_far ++ line_of answer
+one_more : (so_far : List Answer) (answer : Answer) → text_of_answers (so_far ++ answer ∷ []) ≡ text_of_answers so_far ++ line_of answer
 one_more so_far answer = sym (flat_map_more line_of [] so_far answer)
+
+-- the same behind other text
+pub one_more_behind : (text : List ℕ) (so_far : List Answer) (answer : Answer) → text ++ text_of_answers (so_far ++ answer ∷ []) ≡ (text ++ text_of_answers so_far) ++ line_of answer
+one_more_behind text so_far answer =
+    ap (λ (more : List ℕ). text ++ more) (one_more so_far answer) ∙ sym (append_assoc text (text_of_answers so_far) (line_of answer))
 
 -- a line has a byte at least
 pub line_is_long : (bytes : List ℕ) (answer : Answer) → 0 < length (bytes ++ line_of answer)
@@ -64,11 +96,6 @@ pub front_of_more : (a b : Option (List ℕ)) (text more : List ℕ) → Appends
 front_of_more a b text more p =
     let some : p.0 < length text = p.1 in
     (p.0, omega (arith, some, length-append text more), subst (Appends a b) (sym (take-append-le p.0 text more (omega (arith, some)))) p.2)
-
--- what was told of a text: all but its last piece, or a front where it could not be told
-abbrev pub Told : {E : Type 0} → Option (List ℕ) → Option (List ℕ) → Result (Unit {0}) E → List ℕ → List ℕ → Type 0
-Told old new (Ok done) text piece = AppendsPiece old new text piece
-Told old new (Err e) text piece = AppendsFront old new text
 
 -- what is still to be written of what was not written at all, and of what was written whole
 pub piece_kept : (a : Option (List ℕ)) (piece : List ℕ) → AppendsPiece a a piece piece

@@ -1,5 +1,5 @@
 -- A replay: what is written answers the script that is read.
-use Rattle.std.specs.Prelude.{◌≡◌, ℕ, List, ◌++◌, Option, Ok, Err, IfSome}
+use Rattle.std.specs.Prelude.{◌≡◌, ℕ, List, ◌++◌, Option, Result, Ok, Err, IfSome}
 use Rattle.std.specs.Io.KnownBytes.{Appends, Keeps}
 use Rattle.drm_table.specs.declared.answer.Answer.{Answer}
 use Rattle.drm_core.specs.State.{CoreState, opened}
@@ -38,6 +38,11 @@ IsAnswered start events final Hold = (answers : List Answer) × Run start events
 -- the writer gained this text but for its last piece, which is still to be written
 abbrev pub AppendsPiece : Option (List ℕ) → Option (List ℕ) → List ℕ → List ℕ → Type 0
 AppendsPiece old new text piece = (written : List ℕ) × Appends old new written × (text ≡ written ++ piece)
+
+-- what was told of a text: all but its last piece, or a front where it could not be told
+abbrev pub Told : {E : Type 0} → Option (List ℕ) → Option (List ℕ) → Result (Unit {0}) E → List ℕ → List ℕ → Type 0
+Told old new (Ok done) text piece = AppendsPiece old new text piece
+Told old new (Err e) text piece = AppendsFront old new text
 
 -- what each ending says of a script that was read, and of what the writer holds before and after
 abbrev pub Plays : Script → Option (List ℕ) → Option (List ℕ) → Ending → Type 0

@@ -10,7 +10,6 @@ mod checking;
 mod comparison;
 mod ending;
 mod engine;
-mod leaving;
 mod piece;
 mod replaying;
 mod serializing;

@@ -1,17 +1,17 @@
 //! The engine `replay`: from a script to the answers of the core.
 
-ghost use Rattle.std.specs.Prelude.{◌≡◌, [], None, OnErr, OnOk};
+ghost use Rattle.std.specs.Prelude.{◌≡◌, ◌++◌, ℕ, [], List, None, Option, OnErr, OnOk};
 ghost use Rattle.std.specs.Io.KnownBytes.{Appends};
 ghost use Rattle.drm_types.specs.Limits.{spec_fault};
 ghost use Rattle.drm_answer.specs.Answers.{text_of_answers};
-ghost use Rattle.drm_script.specs.Commands.{AllNamesExist};
+ghost use Rattle.drm_core.specs.Run.{AllNamesExist};
 ghost use Rattle.drm_stream.specs.Transfer.{AppendsFront};
-ghost use Rattle.drm_engine.specs.Replaying.{AppendsPiece, IsAnswered, Plays, Replays};
+ghost use Rattle.drm_engine.specs.Replaying.{AppendsPiece, IsAnswered, Plays, Replays, Told};
 
 use crate::ending::Ending;
 use crate::piece::Piece;
 use drm_core::{Core, every_run_is_lawful, headline};
-use drm_script::{Events, Script, read_script_from};
+use drm_script::{Chunk, Events, Script, read_script_from};
 use drm_stream::put_all;
 use std::alloc::{AllocError, Global};
 use std::io::{self, Read, Write};
@@ -33,8 +33,38 @@ fn write_piece<W: Write>(writer: &mut W, piece: &mut Piece) -> io::Result<()>
     Ok(())
 }
 
-/// Gives the core all events, and tells the answer to each while it can be told: its line comes behind those of a piece, which
-/// is written where it is long enough. No answer is kept, and of the text no more than a piece.
+/// Gives the core all events of a chunk, and tells the answer to each while it can be told: its line comes behind those of a
+/// piece, which is written where it is long enough. Its loop stands in a function of its own: with that over the chunks around
+/// it, LLVM stores zeros for each event.
+fn tell_chunk<W: Write>(
+    alloc: Global,
+    core: &mut Core,
+    chunk: Chunk,
+    piece: &mut Piece,
+    writer: &mut W,
+    before: io::Result<()>,
+) -> io::Result<()>
+    requires names { AllNamesExist core.old.device.spec chunk }
+    ensures told { (old : Option (List ℕ)) (text : List ℕ) → Told old (W.contents writer.old) before text piece.old → IsAnswered core.old chunk core.new (λ answers. Told old (W.contents writer.new) result (text ++ text_of_answers answers) piece.new) }
+    ensures spec { core.new.device.spec ≡ core.old.device.spec }
+{
+    let mut told = before;
+    let mut rest = chunk.into_left();
+    while let Some(answer) = rest.apply_next(alloc, core) {
+        if told.is_err() {
+            continue;
+        }
+        if piece.put_line(&answer).is_err() {
+            told = Err(io::Error::from(AllocError));
+        } else if piece.len() >= PIECE {
+            told = write_piece(writer, piece);
+        }
+    }
+    told
+}
+
+/// Gives the core all events, and tells the answer to each while it can be told. No answer is kept, of the text no more than a
+/// piece, and of the events no chunk behind its last.
 fn tell_answers<W: Write>(
     alloc: Global,
     core: &mut Core,
@@ -48,16 +78,9 @@ fn tell_answers<W: Write>(
     ensures err { OnErr result (IsAnswered core.old events core.new (λ answers. AppendsFront (W.contents writer.old) (W.contents writer.new) (text_of_answers answers))) }
 {
     let mut told = Ok(());
-    let mut rest = events.into_left();
-    while let Some(answer) = rest.apply_next(alloc, core) {
-        if told.is_err() {
-            continue;
-        }
-        if piece.put_line(&answer).is_err() {
-            told = Err(io::Error::from(AllocError));
-        } else if piece.len() >= PIECE {
-            told = write_piece(writer, piece);
-        }
+    let mut chunks = events.into_chunks();
+    while let Some(chunk) = chunks.next() {
+        told = tell_chunk(alloc, core, chunk, piece, writer, told);
     }
     told
 }

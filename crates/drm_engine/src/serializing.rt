@@ -2,23 +2,21 @@
 
 ghost use Rattle.std.specs.Prelude.{◌≡◌, IfOk};
 ghost use Rattle.drm_engine.specs.Journals.{Serializes};
-ghost use Rattle.drm_journal.specs.Leaving.{left_by};
 ghost use Rattle.drm_engine.specs.Leaving.{text_of_buffers};
 
 use crate::ending::Ending;
-use crate::leaving::run_journal;
 use drm_answer::write_answers;
 use drm_core::Answer;
-use drm_journal::{Journal, read_journal_from};
+use drm_journal::run_journal_from;
 use drm_stream::put_all;
+use drm_types::Sequence;
 use std::alloc::{AllocError, Global};
 use std::io::{Read, Write};
 
-/// The lines of the buffers that a journal leaves.
-fn lines(alloc: Global, journal: &Journal) -> Result<Vec<u8>, AllocError>
-    ensures { IfOk result (λ text. text.items ≡ text_of_buffers (left_by journal.now)) }
+/// The lines of these buffers.
+fn lines(alloc: Global, buffers: Sequence<Sequence<u8>>) -> Result<Vec<u8>, AllocError>
+    ensures { IfOk result (λ text. text.items ≡ text_of_buffers buffers) }
 {
-    let buffers = run_journal(alloc, journal)?;
     let dumps: Vec<Answer> = buffers
         .into_vec()
         .into_iter()
@@ -32,11 +30,11 @@ fn lines(alloc: Global, journal: &Journal) -> Result<Vec<u8>, AllocError>
 pub fn serial<R: Read, W: Write>(alloc: Global, reader: &mut R, writer: &mut W) -> Ending
     ensures { Serializes (R.remaining reader.old) (W.contents writer.old) (W.contents writer.new) result }
 {
-    let journal = match read_journal_from(alloc, reader) {
-        Ok(journal) => journal,
+    let buffers = match run_journal_from(alloc, reader) {
+        Ok(buffers) => buffers,
         Err(error) => return Ending::of_input(error),
     };
-    let Ok(text) = lines(alloc, &journal) else {
+    let Ok(text) = lines(alloc, buffers.left) else {
         return Ending::NoMemory;
     };
     match put_all(writer, &text) {

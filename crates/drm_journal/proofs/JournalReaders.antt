@@ -139,7 +139,7 @@ data Tells (spec : DeviceSpec) (reading : Reading) (words : Line) (next : Readin
   of_the_end : words ≡ end_words → length reading.finals ≡ length spec.buffers → reading.is_over ≡ false → next ≡ record reading { is_over = true }
       → Tells spec reading words next
 
-job_takes : (spec : DeviceSpec) (reading : Reading) (n : ℕ) (words : Words) (next : Reading) → with_job spec reading n words ≡ Ok next → Tells spec reading (codes "job" ∷ words.rest.parts) next
+job_takes : (spec : DeviceSpec) (reading : Reading) (n : ℕ) (words : Words) (next : Reading) → with_job spec (length reading.jobs) reading n words ≡ Ok next → Tells spec reading (codes "job" ∷ words.rest.parts) next
 job_takes spec reading n words next e =
     let add = λ (armed : JournalJob). let r : Reading = record reading { jobs = reading.jobs ++ armed ∷ [] } in r in
     let t = test_then (is_nil reading.finals && not reading.is_over) (record_at spec (length reading.jobs) words >>= λ armed. Ok (add armed)) (out_of_order n) next e in
@@ -166,18 +166,18 @@ end_takes spec reading n words next e =
     let r = no_word.takes words a.0 a.1 in
     of_the_end (ap (λ (p : Line). codes "end" ∷ p) r.0) (eqb-true _ _ places.0) (not_true reading.is_over places.1) (sym (ok_is over next a.2))
 
-body_takes : (spec : DeviceSpec) (reading : Reading) (n : ℕ) (keyword : Keyword) (words : Words) (next : Reading) → with_body spec reading n keyword words ≡ Ok next
+body_takes : (spec : DeviceSpec) (reading : Reading) (n : ℕ) (keyword : Keyword) (words : Words) (next : Reading) → with_body spec (length reading.jobs) reading n keyword words ≡ Ok next
     → Tells spec reading (keyword_text keyword ∷ words.rest.parts) next
 body_takes spec reading n line.Job words next e = job_takes spec reading n words next e
 body_takes spec reading n line.Final words next e = final_takes spec reading n words next e
 body_takes spec reading n (line.Command command.End) words next e = end_takes spec reading n words next e
 body_takes spec reading n other words next e = absurd (cc)
 
-line_takes : (spec : DeviceSpec) (reading : Reading) (n : ℕ) (bytes : List ℕ) (next : Reading) → journal_line spec reading n bytes ≡ Ok next
+line_takes : (spec : DeviceSpec) (reading : Reading) (n : ℕ) (bytes : List ℕ) (next : Reading) → journal_line spec (length reading.jobs) reading n bytes ≡ Ok next
     → (words : Line) × (bytes ≡ join_with_byte 32 words) × Tells spec reading words next
 unfolding journal_line
 line_takes spec reading n bytes next e =
-    let a = bind_ok (start_at n bytes) (λ start. with_body spec reading n start.0 start.1) next e in
+    let a = bind_ok (start_at n bytes) (λ start. with_body spec (length reading.jobs) reading n start.0 start.1) next e in
     (keyword_text a.0.0 ∷ a.0.1.rest.parts, start_takes n bytes a.0 a.1, body_takes spec reading n a.0.0 a.0.1 next a.2)
 
 -- ---- all lines behind the header
@@ -260,18 +260,30 @@ end_more spec reading bytes rest out is going b =
       read = b.read;
     }
 
+-- what holds of what was read holds with one more line
+tells_read : (spec : DeviceSpec) (reading : Reading) (words : Line) (next : Reading) → IsRead spec reading → Tells spec reading words next → IsRead spec next
+tells_read spec reading words next read (of_a_job armed spelled fits lawful makes first going) =
+    subst (λ (r : Reading). IsRead spec r) (sym makes) (one_more_job spec reading armed read lawful)
+tells_read spec reading words next read (of_a_buffer final spelled fits size makes) =
+    subst (λ (r : Reading). IsRead spec r) (sym makes) (one_more_final spec reading (length final) final read size refl)
+tells_read spec reading words next read (of_the_end spelled all going makes) =
+    subst (λ (r : Reading). IsRead spec r) (sym makes) (read.0, read.1, λ _. all)
+
+pub line_keeps : (spec : DeviceSpec) (reading : Reading) (n : ℕ) (bytes : List ℕ) (next : Reading) → IsRead spec reading → journal_line spec (length reading.jobs) reading n bytes ≡ Ok next
+    → IsRead spec next
+line_keeps spec reading n bytes next read e =
+    let told = line_takes spec reading n bytes next e in
+    tells_read spec reading told.0 next read told.2
+
 one_line : (spec : DeviceSpec) (reading : Reading) (bytes : List ℕ) (rest : List (List ℕ)) (out : Reading) (words : Line) (next : Reading) → IsRead spec reading → bytes ≡ join_with_byte 32 words
-    → Tells spec reading words next → (IsRead spec next → Body spec next rest out) → Body spec reading (bytes ∷ rest) out
-one_line spec reading bytes rest out words next read is (of_a_job armed spelled fits lawful makes first going) again =
-    let more = again (subst (λ (r : Reading). IsRead spec r) (sym makes) (one_more_job spec reading armed read lawful)) in
+    → Tells spec reading words next → Body spec next rest out → Body spec reading (bytes ∷ rest) out
+one_line spec reading bytes rest out words next read is (of_a_job armed spelled fits lawful makes first going) more =
     job_more spec reading bytes rest out armed (is ∙ ap (join_with_byte 32) spelled) fits first going (subst (λ (r : Reading). Body spec r rest out) makes more)
-one_line spec reading bytes rest out words next read is (of_a_buffer final spelled fits size makes) again =
-    let more = again (subst (λ (r : Reading). IsRead spec r) (sym makes) (one_more_final spec reading (length final) final read size refl)) in
+one_line spec reading bytes rest out words next read is (of_a_buffer final spelled fits size makes) more =
     let less : length reading.finals < length spec.buffers = below_length spec.buffers (length reading.finals) (length final) size in
     let going = not_over reading.is_over (λ ended. absurd (let all : length reading.finals ≡ length spec.buffers = read.2 ended in omega arith)) in
     final_more spec reading bytes rest out final (is ∙ ap (join_with_byte 32) spelled) fits going (subst (λ (r : Reading). Body spec r rest out) makes more)
-one_line spec reading bytes rest out words next read is (of_the_end spelled all going makes) again =
-    let more = again (subst (λ (r : Reading). IsRead spec r) (sym makes) (read.0, read.1, λ _. all)) in
+one_line spec reading bytes rest out words next read is (of_the_end spelled all going makes) more =
     end_more spec reading bytes rest out (is ∙ ap (join_with_byte 32) spelled) going (subst (λ (r : Reading). Body spec r rest out) makes more)
 
 nothing_more : (reading : Reading) → reading.is_over ≡ true → reading ≡ with_more reading [] []
@@ -294,9 +306,16 @@ lines_take spec reading n bytes [] out read e =
       read = subst (λ (r : Reading). IsRead spec r) t.1 read;
     }
 lines_take spec reading n bytes (next ∷ rest) out read e =
-    let a = bind_ok (journal_line spec reading n bytes) (λ r. body_of spec r (n + 1) next rest) out e in
+    let a = bind_ok (journal_line spec (length reading.jobs) reading n bytes) (λ r. body_of spec r (n + 1) next rest) out e in
     let l = line_takes spec reading n bytes a.0 a.1 in
-    one_line spec reading bytes (next ∷ rest) out l.0 a.0 read l.1 l.2 (λ r. lines_take spec a.0 (n + 1) next rest out r a.2)
+    one_line spec reading bytes (next ∷ rest) out l.0 a.0 read l.1 l.2 (lines_take spec a.0 (n + 1) next rest out (tells_read spec reading l.0 a.0 read l.2) a.2)
+
+-- what was read up to the end
+pub body_read : (spec : DeviceSpec) (reading : Reading) (n : ℕ) (bytes : List ℕ) (more : List (List ℕ)) (out : Reading) → IsRead spec reading → body_of spec reading n bytes more ≡ Ok out
+    → IsRead spec out × (out.is_over ≡ true)
+body_read spec reading n bytes more out read e =
+    let body = lines_take spec reading n bytes more out read e in
+    (body.read, ap (λ (r : Reading). r.is_over) body.adds)
 
 -- ---- what is written
 
@@ -304,17 +323,17 @@ body_in : DeviceSpec → Reading → ℕ → List (List ℕ) → Result Reading 
 body_in spec reading n parts = body_of spec reading n (left_in n parts).bytes (left_in n parts).more
 
 one_read : (spec : DeviceSpec) (reading : Reading) (n : ℕ) (bytes : List ℕ) (more : List (List ℕ)) → 0 < length more
-    → body_in spec reading n (bytes ∷ more) ≡ (journal_line spec reading n bytes >>= λ r. body_in spec r (n + 1) more)
+    → body_in spec reading n (bytes ∷ more) ≡ (journal_line spec (length reading.jobs) reading n bytes >>= λ r. body_in spec r (n + 1) more)
 unfolding body_of body_in
 one_read spec reading n bytes [] some = absurd (omega arith)
 one_read spec reading n bytes (next ∷ rest) some = refl
 
 line_again : (spec : DeviceSpec) (reading : Reading) (n : ℕ) (keyword : Keyword) (fields : Line) (next : Reading) → AreWords fields
-    → ((words : Words) → words.rest.parts ≡ fields → with_body spec reading n keyword words ≡ Ok next) → journal_line spec reading n (join_with_byte 32 (keyword_text keyword ∷ fields)) ≡ Ok next
+    → ((words : Words) → words.rest.parts ≡ fields → with_body spec (length reading.jobs) reading n keyword words ≡ Ok next) → journal_line spec (length reading.jobs) reading n (join_with_byte 32 (keyword_text keyword ∷ fields)) ≡ Ok next
 unfolding journal_line
 line_again spec reading n keyword fields next are read = let s = start_again n keyword fields are in rw s.1 (read s.0 s.2)
 
-next_line : (spec : DeviceSpec) (reading : Reading) (n : ℕ) (bytes : List ℕ) (more : List (List ℕ)) (next : Reading) → 0 < length more → journal_line spec reading n bytes ≡ Ok next
+next_line : (spec : DeviceSpec) (reading : Reading) (n : ℕ) (bytes : List ℕ) (more : List (List ℕ)) (next : Reading) → 0 < length more → journal_line spec (length reading.jobs) reading n bytes ≡ Ok next
     → body_in spec reading n (bytes ∷ more) ≡ body_in spec next (n + 1) more
 next_line spec reading n bytes more next some read =
     one_read spec reading n bytes more some ∙ ap (λ (r : Result Reading Fault). r >>= λ r. body_in spec r (n + 1) more) read
@@ -392,17 +411,17 @@ body_graphic js fs fit fits =
 
 -- ---- journals
 
-abbrev the_journal : DeviceSpec → Reading → JournalParts
+abbrev pub the_journal : DeviceSpec → Reading → JournalParts
 the_journal spec reading = record { spec = spec; jobs = reading.jobs; finals = reading.finals }
 
-none_read : (spec : DeviceSpec) → IsRead spec nothing_read
+pub none_read : (spec : DeviceSpec) → IsRead spec nothing_read
 none_read spec = (tt, refl, λ ended. never _ ended refl)
 
 take_all_lengths : (xs : List ℕ) (n : ℕ) → n ≡ length xs → take n xs ≡ xs
 take_all_lengths xs n is = ap (λ (k : ℕ). take k xs) is ∙ take-length xs
 
 -- what was read up to the end is a journal
-is_journal : (spec : DeviceSpec) (reading : Reading) → spec_fault spec ≡ None → IsRead spec reading → reading.is_over ≡ true → IsJournal (the_journal spec reading)
+pub is_journal : (spec : DeviceSpec) (reading : Reading) → spec_fault spec ≡ None → IsRead spec reading → reading.is_over ≡ true → IsJournal (the_journal spec reading)
 is_journal spec reading fits read ended =
     let all : length reading.finals ≡ length spec.buffers = read.2 ended in
     let lengths : length (map length spec.buffers) ≡ length spec.buffers = length-map spec.buffers length in

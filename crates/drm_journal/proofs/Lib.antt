@@ -4,3 +4,4 @@ pub mod JournalReaders
 pub mod JournalSpelled
 pub mod Records
 pub mod Taken
+pub mod Turns

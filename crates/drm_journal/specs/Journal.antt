@@ -87,11 +87,11 @@ final_at size words =
     bytes_at words >>= λ bytes.
     if length bytes.0 == size then (end_at bytes.1 >>= λ _. Ok bytes.0) else Err (fault_here words what.Number)
 
--- what was read with one more line of a job, of a buffer, or the end
-abbrev pub with_job : DeviceSpec → Reading → ℕ → Words → Result Reading Fault
-with_job spec reading line words =
+-- what was read with one more line: of a job, which has this number, of a buffer, or the end
+abbrev pub with_job : DeviceSpec → ℕ → Reading → ℕ → Words → Result Reading Fault
+with_job spec number reading line words =
     if is_nil reading.finals && not reading.is_over
-    then (record_at spec (length reading.jobs) words >>= λ job. Ok (record reading { jobs = reading.jobs ++ job ∷ [] }))
+    then (record_at spec number words >>= λ job. Ok (record reading { jobs = reading.jobs ++ job ∷ [] }))
     else Err (out_of_order line)
 
 -- how many bytes the buffer at this place has
@@ -110,22 +110,22 @@ with_end spec reading line words =
     then (end_at words >>= λ _. Ok (record reading { is_over = true }))
     else Err (out_of_order line)
 
-abbrev pub with_body : DeviceSpec → Reading → ℕ → Keyword → Words → Result Reading Fault
-with_body spec reading n line.Job words = with_job spec reading n words
-with_body spec reading n line.Final words = with_final spec reading n words
-with_body spec reading n (line.Command command.End) words = with_end spec reading n words
-with_body spec reading n other words = Err (out_of_order n)
+abbrev pub with_body : DeviceSpec → ℕ → Reading → ℕ → Keyword → Words → Result Reading Fault
+with_body spec number reading n line.Job words = with_job spec number reading n words
+with_body spec number reading n line.Final words = with_final spec reading n words
+with_body spec number reading n (line.Command command.End) words = with_end spec reading n words
+with_body spec number reading n other words = Err (out_of_order n)
 
--- what was read with one more line
-unfoldable pub journal_line : DeviceSpec → Reading → ℕ → List ℕ → Result Reading Fault
-journal_line spec reading n bytes = start_at n bytes >>= λ start. with_body spec reading n start.0 start.1
+-- what was read with one more line, whose job has this number if it is one of a job
+unfoldable pub journal_line : DeviceSpec → ℕ → Reading → ℕ → List ℕ → Result Reading Fault
+journal_line spec number reading n bytes = start_at n bytes >>= λ start. with_body spec number reading n start.0 start.1
 
 -- what was read, and the lines up to the end of the text
 unfoldable pub body_of : DeviceSpec → Reading → ℕ → List ℕ → List (List ℕ) → Result Reading Fault
 body_of spec reading n bytes [] =
     last_line n bytes >>= λ _. if reading.is_over then Ok reading else Err (out_of_order n)
 body_of spec reading n bytes (next ∷ rest) =
-    journal_line spec reading n bytes >>= λ more. body_of spec more (n + 1) next rest
+    journal_line spec (length reading.jobs) reading n bytes >>= λ more. body_of spec more (n + 1) next rest
 
 abbrev pub nothing_read : Reading
 nothing_read = record { jobs = []; finals = []; is_over = false }

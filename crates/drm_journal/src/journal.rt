@@ -87,10 +87,23 @@ impl Journal {
 
 /// What was read of a journal behind its header.
 #[derive(Drop)]
-pub struct Reading {
-    jobs: Sequence<JournalJob>,
-    finals: Sequence<Sequence<u8>>,
-    is_over: bool,
+pub(crate) struct Reading {
+    pub(crate) jobs: Sequence<JournalJob>,
+    pub(crate) finals: Sequence<Sequence<u8>>,
+    pub(crate) is_over: bool,
+}
+
+impl Reading {
+    /// Nothing was read yet.
+    pub(crate) fn new(alloc: Global) -> Reading
+        ensures { result ≡ nothing_read }
+    {
+        Reading {
+            jobs: Sequence::new(alloc),
+            finals: Sequence::new(alloc),
+            is_over: false,
+        }
+    }
 }
 
 fn read_status(word: &[u8]) -> Option<Option<Outcome>>
@@ -148,6 +161,7 @@ fn can_be_armed(
 }
 
 /// The job with what was told of it, or the fault where the device can't have armed it.
+#[inline(always)]
 #[tactic(auto, unfolding(crate::specs::Journal::record_or, drm_parse::specs::Job::is_job))]
 fn check_record(
     spec: &DeviceSpec,
@@ -201,43 +215,40 @@ fn read_final(alloc: Global, size: usize, words: &mut Words) -> Result<Sequence<
     Ok(bytes)
 }
 
-/// Adds the job, the bytes or the end that a line tells.
+/// Adds the job, the bytes or the end that a line tells. A job gets this number.
 fn add_body(
     alloc: Global,
     spec: &DeviceSpec,
+    number: usize,
     reading: &mut Reading,
     keyword: Keyword,
     words: &mut Words,
     line: u32,
 ) -> Result<(), ReadError>
-    requires { IsRead spec.now reading.old }
-    ensures value { Gives (λ _. reading.new) result (with_body spec.now reading.old line keyword words.old) }
-    ensures read { OnOk result (IsRead spec.now reading.new) }
+    ensures { Gives (λ _. reading.new) result (with_body spec.now number reading.old line keyword words.old) }
 {
     match keyword {
-        Keyword::Job => add_job(alloc, spec, reading, words, line),
+        Keyword::Job => add_job(alloc, spec, number, reading, words, line),
         Keyword::Final => add_final(alloc, spec, reading, words, line),
         Keyword::Command(Command::End) => Ok(add_end(spec, reading, words, line)?),
         _ => Err(ReadError::Fault(order_fault(line))),
     }
 }
 
-#[tactic(auto, using(crate::proofs::Records::one_more_job))]
 fn add_job(
     alloc: Global,
     spec: &DeviceSpec,
+    number: usize,
     reading: &mut Reading,
     words: &mut Words,
     line: u32,
 ) -> Result<(), ReadError>
-    requires { IsRead spec.now reading.old }
-    ensures value { Gives (λ _. reading.new) result (with_job spec.now reading.old line words.old) }
-    ensures read { OnOk result (IsRead spec.now reading.new) }
+    ensures { Gives (λ _. reading.new) result (with_job spec.now number reading.old line words.old) }
 {
     if !reading.finals.is_empty() || reading.is_over {
         return Err(ReadError::Fault(order_fault(line)));
     }
-    let job = read_record(alloc, spec, reading.jobs.len(), words)?;
+    let job = read_record(alloc, spec, number, words)?;
     reading.jobs.push(job)?;
     Ok(())
 }
@@ -259,9 +270,7 @@ fn add_final(
     words: &mut Words,
     line: u32,
 ) -> Result<(), ReadError>
-    requires { IsRead spec.now reading.old }
-    ensures value { Gives (λ _. reading.new) result (with_final spec.now reading.old line words.old) }
-    ensures read { OnOk result (IsRead spec.now reading.new) }
+    ensures { Gives (λ _. reading.new) result (with_final spec.now reading.old line words.old) }
 {
     let size = size_of_buffer(spec, reading.finals.len()).ok_or(order_fault(line))?;
     let bytes = read_final(alloc, size, words)?;
@@ -275,9 +284,7 @@ fn add_end(
     words: &mut Words,
     line: u32,
 ) -> Result<(), Fault>
-    requires { IsRead spec.now reading.old }
-    ensures value { Reads (λ _. reading.new) result (with_end spec.now reading.old line words.old) }
-    ensures read { OnOk result (IsRead spec.now reading.new) }
+    ensures { Reads (λ _. reading.new) result (with_end spec.now reading.old line words.old) }
 {
     if reading.finals.len() != spec.buffers.len() || reading.is_over {
         return Err(order_fault(line));
@@ -287,35 +294,38 @@ fn add_end(
     Ok(())
 }
 
-/// Adds what a line tells.
+/// Adds what a line tells. A job gets this number.
 #[tactic(auto, unfolding(crate::specs::Journal::journal_line))]
-fn add_line(
+pub(crate) fn add_line(
     alloc: Global,
     spec: &DeviceSpec,
+    number: usize,
     reading: &mut Reading,
     line: &Line,
 ) -> Result<(), ReadError>
-    requires { IsRead spec.now reading.old }
-    ensures value { Gives (λ _. reading.new) result (journal_line spec.now reading.old line.now.number line.now.bytes) }
-    ensures read { OnOk result (IsRead spec.now reading.new) }
+    ensures { Gives (λ _. reading.new) result (journal_line spec.now number reading.old line.now.number line.now.bytes) }
 {
     let (keyword, mut words) = line.start()?;
-    add_body(alloc, spec, reading, keyword, &mut words, line.number())
+    add_body(
+        alloc,
+        spec,
+        number,
+        reading,
+        keyword,
+        &mut words,
+        line.number(),
+    )
 }
 
 /// What the lines that are left tell.
-#[tactic(auto, unfolding(crate::specs::Journal::body_of))]
+#[tactic(auto, unfolding(crate::specs::Journal::body_of), using(crate::proofs::JournalReaders::none_read))]
 fn read_body(alloc: Global, spec: &DeviceSpec, lines: &mut Lines) -> Result<Reading, ReadError>
     ensures value { Gives (λ reading. reading) result (body_of spec.now nothing_read lines.old.line lines.old.bytes lines.old.more) }
     ensures read { IfOk result (λ reading. IsRead spec.now reading × (reading.is_over ≡ true)) }
 {
-    let mut reading = Reading {
-        jobs: Sequence::new(alloc),
-        finals: Sequence::new(alloc),
-        is_over: false,
-    };
+    let mut reading = Reading::new(alloc);
     while let Some(line) = lines.next() {
-        add_line(alloc, spec, &mut reading, &line)?;
+        add_line(alloc, spec, reading.jobs.len(), &mut reading, &line)?;
     }
     lines.end()?;
     if !reading.is_over {

@@ -11,8 +11,10 @@ mod input;
 mod journal;
 mod journal_text;
 mod laws;
+mod running;
 
 pub use input::read_journal_from;
 pub use journal::{Journal, JournalJob, read_journal};
 pub use journal_text::write_journal;
 pub use laws::{a_text_spells_one_journal, journals_are_judged_as_spelled};
+pub use running::{JournalBuffers, run_journal, run_journal_from};

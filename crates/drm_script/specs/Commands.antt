@@ -1,7 +1,5 @@
 -- Command lines: the events of a script.
-use Rattle.std.specs.Prelude.{ℕ, Bool, true, false, ◌+◌, ◌^◌, ◌-◌, List, [], ◌∷◌, ◌++◌, length, Option, Some, None, Result, Ok, IsTrue}
-use Rattle.std.specs.List.{AllByRecursion}
-use Rattle.drm_core.specs.Names.{names_exist}
+use Rattle.std.specs.Prelude.{ℕ, Bool, true, false, ◌+◌, ◌^◌, ◌-◌, List, [], ◌∷◌, ◌++◌, length, Option, Some, None, Result, Ok}
 use Rattle.drm_core.specs.declared.event.Event.{Event}
 use Rattle.drm_core.specs.declared.event.Event.TheVariants as event
 use Rattle.drm_job.specs.declared.Draft.{Draft}
@@ -103,7 +101,3 @@ unfoldable pub events_of : DeviceSpec → List Event → ℕ → List ℕ → Li
 events_of spec events line bytes [] = last_line line bytes >>= λ _. Ok events
 events_of spec events line bytes (next ∷ rest) =
     event_line spec line bytes >>= λ event. events_of spec (events ++ event ∷ []) (line + 1) next rest
-
--- each event names only rings, entities, contexts and buffers that are there
-abbrev pub AllNamesExist : DeviceSpec → List Event → Type 0
-AllNamesExist spec events = AllByRecursion (λ event. IsTrue (names_exist spec event)) events

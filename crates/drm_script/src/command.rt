@@ -5,7 +5,8 @@ ghost use Rattle.drm_job.specs.declared.Draft.{Draft as DraftValue};
 ghost use Rattle.drm_text.specs.Reading.{Reads, Gives};
 ghost use Rattle.drm_text.specs.declared.keywords.Command.TheVariants as command;
 ghost use Rattle.drm_script.specs.Kept.{brings_job, event_with};
-ghost use Rattle.drm_script.specs.Commands.{AllNamesExist, with_event, with_job_at, context_and_buffer_at, ring_and_moment_at, names_context, command_of, event_at, event_line};
+ghost use Rattle.drm_core.specs.Run.{AllNamesExist};
+ghost use Rattle.drm_script.specs.Commands.{with_event, with_job_at, context_and_buffer_at, ring_and_moment_at, names_context, command_of, event_at, event_line};
 
 use crate::events::Events;
 use crate::kept::Kept;

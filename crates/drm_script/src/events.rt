@@ -1,39 +1,37 @@
-//! The events of a script: a list that takes little memory, and the events that are left of it.
+//! The events of a script, in chunks: a list that takes little memory, and gives it back as they happen.
 
-ghost use Rattle.std.specs.Prelude.{◌≡◌, [], ◌∷◌, ◌++◌, true, false, length, IfSome, IfNone, OnOk, OnErr};
+ghost use Rattle.std.specs.Prelude.{◌≡◌, [], ◌∷◌, ◌++◌, true, false, IfSome, IfNone, OnOk, OnErr};
 ghost use Rattle.std.specs.Option.{option_to_list};
 ghost use Rattle.drm_job.specs.declared.Draft.{Draft as DraftValue};
 ghost use Rattle.drm_text.specs.Reading.{Gives};
-ghost use Rattle.drm_script.specs.Commands.{AllNamesExist, with_job_at};
-ghost use Rattle.drm_script.specs.Kept.{AnswersFirst, brings_job, event_of, event_with};
+ghost use Rattle.drm_script.specs.Chunks.{all_of};
+ghost use Rattle.drm_script.specs.Commands.{with_job_at};
+ghost use Rattle.drm_script.specs.Kept.{brings_job, event_of, event_with};
 
-use crate::kept::{Kept, next_job};
-use drm_core::{Answer, Core, Event};
-use drm_job::Draft;
-use drm_parse::push_job;
+use crate::chunk::{Chunk, ChunkLeft};
+use crate::kept::Kept;
+use drm_core::Event;
 use drm_text::{ReadError, Words};
 use std::alloc::{AllocError, Global};
 use std::marker::Model;
+use std::mem;
 use std::vec::IntoIter;
 
-/// Events in their order. Contracts see them as a list; in memory each takes no more than it needs, and the jobs that they
-/// bring stand beside, in their order.
+/// Events in their order. Contracts see them as a list.
 #[derive(Drop)]
 pub struct Events {
-    kept: Vec<Kept>,
-    jobs: Vec<Draft>,
+    full: Vec<Chunk>,
+    last: Chunk,
 }
 
 impl Model for Events {
-    ghost use Rattle.std.specs.Prelude.{List};
+    ghost use Rattle.std.specs.Prelude.{List, ◌++◌};
     ghost use Rattle.drm_core.specs.declared.event.Event.{Event as Happening};
-    ghost use Rattle.drm_script.specs.Kept.{AreMatched, joined};
+    ghost use Rattle.drm_script.specs.Chunks.{all_of};
 
     ghost Value = { List Happening };
 
-    ghost view = { λ events. joined events.kept.items events.jobs.items };
-
-    ghost invariant = { λ events. AreMatched events.kept.items events.jobs.items };
+    ghost view = { λ events. all_of events.full.items ++ events.last };
 }
 
 impl Events {
@@ -42,20 +40,29 @@ impl Events {
         ensures { result ≡ [] }
     {
         Events {
-            kept: Vec::new(alloc),
-            jobs: Vec::new(alloc),
+            full: Vec::new(alloc),
+            last: Chunk::new(alloc),
         }
     }
 
     /// Adds an event that brings no job at the end. A refusal of memory leaves the list as it was.
     #[inline]
-    #[tactic(auto, using(crate::proofs::Joined::joined_alone, crate::proofs::Joined::matched_alone))]
     pub(crate) fn push(&mut self, kept: Kept) -> Result<(), AllocError>
         requires { brings_job kept ≡ false }
         ensures ok { OnOk result (self.new ≡ self.old ++ option_to_list (event_of kept)) }
         ensures err { OnErr result (self.new ≡ self.old) }
     {
-        self.kept.push(kept)?;
+        self.last.push(kept)
+    }
+
+    // Puts the last chunk to the full ones, and begins another.
+    #[inline(never)]
+    fn begin_chunk(&mut self, alloc: Global) -> Result<(), AllocError>
+        ensures { self.new ≡ self.old }
+    {
+        self.full.reserve(1)?;
+        let next = Chunk::with_room(alloc)?;
+        self.full.push_reserved(mem::replace(&mut self.last, next));
         Ok(())
     }
 
@@ -72,20 +79,61 @@ impl Events {
         ensures value { Gives (λ _. self.new) result (with_job_at self.old (event_with kept) words.old) }
         ensures added { OnOk result ((job : DraftValue) × (self.new ≡ self.old ++ event_with kept job ∷ [])) }
     {
-        self.kept.reserve(1)?;
-        self.jobs.reserve(1)?;
-        self.kept.push_reserved(kept);
-        push_job(alloc, &mut self.jobs, words)
+        if self.last.is_full() {
+            self.begin_chunk(alloc)?;
+        }
+        self.last.push_read(alloc, kept, words)
+    }
+
+    /// The events, to be taken chunk by chunk.
+    pub fn into_chunks(self) -> Chunks
+        ensures { all_of result ≡ self }
+    {
+        let Events { full, last } = self;
+        Chunks {
+            full: full.into_iter(),
+            last: Some(last),
+        }
     }
 
     /// The events, to be taken one after the other.
     pub fn into_left(self) -> EventsLeft
         ensures { result ≡ self }
     {
-        let Events { kept, jobs } = self;
         EventsLeft {
-            rest: kept.into_iter(),
-            jobs: jobs.into_iter(),
+            first: None,
+            chunks: self.into_chunks(),
+        }
+    }
+}
+
+/// The chunks that are left of a list. The memory of one goes back with it.
+#[derive(Drop)]
+pub struct Chunks {
+    full: IntoIter<Chunk>,
+    last: Option<Chunk>,
+}
+
+impl Model for Chunks {
+    ghost use Rattle.std.specs.Prelude.{List, ◌++◌};
+    ghost use Rattle.std.specs.Option.{option_to_list};
+    ghost use Rattle.std.specs.Vec.Iter.{into_iter_items};
+    ghost use Rattle.drm_core.specs.declared.event.Event.{Event as Happening};
+
+    ghost Value = { List (List Happening) };
+
+    ghost view = { λ chunks. into_iter_items chunks.full ++ option_to_list chunks.last };
+}
+
+impl Chunks {
+    /// The next chunk, if one is left.
+    pub fn next(&mut self) -> Option<Chunk>
+        ensures some { IfSome result (λ chunk. self.old ≡ chunk ∷ self.new) }
+        ensures none { IfNone result (self.old ≡ []) }
+    {
+        match self.full.next() {
+            Some(chunk) => Some(chunk),
+            None => self.last.take(),
         }
     }
 }
@@ -93,70 +141,35 @@ impl Events {
 /// The events that are left of a list.
 #[derive(Drop)]
 pub struct EventsLeft {
-    rest: IntoIter<Kept>,
-    jobs: IntoIter<Draft>,
+    first: Option<ChunkLeft>,
+    chunks: Chunks,
 }
 
 impl Model for EventsLeft {
-    ghost use Rattle.std.specs.Prelude.{List};
-    ghost use Rattle.std.specs.Vec.Iter.{into_iter_items};
+    ghost use Rattle.std.specs.Prelude.{List, ◌++◌};
+    ghost use Rattle.std.specs.Option.{option_to_list};
     ghost use Rattle.drm_core.specs.declared.event.Event.{Event as Happening};
-    ghost use Rattle.drm_script.specs.Kept.{AreMatched, joined};
+    ghost use Rattle.drm_script.specs.Chunks.{all_of};
 
     ghost Value = { List Happening };
 
-    ghost view = { λ left. joined (into_iter_items left.rest) (into_iter_items left.jobs) };
-
-    ghost invariant = { λ left. AreMatched (into_iter_items left.rest) (into_iter_items left.jobs) };
+    ghost view = { λ left. all_of (option_to_list left.first ++ left.chunks) };
 }
 
 impl EventsLeft {
     /// The next event, if one is left.
-    #[inline]
-    #[tactic(auto, using(crate::proofs::Joined::has_job))]
     pub fn next(&mut self) -> Option<Event>
         ensures some { IfSome result (λ event. self.old ≡ event ∷ self.new) }
         ensures none { IfNone result (self.old ≡ []) }
     {
-        let kept = self.rest.next()?;
-        Some(kept.into_event(&mut self.jobs))
-    }
-
-    /// Has the next event happen to the core, if one is left, and gives the answer. Each arm hands over an event of its own, so
-    /// that none is put together for the core to take it apart again.
-    #[inline(always)]
-    pub fn apply_next(&mut self, alloc: Global, core: &mut Core) -> Option<Answer>
-        requires names { AllNamesExist core.old.device.spec self.old }
-        ensures some { IfSome result (λ answer. AnswersFirst core.old self.old answer core.new self.new) }
-        ensures none { IfNone result ((self.old ≡ []) × (core.new ≡ core.old)) }
-        ensures names { AllNamesExist core.new.device.spec self.new }
-    {
-        let kept = self.rest.next()?;
-        let answer = match kept {
-            Kept::Submit => {
-                let draft = next_job(&mut self.jobs);
-                core.apply(alloc, Event::Submit { draft })
+        loop {
+            if let Some(first) = &mut self.first {
+                if let Some(event) = first.next() {
+                    return Some(event);
+                }
             }
-            Kept::Plan { ctx } => {
-                let draft = next_job(&mut self.jobs);
-                core.apply(alloc, Event::Plan { ctx, draft })
-            }
-            Kept::Begin { ctx } => core.apply(alloc, Event::Begin { ctx }),
-            Kept::Try { ctx, buffer } => core.apply(alloc, Event::Try { ctx, buffer }),
-            Kept::Done { ctx } => core.apply(alloc, Event::Done { ctx }),
-            Kept::Drop { ctx, buffer } => core.apply(alloc, Event::Drop { ctx, buffer }),
-            Kept::End { ctx } => core.apply(alloc, Event::End { ctx }),
-            Kept::Arm { ctx } => core.apply(alloc, Event::Arm { ctx }),
-            Kept::Pick { ring, now } => core.apply(alloc, Event::Pick { ring, now }),
-            Kept::Step { ring } => core.apply(alloc, Event::Step { ring }),
-            Kept::Finish { ring, now } => core.apply(alloc, Event::Finish { ring, now }),
-            Kept::Timeout { ring, now } => core.apply(alloc, Event::Timeout { ring, now }),
-            Kept::Cancel { entity } => core.apply(alloc, Event::Cancel { entity }),
-            Kept::Reap { entity } => core.apply(alloc, Event::Reap { entity }),
-            Kept::Read { ctx, buffer } => core.apply(alloc, Event::Read { ctx, buffer }),
-            Kept::Status { fence } => core.apply(alloc, Event::Status { fence }),
-            Kept::Dump { buffer } => core.apply(alloc, Event::Dump { buffer }),
-        };
-        Some(answer)
+            let chunk = self.chunks.next()?;
+            self.first = Some(chunk.into_left());
+        }
     }
 }

@@ -6,6 +6,7 @@
 //! `drm_parse`; answers are written in `drm_answer`, journals read and written in `drm_journal`.
 #![tactic(auto)]
 
+mod chunk;
 mod command;
 mod events;
 mod kept;
@@ -13,8 +14,9 @@ mod laws;
 mod run_script;
 mod script;
 
+pub use chunk::{Chunk, ChunkLeft};
 pub use drm_text::{Fault, ReadError, TextFault};
-pub use events::{Events, EventsLeft};
+pub use events::{Chunks, Events, EventsLeft};
 pub use laws::{a_text_spells_one, texts_are_judged_as_spelled};
 pub use run_script::{RunScript, read_run, read_run_from};
 pub use script::{Script, read_script, read_script_from};

@@ -4,7 +4,8 @@ ghost use Rattle.std.specs.Prelude.{◌≡◌, ◌≤◌, [], None, length, IfOk
 ghost use Rattle.drm_stream.specs.Transfer.{IsReadOf, LosesAtMost};
 ghost use Rattle.drm_types.specs.Limits.{spec_fault};
 ghost use Rattle.drm_text.specs.Reading.{Gives};
-ghost use Rattle.drm_script.specs.Commands.{AllNamesExist, events_of};
+ghost use Rattle.drm_core.specs.Run.{AllNamesExist};
+ghost use Rattle.drm_script.specs.Commands.{events_of};
 ghost use Rattle.drm_parse.specs.Spelling.{IsReadAsSpelled};
 ghost use Rattle.drm_script.specs.Grammar.{SpellsScript};
 ghost use Rattle.drm_script.specs.Script.{script_of, judge_script};

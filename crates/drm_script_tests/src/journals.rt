@@ -1,5 +1,7 @@
 use crate::joined;
-use drm_journal::{Journal, read_journal, read_journal_from, write_journal};
+use drm_journal::{
+    Journal, read_journal, read_journal_from, run_journal, run_journal_from, write_journal,
+};
 use drm_text::{Fault, ReadError};
 use std::alloc::{AllocError, Global};
 use std::test::Fail;
@@ -59,6 +61,33 @@ fn a_journal_is_read_from_a_reader(rt: HostRuntime) -> Result<(), Fail> {
     };
     assert_eq!(rt; journal.spec().max_jobs, 8);
     assert_eq!(rt; journal.finals().len(), 2);
+    Ok(())
+}
+
+#[test]
+fn a_journal_runs_as_it_is_read(rt: HostRuntime) -> Result<(), Fail> {
+    let text = example(rt.alloc())?;
+    let Ok(buffers) = run_journal(rt.alloc(), &text) else {
+        panic!(rt; "refused");
+    };
+    let [first, second] = buffers.left.as_slice() else {
+        panic!(rt; "other buffers");
+    };
+    assert!(rt; first.as_slice() == [0x02].as_slice() && second.as_slice() == [0x03].as_slice());
+    Ok(())
+}
+
+#[test]
+fn a_journal_that_runs_tells_its_buffers(rt: HostRuntime) -> Result<(), Fail> {
+    let text = joined(rt.alloc(), HEADER, b"final 07\nfinal 08\nend\n")?;
+    let mut reader = text.as_slice();
+    let Ok(buffers) = run_journal_from(rt.alloc(), &mut reader) else {
+        panic!(rt; "refused");
+    };
+    let [first, second] = buffers.told.as_slice() else {
+        panic!(rt; "other buffers");
+    };
+    assert!(rt; first.as_slice() == [0x07].as_slice() && second.as_slice() == [0x08].as_slice());
     Ok(())
 }
 

@@ -26,13 +26,34 @@ impl<'a> Model for Turn<'a> {
     ghost view = { λ t. record { job = t.job.now; ran = t.ran } };
 }
 
-/// The machine that runs jobs one after another.
+/// The machine that runs jobs one after another. Contracts see its buffers.
 #[derive(Drop)]
 pub struct Serial {
     memory: Memory,
 }
 
+impl Model for Serial {
+    ghost use Rattle.std.specs.Prelude.{List, ℕ};
+
+    ghost Value = { List (List ℕ) };
+
+    ghost view = { λ machine. machine.memory };
+}
+
 impl Serial {
+    /// The machine, which begins with copies of these buffers.
+    ///
+    /// # Errors
+    ///
+    /// Where memory is refused.
+    pub fn new(alloc: Global, initial: &Sequence<Sequence<u8>>) -> Result<Serial, AllocError>
+        ensures { IfOk result (λ machine. machine ≡ initial.now) }
+    {
+        Ok(Serial {
+            memory: Memory::copy_of(alloc, initial)?,
+        })
+    }
+
     /// Runs the turns in the order of the list on copies of these buffers, and gives the buffers.
     pub fn run(
         alloc: Global,
@@ -42,24 +63,29 @@ impl Serial {
         requires { All (λ turn. RunsIn initial.now turn.job) turns.now }
         ensures { IfOk result (λ buffers. buffers ≡ serial initial.now turns.now) }
     {
-        let mut machine = Serial {
-            memory: Memory::copy_of(alloc, initial)?,
-        };
+        let mut machine = Serial::new(alloc, initial)?;
         for turn in turns {
             machine.take(turn);
         }
-        Ok(machine.memory.into_buffers())
+        Ok(machine.into_buffers())
     }
 
-    // Runs the first packets of the turn's job.
-    fn take(&mut self, turn: &Turn)
-        requires { RunsIn self.old.memory turn.now.job }
-        ensures turn { self.new.memory ≡ after_turn self.old.memory turn.now }
-        ensures sizes { sizes_of self.new.memory ≡ sizes_of self.old.memory }
+    /// Runs the first packets of the turn's job. No memory is taken.
+    pub fn take(&mut self, turn: &Turn)
+        requires { RunsIn self.old turn.now.job }
+        ensures turn { self.new ≡ after_turn self.old turn.now }
+        ensures sizes { sizes_of self.new ≡ sizes_of self.old }
     {
         let packets = turn.job.packets();
         let ran = packets.len().min(turn.ran as usize);
         run_each(&packets[..ran], &mut self.memory);
+    }
+
+    /// The buffers, given back.
+    pub fn into_buffers(self) -> Sequence<Sequence<u8>>
+        ensures { result ≡ self }
+    {
+        self.memory.into_buffers()
     }
 }
 

@@ -9,8 +9,8 @@ use Rattle.drm_core.specs.declared.event.Event.{Event}
 use Rattle.drm_core.specs.State.{CoreState}
 use Rattle.drm_core.specs.Run.{Run}
 use Rattle.drm_stream.specs.Transfer.{AppendsFront}
-use Rattle.drm_engine.specs.Replaying.{AppendsPiece, IsAnswered}
-use Rattle.drm_engine.proofs.Pieces.{GoesOn, Told, last_front, last_piece}
+use Rattle.drm_engine.specs.Replaying.{AppendsPiece, IsAnswered, Told}
+use Rattle.drm_engine.proofs.Pieces.{GoesOn, last_front, last_piece}
 use Rattle.drm_words.specs.declared.subject.Subject.{Subject}
 use Rattle.drm_words.specs.Lines.{text_with_words, worded_line_of}
 use Rattle.drm_words.specs.Subjects.{subject_of}

@@ -3,7 +3,7 @@
 ghost use Rattle.std.specs.Prelude.{◌≡◌, ◌++◌, [], None, OnErr, OnOk};
 ghost use Rattle.std.specs.Io.KnownBytes.{Appends};
 ghost use Rattle.drm_types.specs.Limits.{spec_fault};
-ghost use Rattle.drm_script.specs.Commands.{AllNamesExist};
+ghost use Rattle.drm_core.specs.Run.{AllNamesExist};
 ghost use Rattle.drm_stream.specs.Transfer.{AppendsFront};
 ghost use Rattle.drm_engine.specs.Replaying.{AppendsPiece, IsAnswered};
 ghost use Rattle.drm_words.specs.Lines.{text_with_words, worded_line_of};

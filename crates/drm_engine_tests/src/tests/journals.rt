@@ -1,6 +1,6 @@
 //! The engines `serial` and `check`.
 
-ghost use Rattle.drm_script.specs.Commands.{AllNamesExist};
+ghost use Rattle.drm_core.specs.Run.{AllNamesExist};
 
 use super::{Told, try_failed_reads, try_failed_writes, try_run};
 use crate::{SlowWriter, run_on};

@@ -1,5 +1,5 @@
 use Rattle.std.proofs.Common.{◌≡◌, ◌∷◌, ◌++◌, ◌∙◌, [], ap, List, Option, map, subst, sym}
-use Rattle.drm_script.specs.Commands.{AllNamesExist}
+use Rattle.drm_core.specs.Run.{AllNamesExist}
 use Rattle.drm_picture.specs.declared.command.Command.{Command}
 use Rattle.drm_picture.specs.declared.command.Request.{Request}
 use Rattle.drm_picture.specs.declared.command.Step.{Step}

@@ -1,97 +1,39 @@
-use Rattle.std.proofs.Common.{◌≡◌, ◌∷◌, ◌++◌, [], Err, sym, ◌∙◌}
-use Rattle.drm_answer.specs.Answers.{line_of, text_of_answers}
-use Rattle.drm_engine.proofs.Pieces.{turned, run_ends, one_more, told_more, told_less, told_all, told_front, nothing_told, any_err, any_ok, holds_of_ok, ok_of_no_err, no_ok_of_err, piece_kept, all_written}
+use Rattle.std.proofs.Common.{◌++◌, ap, subst}
+use Rattle.drm_answer.specs.Answers.{text_of_answers}
+use Rattle.drm_core.specs.Run.{AllNamesExist}
+use Rattle.drm_script.specs.Chunks.{all_of}
+use Rattle.drm_engine.proofs.Pieces.{GoesOn, chunk_turned, names_behind, names_first, run_ends, text_behind, told_all, told_front}
 use Rattle.drm_engine.proofs.replaying.tell_answers.Goals as goal
-use Rattle.drm_engine.proofs.replaying.tell_answers.Goals.{then-is_err-2, else-is_err-2+then-len-ge-PIECE, else-is_err-2+else-len-ge-PIECE}
 
-pub loop-answer-preserved-then-is_err : goal.loop-answer-preserved-then-is_err
-loop-answer-preserved-then-is_err g c =
-    let so = c.loop-answer.invariant.so_far in
-    let answer = c.in-Some.answer in
-    record {
-      names = c.apply_next.ensures.names;
-      so_far = (
-        so.0 ++ answer ∷ [],
-        turned c.args.core.now c.loop-answer.core c.apply_next.new.core c.args.events c.loop-answer.rest c.apply_next.new.self so.0 answer c.in-Some.ensures.some so.1,
-        rw (one_more so.0 answer) (told_less (g.W.Write.contents c.args.writer.now) (g.W.Write.contents c.loop-answer.writer) c.loop-answer.told
-            (text_of_answers so.0) (line_of answer) c.loop-answer.piece (no_ok_of_err c.loop-answer.told (sym c.is_err.ensures.value ∙ c.if-is_err.true)) so.2),
-      );
-    }
+pub tell_chunk-told-requires : goal.tell_chunk-told-requires
+tell_chunk-told-requires g c = record {
+  names = names_first c.loop-chunk.core.device.spec c.in-Some.chunk (all_of c.next.new.self)
+      (subst (λ chunks. AllNamesExist c.loop-chunk.core.device.spec (all_of chunks)) c.in-Some.ensures.some c.loop-chunk.invariant.names);
+}
 
-pub loop-answer-preserved-after-is_err-2 : goal.loop-answer-preserved-after-is_err-2
-loop-answer-preserved-after-is_err-2 g c =
-    let so = c.loop-answer.invariant.so_far in
-    let answer = c.in-Some.answer in
-    let contents = g.W.Write.contents in
-    let old = contents c.args.writer.now in
-    let now = contents c.loop-answer.writer in
-    let text = text_of_answers so.0 in
-    let line = line_of answer in
-    let piece = c.loop-answer.piece in
-    let told = c.loop-answer.told in
-    let is = ok_of_no_err told (sym c.is_err.ensures.value ∙ c.if-is_err.false) in
-    let nothing = nothing_told now piece answer in
+pub loop-chunk-preserved : goal.loop-chunk-preserved
+loop-chunk-preserved g c =
+    let so = c.loop-chunk.invariant.so_far in
+    let told = c.tell_chunk-told.ensures.told (g.W.Write.contents c.args.writer.now) (text_of_answers so.0) so.2 in
     record {
-      names = c.apply_next.ensures.names;
+      names = names_behind c.loop-chunk.core.device.spec c.tell_chunk-told.new.core.device.spec c.in-Some.chunk (all_of c.next.new.self) c.tell_chunk-told.ensures.spec
+          (subst (λ chunks. AllNamesExist c.loop-chunk.core.device.spec (all_of chunks)) c.in-Some.ensures.some c.loop-chunk.invariant.names);
       so_far = (
-        so.0 ++ answer ∷ [],
-        turned c.args.core.now c.loop-answer.core c.apply_next.new.core c.args.events c.loop-answer.rest c.apply_next.new.self so.0 answer c.in-Some.ensures.some so.1,
-        rw (one_more so.0 answer) (elim c.if-is_err-2.branch [
-          | then-is_err-2 w ↦ rw (w.told-is, w.writer-is) (told_more old now now told (Err w.from.result) text line piece c.put_line.new.self is so.2 tt nothing)
-          | else-is_err-2+then-len-ge-PIECE w ↦
-              let put = holds_of_ok c.put_line.result (c.put_line.new.self ≡ piece ++ line) (sym c.is_err-in-Some.ensures.value ∙ w.if-is_err-2.false) c.put_line.ensures in
-              let wrote = w.write_piece-told.ensures in
-              rw (w.told-is, w.writer-is, w.piece-is) (told_more old now (contents w.write_piece-told.new.writer) told w.write_piece-told.result text line piece w.write_piece-told.new.piece is so.2
-              (rw put at (all_written w.write_piece-told.result now (contents w.write_piece-told.new.writer) c.put_line.new.self w.write_piece-told.new.piece wrote.ok)) (rw put at wrote.err))
-          | else-is_err-2+else-len-ge-PIECE w ↦
-              let put = holds_of_ok c.put_line.result (c.put_line.new.self ≡ piece ++ line) (sym c.is_err-in-Some.ensures.value ∙ w.if-is_err-2.false) c.put_line.ensures in
-              rw (w.told-is, w.writer-is, w.piece-is, put) (told_more old now now told told text line piece (piece ++ line) is so.2 (any_ok told _ (piece_kept now (piece ++ line))) (any_err told _ nothing))
-        ]),
-      );
-    }
-
-pub loop-answer-preserved : goal.loop-answer-preserved
-loop-answer-preserved g c =
-    let so = c.loop-answer.invariant.so_far in
-    let answer = c.in-Some.answer in
-    let contents = g.W.Write.contents in
-    let old = contents c.args.writer.now in
-    let now = contents c.loop-answer.writer in
-    let text = text_of_answers so.0 in
-    let line = line_of answer in
-    let piece = c.loop-answer.piece in
-    let told = c.loop-answer.told in
-    let is = ok_of_no_err told (sym c.is_err.ensures.value ∙ c.if-is_err.false) in
-    let nothing = nothing_told now piece answer in
-    record {
-      names = c.apply_next.ensures.names;
-      so_far = (
-        so.0 ++ answer ∷ [],
-        turned c.args.core.now c.loop-answer.core c.apply_next.new.core c.args.events c.loop-answer.rest c.apply_next.new.self so.0 answer c.in-Some.ensures.some so.1,
-        rw (one_more so.0 answer) (elim c.if-is_err-2.branch [
-          | then-is_err-2 w ↦ rw (w.told-is, w.writer-is) (told_more old now now told (Err w.from.result) text line piece c.put_line.new.self is so.2 tt nothing)
-          | else-is_err-2+then-len-ge-PIECE w ↦
-              let put = holds_of_ok c.put_line.result (c.put_line.new.self ≡ piece ++ line) (sym c.is_err-in-Some.ensures.value ∙ w.if-is_err-2.false) c.put_line.ensures in
-              let wrote = w.write_piece-told.ensures in
-              rw (w.told-is, w.writer-is, w.piece-is) (told_more old now (contents w.write_piece-told.new.writer) told w.write_piece-told.result text line piece w.write_piece-told.new.piece is so.2
-              (rw put at (all_written w.write_piece-told.result now (contents w.write_piece-told.new.writer) c.put_line.new.self w.write_piece-told.new.piece wrote.ok)) (rw put at wrote.err))
-          | else-is_err-2+else-len-ge-PIECE w ↦
-              let put = holds_of_ok c.put_line.result (c.put_line.new.self ≡ piece ++ line) (sym c.is_err-in-Some.ensures.value ∙ w.if-is_err-2.false) c.put_line.ensures in
-              rw (w.told-is, w.writer-is, w.piece-is, put) (told_more old now now told told text line piece (piece ++ line) is so.2 (any_ok told _ (piece_kept now (piece ++ line))) (any_err told _ nothing))
-        ]),
+        so.0 ++ told.0,
+        chunk_turned c.args.core.now c.loop-chunk.core c.tell_chunk-told.new.core c.args.events c.in-Some.chunk (all_of c.next.new.self) so.0 told.0 told.1
+            (subst (λ chunks. GoesOn c.args.core.now c.args.events so.0 c.loop-chunk.core (all_of chunks)) c.in-Some.ensures.some so.1),
+        rw (text_behind so.0 told.0) told.2,
       );
     }
 
 pub returns-clause-ok : goal.returns-clause-ok
 returns-clause-ok g c =
-    let so = c.loop-answer.invariant.so_far in
-    let none = c.in_default.ensures.none in
-    rw none.1 (told_all _ _ c.args.core.now c.loop-answer.core c.args.events so.0 c.loop-answer.told c.loop-answer.piece
-    (run_ends c.args.core.now c.loop-answer.core c.args.events c.loop-answer.rest so.0 none.0 so.1) so.2)
+    let so = c.loop-chunk.invariant.so_far in
+    told_all _ _ c.args.core.now c.loop-chunk.core c.args.events so.0 c.loop-chunk.told c.loop-chunk.piece
+    (run_ends c.args.core.now c.loop-chunk.core c.args.events (all_of c.loop-chunk.chunks) so.0 (ap all_of c.in_default.ensures.none) so.1) so.2
 
 pub returns-clause-err : goal.returns-clause-err
 returns-clause-err g c =
-    let so = c.loop-answer.invariant.so_far in
-    let none = c.in_default.ensures.none in
-    rw none.1 (told_front _ _ c.args.core.now c.loop-answer.core c.args.events so.0 c.loop-answer.told c.loop-answer.piece
-    (run_ends c.args.core.now c.loop-answer.core c.args.events c.loop-answer.rest so.0 none.0 so.1) so.2)
+    let so = c.loop-chunk.invariant.so_far in
+    told_front _ _ c.args.core.now c.loop-chunk.core c.args.events so.0 c.loop-chunk.told c.loop-chunk.piece
+    (run_ends c.args.core.now c.loop-chunk.core c.args.events (all_of c.loop-chunk.chunks) so.0 (ap all_of c.in_default.ensures.none) so.1) so.2

@@ -1,16 +1,18 @@
 use Rattle.std.proofs.Common.{List, length}
 use Rattle.drm_table.specs.declared.answer.Answer.{Answer}
 use Rattle.drm_answer.specs.Answers.{text_of_answers}
-use Rattle.drm_script.specs.Commands.{AllNamesExist}
-use Rattle.drm_engine.proofs.Pieces.{GoesOn, Told}
+use Rattle.drm_core.specs.Run.{AllNamesExist}
+use Rattle.drm_script.specs.Chunks.{all_of}
+use Rattle.drm_engine.specs.Replaying.{Told}
+use Rattle.drm_engine.proofs.Pieces.{GoesOn}
 use Rattle.drm_engine.proofs.replaying.tell_answers.Given as goal
 
-abbrev pub invariant-loop-answer : goal.invariant-loop-answer
-invariant-loop-answer g l = record {
-  names : AllNamesExist l.core.device.spec l.rest;
-  so_far : (given : List Answer) × GoesOn l.fn.core l.fn.events given l.core l.rest
+abbrev pub invariant-loop-chunk : goal.invariant-loop-chunk
+invariant-loop-chunk g l = record {
+  names : AllNamesExist l.core.device.spec (all_of l.chunks);
+  so_far : (given : List Answer) × GoesOn l.fn.core l.fn.events given l.core (all_of l.chunks)
       × Told (g.W.Write.contents l.fn.writer) (g.W.Write.contents l.writer) l.told (text_of_answers given) l.piece;
 }
 
-abbrev pub decreases-loop-answer : goal.decreases-loop-answer
-decreases-loop-answer g l = length l.rest
+abbrev pub decreases-loop-chunk : goal.decreases-loop-chunk
+decreases-loop-chunk g l = length l.chunks

@@ -1,5 +1,6 @@
 use Rattle.std.proofs.Common.{◌≡◌, [], length}
-use Rattle.drm_script.specs.Commands.{AllNamesExist, events_of}
+use Rattle.drm_core.specs.Run.{AllNamesExist}
+use Rattle.drm_script.specs.Commands.{events_of}
 use Rattle.drm_script.proofs.script.read_events.Given as goal
 
 abbrev pub invariant-loop-line : goal.invariant-loop-line

@@ -1,5 +1,5 @@
 use Rattle.std.proofs.Common.{◌≡◌, ◌∷◌, ◌++◌, [], sym, subst, ◌∙◌}
-use Rattle.drm_script.specs.Commands.{AllNamesExist}
+use Rattle.drm_core.specs.Run.{AllNamesExist}
 use Rattle.drm_engine.proofs.Pieces.{GoesOn, turn, run_ends, told_more, told_less}
 use Rattle.drm_words.specs.Lines.{worded_line_of}
 use Rattle.drm_words.proofs.Pieces.{line_more, lines_end, nothing_said, told_all, told_front}

@@ -1,5 +1,5 @@
 use Rattle.std.proofs.Common.{length}
-use Rattle.drm_script.specs.Commands.{AllNamesExist}
+use Rattle.drm_core.specs.Run.{AllNamesExist}
 use Rattle.drm_words.proofs.Pieces.{SaidSoFar}
 use Rattle.drm_words.proofs.replaying.tell_answers.Given as goal
 

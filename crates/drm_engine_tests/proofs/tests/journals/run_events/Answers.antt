@@ -1,5 +1,5 @@
 use Rattle.std.proofs.Common.{◌∷◌, sym, subst}
-use Rattle.drm_script.specs.Commands.{AllNamesExist}
+use Rattle.drm_core.specs.Run.{AllNamesExist}
 use Rattle.drm_engine_tests.proofs.tests.journals.run_events.Goals as goal
 
 pub loop-event-preserved : goal.loop-event-preserved

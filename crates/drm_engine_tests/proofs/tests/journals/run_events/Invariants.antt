@@ -1,5 +1,5 @@
 use Rattle.std.proofs.Common.{length}
-use Rattle.drm_script.specs.Commands.{AllNamesExist}
+use Rattle.drm_core.specs.Run.{AllNamesExist}
 use Rattle.drm_engine_tests.proofs.tests.journals.run_events.Given as goal
 
 abbrev pub invariant-loop-event : goal.invariant-loop-event

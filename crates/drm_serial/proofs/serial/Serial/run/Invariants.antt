@@ -5,4 +5,4 @@ use Rattle.drm_serial.proofs.serial.Serial.run.Given as goal
 
 abbrev pub invariant-loop-turn : goal.invariant-loop-turn
 invariant-loop-turn l =
-    (l.machine.memory ≡ serial l.initial' (take l.turn-index l.turns)) × (sizes_of l.machine.memory ≡ sizes_of l.initial')
+    (l.machine ≡ serial l.initial' (take l.turn-index l.turns)) × (sizes_of l.machine ≡ sizes_of l.initial')

@@ -1,5 +1,5 @@
 use Rattle.drm_script.proofs.Joined.{joined_read, added_read}
-use Rattle.drm_script.proofs.events.Events.push_read.Goals as goal
+use Rattle.drm_script.proofs.chunk.Chunk.push_read.Goals as goal
 
 pub returns-clause-value : goal.returns-clause-value
 returns-clause-value c =

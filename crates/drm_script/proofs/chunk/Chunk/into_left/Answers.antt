@@ -1,5 +1,5 @@
 use Rattle.std.proofs.Common.{rules}
-use Rattle.drm_script.proofs.events.Events.into_left.Goals as goal
+use Rattle.drm_script.proofs.chunk.Chunk.into_left.Goals as goal
 
 pub invariant_of-result : goal.invariant_of-result
 invariant_of-result c = search rules

@@ -1,7 +1,7 @@
 use Rattle.std.proofs.Common.{refl}
 use Rattle.drm_core.specs.declared.event.Event.TheVariants as event
-use Rattle.drm_script.proofs.events.EventsLeft.apply_next.Goals as goal
-use Rattle.drm_script.proofs.events.EventsLeft.apply_next.Goals.{in-Submit, in-Begin, in-Try, in-Done, in-Drop, in-End, in-Plan, in-Arm, in-Pick, in-Step, in-Finish, in-Timeout, in-Cancel, in-Reap, in-Read, in-Status, in-Dump}
+use Rattle.drm_script.proofs.chunk.ChunkLeft.apply_next.Goals as goal
+use Rattle.drm_script.proofs.chunk.ChunkLeft.apply_next.Goals.{in-Submit, in-Begin, in-Try, in-Done, in-Drop, in-End, in-Plan, in-Arm, in-Pick, in-Step, in-Finish, in-Timeout, in-Cancel, in-Reap, in-Read, in-Status, in-Dump}
 
 pub returns-clause-some : goal.returns-clause-some
 returns-clause-some c =

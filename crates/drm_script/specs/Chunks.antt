@@ -1,0 +1,8 @@
+-- Events in chunks.
+use Rattle.std.specs.Prelude.{List}
+use Rattle.std.specs.List.{flat_map}
+use Rattle.drm_core.specs.declared.event.Event.{Event}
+
+-- the events of these chunks, in their order
+abbrev pub all_of : List (List Event) → List Event
+all_of chunks = flat_map (λ chunk. chunk) chunks

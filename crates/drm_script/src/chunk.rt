@@ -1,0 +1,183 @@
+//! Some of the events of a script, one behind the other, and those that are left of them.
+
+ghost use Rattle.std.specs.Prelude.{◌≡◌, [], ◌∷◌, ◌++◌, true, false, length, IfSome, IfNone, IfOk, OnOk, OnErr};
+ghost use Rattle.std.specs.Option.{option_to_list};
+ghost use Rattle.drm_job.specs.declared.Draft.{Draft as DraftValue};
+ghost use Rattle.drm_text.specs.Reading.{Gives};
+ghost use Rattle.drm_core.specs.Run.{AllNamesExist};
+ghost use Rattle.drm_script.specs.Commands.{with_job_at};
+ghost use Rattle.drm_script.specs.Kept.{AnswersFirst, brings_job, event_of, event_with};
+
+use crate::kept::{Kept, next_job};
+use drm_core::{Answer, Core, Event};
+use drm_job::Draft;
+use drm_parse::push_job;
+use drm_text::{ReadError, Words};
+use std::alloc::{AllocError, Global};
+use std::marker::Model;
+use std::vec::IntoIter;
+
+/// How many jobs a chunk has. The memory of so many is mapped for them alone, so the system has it back as soon as the last of
+/// them was taken.
+const JOBS: usize = 2_048;
+
+/// Events in their order. Contracts see them as a list; in memory each takes no more than it needs, and the jobs that they
+/// bring stand beside, in their order.
+#[derive(Drop)]
+pub struct Chunk {
+    kept: Vec<Kept>,
+    jobs: Vec<Draft>,
+}
+
+impl Model for Chunk {
+    ghost use Rattle.std.specs.Prelude.{List};
+    ghost use Rattle.drm_core.specs.declared.event.Event.{Event as Happening};
+    ghost use Rattle.drm_script.specs.Kept.{AreMatched, joined};
+
+    ghost Value = { List Happening };
+
+    ghost view = { λ chunk. joined chunk.kept.items chunk.jobs.items };
+
+    ghost invariant = { λ chunk. AreMatched chunk.kept.items chunk.jobs.items };
+}
+
+impl Chunk {
+    /// No events, in no memory.
+    pub(crate) fn new(alloc: Global) -> Chunk
+        ensures { result ≡ [] }
+    {
+        Chunk {
+            kept: Vec::new(alloc),
+            jobs: Vec::new(alloc),
+        }
+    }
+
+    /// No events, and room for all jobs that a chunk has.
+    pub(crate) fn with_room(alloc: Global) -> Result<Chunk, AllocError>
+        ensures { IfOk result (λ chunk. chunk ≡ []) }
+    {
+        Ok(Chunk {
+            kept: Vec::new(alloc),
+            jobs: Vec::with_capacity(alloc, JOBS)?,
+        })
+    }
+
+    /// Whether it has all jobs that a chunk has.
+    pub(crate) fn is_full(&self) -> bool {
+        self.jobs.len() >= JOBS
+    }
+
+    /// Adds an event that brings no job at the end. A refusal of memory leaves the list as it was.
+    #[inline]
+    #[tactic(auto, using(crate::proofs::Joined::joined_alone, crate::proofs::Joined::matched_alone))]
+    pub(crate) fn push(&mut self, kept: Kept) -> Result<(), AllocError>
+        requires { brings_job kept ≡ false }
+        ensures ok { OnOk result (self.new ≡ self.old ++ option_to_list (event_of kept)) }
+        ensures err { OnErr result (self.new ≡ self.old) }
+    {
+        self.kept.push(kept)?;
+        Ok(())
+    }
+
+    /// Adds an event that brings the job which the words left spell at the end. The job is read where it is kept. What the
+    /// list has where that fails tells nothing.
+    #[inline]
+    pub(crate) fn push_read(
+        &mut self,
+        alloc: Global,
+        kept: Kept,
+        words: &mut Words,
+    ) -> Result<(), ReadError>
+        requires { brings_job kept ≡ true }
+        ensures value { Gives (λ _. self.new) result (with_job_at self.old (event_with kept) words.old) }
+        ensures added { OnOk result ((job : DraftValue) × (self.new ≡ self.old ++ event_with kept job ∷ [])) }
+    {
+        self.kept.reserve(1)?;
+        self.jobs.reserve(1)?;
+        self.kept.push_reserved(kept);
+        push_job(alloc, &mut self.jobs, words)
+    }
+
+    /// The events, to be taken one after the other.
+    pub fn into_left(self) -> ChunkLeft
+        ensures { result ≡ self }
+    {
+        let Chunk { kept, jobs } = self;
+        ChunkLeft {
+            rest: kept.into_iter(),
+            jobs: jobs.into_iter(),
+        }
+    }
+}
+
+/// The events that are left of a chunk.
+#[derive(Drop)]
+pub struct ChunkLeft {
+    rest: IntoIter<Kept>,
+    jobs: IntoIter<Draft>,
+}
+
+impl Model for ChunkLeft {
+    ghost use Rattle.std.specs.Prelude.{List};
+    ghost use Rattle.std.specs.Vec.Iter.{into_iter_items};
+    ghost use Rattle.drm_core.specs.declared.event.Event.{Event as Happening};
+    ghost use Rattle.drm_script.specs.Kept.{AreMatched, joined};
+
+    ghost Value = { List Happening };
+
+    ghost view = { λ left. joined (into_iter_items left.rest) (into_iter_items left.jobs) };
+
+    ghost invariant = { λ left. AreMatched (into_iter_items left.rest) (into_iter_items left.jobs) };
+}
+
+impl ChunkLeft {
+    /// The next event, if one is left.
+    #[inline]
+    #[tactic(auto, using(crate::proofs::Joined::has_job))]
+    pub fn next(&mut self) -> Option<Event>
+        ensures some { IfSome result (λ event. self.old ≡ event ∷ self.new) }
+        ensures none { IfNone result (self.old ≡ []) }
+    {
+        let kept = self.rest.next()?;
+        Some(kept.into_event(&mut self.jobs))
+    }
+
+    /// Has the next event happen to the core, if one is left, and gives the answer. Each arm hands over an event of its own, so
+    /// that none is put together for the core to take it apart again.
+    #[inline(always)]
+    pub fn apply_next(&mut self, alloc: Global, core: &mut Core) -> Option<Answer>
+        requires names { AllNamesExist core.old.device.spec self.old }
+        ensures some { IfSome result (λ answer. AnswersFirst core.old self.old answer core.new self.new) }
+        ensures none { IfNone result ((self.old ≡ []) × (core.new ≡ core.old)) }
+        ensures names { AllNamesExist core.new.device.spec self.new }
+        ensures spec { core.new.device.spec ≡ core.old.device.spec }
+    {
+        let kept = self.rest.next()?;
+        let answer = match kept {
+            Kept::Submit => {
+                let draft = next_job(&mut self.jobs);
+                core.apply(alloc, Event::Submit { draft })
+            }
+            Kept::Plan { ctx } => {
+                let draft = next_job(&mut self.jobs);
+                core.apply(alloc, Event::Plan { ctx, draft })
+            }
+            Kept::Begin { ctx } => core.apply(alloc, Event::Begin { ctx }),
+            Kept::Try { ctx, buffer } => core.apply(alloc, Event::Try { ctx, buffer }),
+            Kept::Done { ctx } => core.apply(alloc, Event::Done { ctx }),
+            Kept::Drop { ctx, buffer } => core.apply(alloc, Event::Drop { ctx, buffer }),
+            Kept::End { ctx } => core.apply(alloc, Event::End { ctx }),
+            Kept::Arm { ctx } => core.apply(alloc, Event::Arm { ctx }),
+            Kept::Pick { ring, now } => core.apply(alloc, Event::Pick { ring, now }),
+            Kept::Step { ring } => core.apply(alloc, Event::Step { ring }),
+            Kept::Finish { ring, now } => core.apply(alloc, Event::Finish { ring, now }),
+            Kept::Timeout { ring, now } => core.apply(alloc, Event::Timeout { ring, now }),
+            Kept::Cancel { entity } => core.apply(alloc, Event::Cancel { entity }),
+            Kept::Reap { entity } => core.apply(alloc, Event::Reap { entity }),
+            Kept::Read { ctx, buffer } => core.apply(alloc, Event::Read { ctx, buffer }),
+            Kept::Status { fence } => core.apply(alloc, Event::Status { fence }),
+            Kept::Dump { buffer } => core.apply(alloc, Event::Dump { buffer }),
+        };
+        Some(answer)
+    }
+}
