@@ -129,17 +129,20 @@ struct Waiters {
     unmet: Vec<u32>,
     links: Vec<Links>,
     fences: u32,
+    places: u32,
 }
 
 impl Waiters {
-    fn new(entities: usize, fences: u32) -> Waiters {
-        let places = entities * 64 + fences as usize;
-        Waiters {
-            cells: vec![None; entities * 64],
-            unmet: vec![0; entities],
-            links: (0..places).map(|place| Links { before: place, behind: place }).collect(),
-            fences,
-        }
+    fn new(entities: usize, places: u32) -> Waiters {
+        let mut links = Vec::with_capacity(entities * 64 + places as usize);
+        links.extend((0..entities * 64).map(|place| Links { before: place, behind: place }));
+        Waiters { cells: vec![None; entities * 64], unmet: vec![0; entities], links, fences: 0, places }
+    }
+
+    fn add_fence(&mut self) {
+        let end = self.links.len();
+        self.links.push(Links { before: end, behind: end });
+        self.fences += 1;
     }
 
     fn join(&mut self, before: usize, behind: usize) {
@@ -208,6 +211,9 @@ fn waiters() -> u64 {
     let mut sum = 0u64;
     for job in 0..JOBS {
         let entity = job % 64;
+        if waiters.fences < waiters.places {
+            waiters.add_fence();
+        }
         for step in 0..3u32 {
             let of = (entity * 7 + step * 11 + job / 64) % 64;
             let fence = job.saturating_sub(of);

@@ -1,5 +1,5 @@
 -- What one changed entity shows, and that the queues stay linked.
-use Rattle.std.proofs.Common.{◌≡◌, ◌≢◌, ℕ, zero, suc, ◌+◌, ◌-◌, ◌<◌, get_or, List, [], ◌∷◌, ◌++◌, map, set, length, Some, refl, sym, ap, subst, ◌∙◌, inl, inr, ◌⊎◌, arith, slice_get}
+use Rattle.std.proofs.Common.{◌≡◌, ◌≢◌, ℕ, zero, suc, ◌+◌, ◌-◌, ◌<◌, ◌≤◌, get_or, List, [], ◌∷◌, ◌++◌, map, set, length, Some, refl, sym, ap, subst, ◌∙◌, inl, inr, ◌⊎◌, arith, slice_get}
 use Rattle.std.specs.Prelude.{option_map}
 use Rattle.std.specs.Option.{option_map_or}
 use Rattle.std.proofs.lemmas.Bool.{cases_eq}
@@ -7,7 +7,7 @@ use Rattle.std.proofs.lemmas.Option.{slice_get-map}
 use Rattle.drm_entity.specs.declared.entities.Links.{Links}
 use Rattle.drm_entity.specs.Rows.{EntityRow, EntityRows, row_changed}
 use Rattle.drm_entity.specs.Linked.{walk, queue_of, row_of, StandsAt, IsLinked}
-use Rattle.drm_entity.proofs.Walks.{length_walk, get_push, get_pushed, link_set, walk_kept, walk_more}
+use Rattle.drm_entity.proofs.Walks.{length_walk, get_push, get_pushed, link_set, walk_kept, walk_alike, walk_more}
 
 rows_same : (next new : List ℕ) (links : List Links) → ((f : ℕ) (m : Links) → slice_get links f ≡ Some m → row_of new m ≡ row_of next m)
     → map (row_of new) links ≡ map (row_of next) links
@@ -26,16 +26,39 @@ rows_set next new (x ∷ links) (suc e) l l' at others =
     ∙ ap (λ rows. row_of next x ∷ rows) (rows_set next new links e l l' at (λ f m away at_f. others (suc f) m (λ same. away (omega (arith, same))) at_f))
 
 -- what one changed entity shows
-pub changed_is : (next new : List ℕ) (links : List Links) (now : EntityRows) (e : ℕ) (l l' : Links) (change : EntityRow → EntityRow)
-    → ◌≡◌ {A = EntityRows} (record { places = length next; rows = map (row_of next) links }) now → slice_get links e ≡ Some l → length new ≡ length next
+pub changed_is : (places : ℕ) (next new : List ℕ) (links : List Links) (now : EntityRows) (e : ℕ) (l l' : Links) (change : EntityRow → EntityRow)
+    → ◌≡◌ {A = EntityRows} (record { places = places; rows = map (row_of next) links }) now → slice_get links e ≡ Some l
     → ((f : ℕ) (m : Links) → f ≢ e → slice_get links f ≡ Some m → row_of new m ≡ row_of next m) → row_of new l' ≡ change (row_of next l)
-    → ◌≡◌ {A = EntityRows} (record { places = length new; rows = map (row_of new) (set links e l') }) (row_changed now e change)
-changed_is next new links now e l l' change view at places others is =
+    → ◌≡◌ {A = EntityRows} (record { places = places; rows = map (row_of new) (set links e l') }) (row_changed now e change)
+changed_is places next new links now e l l' change view at others is =
     let there : slice_get (map (row_of next) links) e ≡ Some (row_of next l) = slice_get-map (row_of next) links e ∙ ap (option_map (row_of next)) at in
-    ap (λ n. record { places = n; rows = map (row_of new) (set links e l') }) places
-    ∙ (ap (λ rows. record { places = length next; rows = rows }) (rows_set next new links e l l' at others ∙ ap (set (map (row_of next) links) e) is)
-    ∙ (sym (ap (λ o. record { places = length next; rows = option_map_or (λ r. set (map (row_of next) links) e (change r)) o (map (row_of next) links) }) there)
-    ∙ ap (λ v. row_changed v e change) view))
+    ap (λ rows. record { places = places; rows = rows }) (rows_set next new links e l l' at others ∙ ap (set (map (row_of next) links) e) is)
+    ∙ (sym (ap (λ o. record { places = places; rows = option_map_or (λ r. set (map (row_of next) links) e (change r)) o (map (row_of next) links) }) there)
+    ∙ ap (λ v. row_changed v e change) view)
+
+-- links that lead to the same, with others behind them, show the same
+pub alike_shown : (places room : ℕ) (next new : List ℕ) (links : List Links) (now : EntityRows) → ◌≡◌ {A = EntityRows} (record { places = places; rows = map (row_of next) links }) now
+    → ((k : ℕ) → get_or new k 0 ≡ get_or next k 0) → room ≡ places → ◌≡◌ {A = EntityRows} (record { places = room; rows = map (row_of new) links }) now
+alike_shown places room next new links now view alike same =
+    ap (λ n. record { places = n; rows = map (row_of new) links }) same
+    ∙ ap (λ rows. record { places = places; rows = rows })
+    (rows_same next new links (λ f m at.
+    ap (λ (q : List ℕ). record { queue = q; is_stopped = m.is_stopped; is_guilty = m.is_guilty }) (walk_alike next new m.first m.len alike)))
+    ∙ view
+
+pub alike_linked : (next new : List ℕ) (links : List Links) → IsLinked next links → ((k : ℕ) → get_or new k 0 ≡ get_or next k 0) → length next ≤ length new → IsLinked new links
+alike_linked next new links is alike longer = record {
+  last = λ e l before at len. subst (λ (q : List ℕ). slice_get q before ≡ Some l.last) (sym (walk_alike next new l.first l.len alike)) (is.last e l before at len);
+  within = λ e place n s. omega (arith, longer, is.within e place n (was e place n s));
+  apart = λ i j a b n x y. is.apart i j a b n (was i a n x) (was j b n y);
+}
+  where
+    was : (e place n : ℕ) → StandsAt new links e place n → StandsAt next links e place n
+    was e place n s = record {
+      link = s.link;
+      is_link = s.is_link;
+      at = subst (λ (q : List ℕ). slice_get q place ≡ Some n) (walk_alike next new s.link.first s.link.len alike) s.at;
+    }
 
 -- an element put where it was
 pub set_same : {X : Type 0} (xs : List X) (e : ℕ) (x : X) → slice_get xs e ≡ Some x → set xs e x ≡ xs

@@ -12,18 +12,18 @@ use Rattle.drm_entity.specs.Linked.{walk, queue_of, row_of, StandsAt, IsLinked}
 use Rattle.drm_entity.proofs.Walks.{length_walk}
 
 -- what the fields show
-abbrev pub shown : List ℕ → List Links → EntityRows
-shown next links = record { places = length next; rows = map (row_of next) links }
+abbrev pub shown : ℕ → List ℕ → List Links → EntityRows
+shown places next links = record { places = places; rows = map (row_of next) links }
 
-pub link_at : (next : List ℕ) (links : List Links) (now : EntityRows) (e : ℕ) (l : Links) → shown next links ≡ now → e < length now.rows
+pub link_at : (places : ℕ) (next : List ℕ) (links : List Links) (now : EntityRows) (e : ℕ) (l : Links) → shown places next links ≡ now → e < length now.rows
     → l ≡ get_or links e l → slice_get links e ≡ Some l
-link_at next links now e l view lt is =
+link_at places next links now e l view lt is =
     let count : length now.rows ≡ length links = sym (ap (λ (v : EntityRows). length v.rows) view) ∙ length-map links (row_of next) in
     let inside : e < length links = omega (arith, lt, count) in slice_get-get_or links e l inside ∙ ap Some (sym is)
 
-pub queue_is : (next : List ℕ) (links : List Links) (now : EntityRows) (e : ℕ) (l : Links) → shown next links ≡ now → slice_get links e ≡ Some l
+pub queue_is : (places : ℕ) (next : List ℕ) (links : List Links) (now : EntityRows) (e : ℕ) (l : Links) → shown places next links ≡ now → slice_get links e ≡ Some l
     → queue_at now e ≡ queue_of next l
-queue_is next links now e l view at =
+queue_is places next links now e l view at =
     let there : slice_get (map (row_of next) links) e ≡ Some (row_of next l) = slice_get-map (row_of next) links e ∙ ap (option_map (row_of next)) at in
     sym (ap (λ v. queue_at v e) view) ∙ ap (λ o. option_map_or (λ (r : EntityRow). r.queue) o []) there
 
@@ -70,10 +70,10 @@ first_fits next links e l is at some = by_len l.len refl some
         is.within e zero l.first (record { link = l; is_link = at; at = ap (λ k. slice_get (walk next l.first k) zero) len })
 
 -- a number that is fresh stands nowhere
-pub fresh_nowhere : (next : List ℕ) (links : List Links) (now : EntityRows) (number : ℕ) → shown next links ≡ now → IsFresh now number
+pub fresh_nowhere : (places : ℕ) (next : List ℕ) (links : List Links) (now : EntityRows) (number : ℕ) → shown places next links ≡ now → IsFresh now number
     → (i a : ℕ) → StandsAt next links i a number → ⊥
-fresh_nowhere next links now number view fresh i a s =
-    let queue = queue_is next links now i s.link view s.is_link in
+fresh_nowhere places next links now number view fresh i a s =
+    let queue = queue_is places next links now i s.link view s.is_link in
     fresh i (subst (λ (q : List ℕ). Contains q number) (sym queue)
     (a, slice_get_within (queue_of next s.link) a number s.at, get_or_from_slice_get (queue_of next s.link) a number number s.at))
 

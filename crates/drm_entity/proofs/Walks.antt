@@ -28,6 +28,12 @@ walk_kept next k v x (suc (suc left)) apart =
     ap (λ l. x ∷ l) (ap (λ n. walk (set next k v) n (suc left)) (link_kept next k v x away)
     ∙ walk_kept next k v (get_or next x 0) (suc left) (λ a lt at. apart (suc a) (omega (arith, lt)) at))
 
+-- links that lead to the same give the same walk
+pub walk_alike : (next new : List ℕ) (x left : ℕ) → ((k : ℕ) → get_or new k 0 ≡ get_or next k 0) → walk new x left ≡ walk next x left
+walk_alike next new x zero alike = refl
+walk_alike next new x (suc left) alike =
+    ap (λ l. x ∷ l) (ap (λ n. walk new n left) (alike x) ∙ walk_alike next new (get_or next x 0) left alike)
+
 -- one number more
 pub walk_more : (next : List ℕ) (x n last : ℕ) → slice_get (walk next x (suc n)) n ≡ Some last
     → walk next x (suc (suc n)) ≡ walk next x (suc n) ++ get_or next last 0 ∷ []

@@ -1,4 +1,4 @@
-ghost use Rattle.std.specs.Prelude.{◌≡◌, ◌==◌, ◌<◌, [], ◌∷◌, true, false, Some, None, IfOk, IfSome, IfNone, length, replicate, slice_get};
+ghost use Rattle.std.specs.Prelude.{◌≡◌, ◌==◌, ℕ, ◌<◌, ◌≤◌, [], ◌∷◌, true, false, Some, None, IfOk, IfSome, IfNone, length, replicate, slice_get, get_or, vec_capacity};
 ghost use Rattle.drm_types.specs.Firsts.{first, is_nil};
 ghost use Rattle.drm_entity.specs.Rows.{queue_at, last_of, IsFresh, row_changed, pushed, popped};
 
@@ -30,15 +30,28 @@ pub struct Entities {
 }
 
 impl Model for Entities {
-    ghost use Rattle.std.specs.Prelude.{length, map};
+    ghost use Rattle.std.specs.Prelude.{map, vec_capacity};
     ghost use Rattle.drm_entity.specs.Rows.{EntityRows};
     ghost use Rattle.drm_entity.specs.Linked.{row_of, IsLinked};
 
     ghost Value = { EntityRows };
 
-    ghost view = { λ e. record { places = length e.next.items; rows = map (row_of e.next.items) e.links.items } };
+    ghost view = { λ e. record { places = vec_capacity e.next; rows = map (row_of e.next.items) e.links.items } };
 
     ghost invariant = { λ e. IsLinked e.next.items e.links.items };
+}
+
+// There is a link for this number, which has a place. Those that are new lead nowhere.
+fn add_links(next: &mut Vec<FenceId>, number: FenceId)
+    requires place { number < vec_capacity next.old }
+    ensures there { number < length next.new.items }
+    ensures longer { length next.old.items ≤ length next.new.items }
+    ensures links { (k : ℕ) → get_or next.new.items k 0 ≡ get_or next.old.items k 0 }
+    ensures room { vec_capacity next.new ≡ vec_capacity next.old }
+{
+    while next.len() <= number as usize {
+        next.push_reserved(0);
+    }
 }
 
 impl Entities {
@@ -56,7 +69,7 @@ impl Entities {
         };
         Ok(Entities {
             links: vec![in alloc; idle; spec.entities.len()]?,
-            next: vec![in alloc; 0; spec.max_jobs as usize]?,
+            next: Vec::with_capacity(alloc, spec.max_jobs as usize)?,
         })
     }
 
@@ -102,13 +115,15 @@ impl Entities {
     }
 
     /// Puts a number at the end of the entity's queue (`drm_sched_entity_push_job`). It is the number of one of the
-    /// device's jobs, and stands in no queue.
+    /// device's jobs, and stands in no queue. The first time that a number is the greatest so far it takes a step for
+    /// each number since the greatest before: one, where jobs are numbered as they come.
     pub fn push(&mut self, entity: EntityId, number: FenceId)
         requires entity { entity < length self.old.rows }
         requires number { number < self.old.places }
         requires fresh { IsFresh self.old number }
         ensures { self.new ≡ pushed self.old entity number }
     {
+        add_links(&mut self.next, number);
         let links = &mut self.links[entity as usize];
         if links.len == 0 {
             links.first = number;

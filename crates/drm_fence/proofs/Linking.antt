@@ -1,6 +1,6 @@
 -- The lists of the fences, where a pair is taken out or put in.
-use Rattle.std.proofs.Common.{◌≡◌, ◌≢◌, ℕ, ◌+◌, ◌-◌, ◌*◌, ◌<◌, ◌≤◌, Bool, true, false, ◌&&◌, ◌==◌, List, set, replicate, length, length-set, get_or, Option, Some, None, refl, sym, ap, subst, ◌∙◌, inl, inr, arith, slice_get, eq-eqb}
-use Rattle.std.specs.Prelude.{IsTrue}
+use Rattle.std.proofs.Common.{◌≡◌, ◌≢◌, ℕ, zero, suc, ◌+◌, ◌-◌, ◌*◌, ◌<◌, ◌≤◌, Bool, true, false, ◌&&◌, ◌==◌, List, [], ◌∷◌, ◌++◌, set, replicate, length, length-set, length-append, get_or, Option, Some, None, refl, sym, ap, subst, ◌∙◌, inl, inr, arith, slice_get, eq-eqb}
+use Rattle.std.specs.Prelude.{◌⊎◌, IsTrue}
 use Rattle.std.proofs.lemmas.Bool.{cases_eq, eqb-true, and_parts}
 use Rattle.std.proofs.lemmas.Option.{slice_get_within, slice_get-get_or}
 use Rattle.std.specs.Option.{option_map_or}
@@ -257,10 +257,10 @@ first_stays cells unmet links (Ended f) k p first is inside at_first stays at =
     let never : true ≡ false = sym (eq-eqb first.fence f (front_is_of cells unmet links f first is inside at_first)) ∙ stays in absurd (cc (never))
 
 -- nobody waits: each list has its end alone
-pub none_linked : (n fences : ℕ) (links : List Links) → n ≤ 64 → length links ≡ n * 64 + fences
-    → ((k : ℕ) → k < n * 64 + fences → behind_of links k ≡ k) → ((k : ℕ) → k < n * 64 + fences → before_of links k ≡ k)
+pub none_linked : (n : ℕ) (links : List Links) → n ≤ 64 → length links ≡ n * 64
+    → ((k : ℕ) → k < n * 64 → behind_of links k ≡ k) → ((k : ℕ) → k < n * 64 → before_of links k ≡ k)
     → IsLinked (replicate (n * 64) None) (replicate n 0) links
-none_linked n fences links few size behind before = record {
+none_linked n links few size behind before = record {
   counted = none_counted n few;
   fences = λ k p at. absurd (none_there (n * 64) k p at);
   rings = record {
@@ -277,9 +277,127 @@ none_linked n fences links few size behind before = record {
     cells : List (Option Pair)
     cells = replicate (n * 64) None
 
-    at_end : (k f : ℕ) → IsOf cells (length links) k f → (k ≡ length cells + f) × (k < n * 64 + fences)
+    at_end : (k f : ℕ) → IsOf cells (length links) k f → (k ≡ length cells + f) × (k < n * 64)
     at_end k f (inl x) = absurd (none_there (n * 64) k x.0 x.1)
     at_end k f (inr x) = (x.0, omega (arith, x.1, size))
+
+-- a list with one more at its end
+get_old : (links : List Links) (end : Links) (k : ℕ) → k < length links → slice_get (links ++ end ∷ []) k ≡ slice_get links k
+get_old [] end k inside = absurd (omega (arith, inside))
+get_old (l ∷ links) end zero inside = refl
+get_old (l ∷ links) end (suc k) inside = get_old links end k (omega (arith, inside))
+
+get_new : (links : List Links) (end : Links) → slice_get (links ++ end ∷ []) (length links) ≡ Some end
+get_new [] end = refl
+get_new (l ∷ links) end = get_new links end
+
+-- one fence more: its list has its end alone
+pub more_linked : (cells : List (Option Pair)) (unmet : List ℕ) (links : List Links) → IsLinked cells unmet links → length cells ≤ length links
+    → IsLinked cells unmet (links ++ record { before = length links; behind = length links } ∷ [])
+more_linked cells unmet links is few = record {
+  counted = is.counted;
+  fences = λ k p at. omega (arith, is.fences k p at, size);
+  rings = subst (λ m. IsRing (IsOf cells m) (IsEarly cells) (length cells) (behind_of new) (before_of new)) (sym size) ring;
+}
+  where
+    n : ℕ
+    n = length links
+
+    end : Links
+    end = record { before = n; behind = n }
+
+    new : List Links
+    new = links ++ end ∷ []
+
+    size : length new ≡ n + 1
+    size = length-append links (end ∷ [])
+
+    behind_old : (k : ℕ) → k < n → behind_of new k ≡ behind_of links k
+    behind_old k inside = ap (λ o. option_map_or (λ (l : Links). l.behind) o 0) (get_old links end k inside)
+
+    before_old : (k : ℕ) → k < n → before_of new k ≡ before_of links k
+    before_old k inside = ap (λ o. option_map_or (λ (l : Links). l.before) o 0) (get_old links end k inside)
+
+    at_n : slice_get new n ≡ Some end
+    at_n = get_new links end
+
+    behind_n : behind_of new n ≡ n
+    behind_n = ap (λ o. option_map_or (λ (l : Links). l.behind) o 0) at_n
+
+    before_n : before_of new n ≡ n
+    before_n = ap (λ o. option_map_or (λ (l : Links). l.before) o 0) at_n
+
+    -- a place of the new lists is the new end, or one of the old lists
+    either : (k f : ℕ) → IsOf cells (n + 1) k f → (k ≡ n) ⊎ ((k < n) × IsOf cells n k f)
+    either k f (inl x) = inr (omega (arith, slice_get_within cells k (Some x.0) x.1, few), inl x)
+    either k f (inr x) =
+        elim (cases_eq k n) [
+          | inl same ↦ inl same
+          | inr apart ↦ let inside : k < n = omega (arith, x.1, apart) in inr (inside, inr (x.0, inside))
+        ]
+
+    still : (k f : ℕ) → IsOf cells n k f → IsOf cells (n + 1) k f
+    still k f (inl x) = inl x
+    still k f (inr x) = inr (x.0, omega (arith, x.1))
+
+    behind_is : (k f : ℕ) → IsOf cells (n + 1) k f → IsOf cells (n + 1) (behind_of new k) f
+    behind_is k f at =
+        elim (either k f at) [
+          | inl same ↦ subst (λ j. IsOf cells (n + 1) j f) (same ∙ sym (ap (behind_of new) same ∙ behind_n)) at
+          | inr old ↦ subst (λ j. IsOf cells (n + 1) j f) (sym (behind_old k old.0)) (still (behind_of links k) f (is.rings.behind_in k f old.1))
+        ]
+
+    before_is : (k f : ℕ) → IsOf cells (n + 1) k f → IsOf cells (n + 1) (before_of new k) f
+    before_is k f at =
+        elim (either k f at) [
+          | inl same ↦ subst (λ j. IsOf cells (n + 1) j f) (same ∙ sym (ap (before_of new) same ∙ before_n)) at
+          | inr old ↦ subst (λ j. IsOf cells (n + 1) j f) (sym (before_old k old.0)) (still (before_of links k) f (is.rings.before_in k f old.1))
+        ]
+
+    there_is : (k f : ℕ) → IsOf cells (n + 1) k f → behind_of new (before_of new k) ≡ k
+    there_is k f at =
+        elim (either k f at) [
+          | inl same ↦ ap (behind_of new) (ap (before_of new) same ∙ before_n) ∙ (behind_n ∙ sym same)
+          | inr old ↦
+              ap (behind_of new) (before_old k old.0)
+              ∙ (behind_old (before_of links k) (in_places cells n (before_of links k) f few (is.rings.before_in k f old.1)) ∙ is.rings.there k f old.1)
+        ]
+
+    back_is : (k f : ℕ) → IsOf cells (n + 1) k f → before_of new (behind_of new k) ≡ k
+    back_is k f at =
+        elim (either k f at) [
+          | inl same ↦ ap (before_of new) (ap (behind_of new) same ∙ behind_n) ∙ (before_n ∙ sym same)
+          | inr old ↦
+              ap (before_of new) (behind_old k old.0)
+              ∙ (before_old (behind_of links k) (in_places cells n (behind_of links k) f few (is.rings.behind_in k f old.1)) ∙ is.rings.back k f old.1)
+        ]
+
+    later_is : (k f : ℕ) → IsOf cells (n + 1) k f → k < length cells → is.rings.turn (before_of new k) < is.rings.turn k
+    later_is k f at inside =
+        elim (either k f at) [
+          | inl same ↦ absurd (omega (arith, same, inside, few))
+          | inr old ↦ subst (λ j. is.rings.turn j < is.rings.turn k) (sym (before_old k old.0)) (is.rings.later k f old.1 inside)
+        ]
+
+    early_is : (k f : ℕ) → IsOf cells (n + 1) k f → IsEarly cells k → before_of new k < length cells → IsEarly cells (before_of new k)
+    early_is k f at early inside =
+        elim (either k f at) [
+          | inl same ↦ absurd (omega (arith, ap (before_of new) same ∙ before_n, inside, few))
+          | inr old ↦
+              subst (IsEarly cells) (sym (before_old k old.0))
+              (is.rings.early_first k f old.1 early (subst (λ j. j < length cells) (before_old k old.0) inside))
+        ]
+
+    ring : IsRing (IsOf cells (n + 1)) (IsEarly cells) (length cells) (behind_of new) (before_of new)
+    ring = record {
+      turn = is.rings.turn;
+      behind_in = behind_is;
+      before_in = before_is;
+      there = there_is;
+      back = back_is;
+      later = later_is;
+      early_first = early_is;
+    }
 
 -- the fence of a pair is one of the fences
 pub fence_within : (cells : List (Option Pair)) (unmet : List ℕ) (links : List Links) (fences fence : ℕ) → IsLinked cells unmet links → length links ≡ length cells + fences → fences ≤ fence

@@ -1,4 +1,4 @@
-ghost use Rattle.std.specs.Prelude.{◌≡◌, ◌≢◌, ℕ, ◌+◌, ◌*◌, ◌<◌, ◌≤◌, [], not, IfOk, length, filter, slice_get, slice_set, Some, None, IfSome, IfNone, IsTrue, IsFalse};
+ghost use Rattle.std.specs.Prelude.{◌≡◌, ◌≢◌, ℕ, ◌+◌, ◌*◌, ◌<◌, ◌≤◌, [], not, IfOk, length, vec_capacity, filter, slice_get, slice_set, Some, None, IfSome, IfNone, IsTrue, IsFalse};
 ghost use Rattle.drm_fence.specs.Cells.{pairs_in, is_released, fence_of};
 ghost use Rattle.drm_fence.specs.Waiting.{without_entity};
 ghost use Rattle.drm_fence.specs.Linked.{IsLinked, IsOf, IsEarly, behind_of};
@@ -16,24 +16,43 @@ pub struct Table {
     pub cells: Vec<Option<Pair>>,
     /// How many pairs each entity has.
     pub unmet: Vec<u32>,
-    /// The links of each place, and behind them, for each fence, those of the end of its list.
+    /// The links of each place, and behind them, for each fence that is there, those of the end of its list.
     pub links: Vec<Links>,
 }
 
 impl Table {
-    /// No pairs, for this many entities and fences.
+    /// No pairs and no fence, with room for this many entities and fences.
     pub fn new(alloc: Global, entities: usize, fences: u32) -> Result<Table, AllocError>
         requires { entities ≤ 64 }
         ensures linked { IfOk result (λ t. IsLinked t.cells.items t.unmet.items t.links.items) }
         ensures pairs { IfOk result (λ t. pairs_in t.cells.items ≡ []) }
         ensures entities { IfOk result (λ t. length t.unmet.items ≡ entities) }
-        ensures fences { IfOk result (λ t. length t.links.items ≡ length t.cells.items + fences) }
+        ensures fences { IfOk result (λ t. length t.links.items ≡ length t.cells.items) }
+        ensures room { IfOk result (λ t. vec_capacity t.links ≡ length t.cells.items + fences) }
     {
         Ok(Table {
             cells: vec![in alloc; None; entities * 64]?,
             unmet: vec![in alloc; 0; entities]?,
-            links: empty_rings(alloc, entities * 64 + fences as usize)?,
+            links: empty_rings(alloc, entities * 64, fences)?,
         })
+    }
+
+    /// One fence more, with nothing in its list.
+    pub fn add_fence(&mut self)
+        requires linked { IsLinked self.old.cells.items self.old.unmet.items self.old.links.items }
+        requires places { length self.old.cells.items ≤ length self.old.links.items }
+        requires room { length self.old.links.items < vec_capacity self.old.links }
+        ensures linked { IsLinked self.new.cells.items self.new.unmet.items self.new.links.items }
+        ensures cells { self.new.cells.items ≡ self.old.cells.items }
+        ensures entities { length self.new.unmet.items ≡ length self.old.unmet.items }
+        ensures places { length self.new.links.items ≡ length self.old.links.items + 1 }
+        ensures room { vec_capacity self.new.links ≡ vec_capacity self.old.links }
+    {
+        let end = self.links.len();
+        self.links.push_reserved(Links {
+            before: end,
+            behind: end,
+        });
     }
 
     /// Puts a pair into its place, which is free.
@@ -48,6 +67,7 @@ impl Table {
         ensures cells { self.new.cells.items ≡ slice_set self.old.cells.items place (Some pair) }
         ensures entities { length self.new.unmet.items ≡ length self.old.unmet.items }
         ensures places { length self.new.links.items ≡ length self.old.links.items }
+        ensures room { vec_capacity self.new.links ≡ vec_capacity self.old.links }
     {
         let (before, behind) = self.gap_for(pair);
         join(&mut self.links, before, place);
@@ -83,6 +103,7 @@ impl Table {
         ensures cells { self.new.cells.items ≡ slice_set self.old.cells.items place None }
         ensures entities { length self.new.unmet.items ≡ length self.old.unmet.items }
         ensures places { length self.new.links.items ≡ length self.old.links.items }
+        ensures room { vec_capacity self.new.links ≡ vec_capacity self.old.links }
     {
         let Links { before, behind } = self.links[place];
         join(&mut self.links, before, behind);
@@ -122,6 +143,7 @@ impl Table {
         ensures pairs { pairs_in self.new.cells.items ≡ filter (λ p. not (is_released why p)) (pairs_in self.old.cells.items) }
         ensures entities { length self.new.unmet.items ≡ length self.old.unmet.items }
         ensures places { length self.new.links.items ≡ length self.old.links.items }
+        ensures room { vec_capacity self.new.links ≡ vec_capacity self.old.links }
     {
         while let Some((place, pair)) = self.first_released(why) {
             self.take_out(place, pair);
@@ -136,6 +158,7 @@ impl Table {
         ensures cells { self.new.cells.items ≡ slice_set self.old.cells.items place None }
         ensures entities { length self.new.unmet.items ≡ length self.old.unmet.items }
         ensures places { length self.new.links.items ≡ length self.old.links.items }
+        ensures room { vec_capacity self.new.links ≡ vec_capacity self.old.links }
     {
         if let Some(pair) = self.pair_at(place) {
             self.take_out(place, pair);
@@ -150,6 +173,7 @@ impl Table {
         ensures pairs { pairs_in self.new.cells.items ≡ without_entity (pairs_in self.old.cells.items) entity }
         ensures entities { length self.new.unmet.items ≡ length self.old.unmet.items }
         ensures places { length self.new.links.items ≡ length self.old.links.items }
+        ensures room { vec_capacity self.new.links ≡ vec_capacity self.old.links }
     {
         for of in 0..64 {
             let is_done = self.unmet[entity as usize] == 0;

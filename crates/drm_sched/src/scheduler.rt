@@ -194,12 +194,13 @@ impl Scheduler {
         ensures heads { HasHeads self.new }
     {
         let entity = job.entity();
-        if self.marked.table.entities.is_empty(entity) {
-            let fence = self.marked.arm(job, deps);
+        let is_head = self.marked.table.entities.is_empty(entity);
+        let fence = self.marked.arm(job, deps);
+        self.heads.armed();
+        if is_head {
             self.heads.place(&self.marked.table, entity);
-            return fence;
         }
-        self.marked.arm(job, deps)
+        fence
     }
 
     /// The tables and the heads of a device on which no job was armed, and of which nothing is out.

@@ -5,5 +5,5 @@ use Rattle.drm_entity.proofs.entities.Entities.head.Goals as goal
 
 pub returns-else-links-eq0 : goal.returns-else-links-eq0
 returns-else-links-eq0 c =
-    let at = link_at _ _ _ _ _ c.self.view_is c.requires c.index-links.ensures in
-    first_of_walk _ _ _ c.if-links-eq0.false ∙ ap first (sym (queue_is _ _ _ _ _ c.self.view_is at))
+    let at = link_at _ _ _ _ _ _ c.self.view_is c.requires c.index-links.ensures in
+    first_of_walk _ _ _ c.if-links-eq0.false ∙ ap first (sym (queue_is _ _ _ _ _ _ c.self.view_is at))

@@ -6,10 +6,10 @@ use Rattle.drm_entity.proofs.entities.Entities.set_guilty.Goals as goal
 
 pub invariant_of-self : goal.invariant_of-self
 invariant_of-self c =
-    let at = link_at _ _ _ _ _ c.self.view_is c.requires c.index_mut-links.ensures.value in
+    let at = link_at _ _ _ _ _ _ c.self.view_is c.requires c.index_mut-links.ensures.value in
     linked_marked _ _ _ _ _ c.self.invariant at refl refl refl
 
 pub returns : goal.returns
 returns c =
-    let at = link_at _ _ _ _ _ c.self.view_is c.requires c.index_mut-links.ensures.value in
-    changed_is _ _ _ _ c.args.entity _ _ (λ (r : EntityRow). record r { is_guilty = true }) c.self.view_is at refl (λ f m away at_f. refl) refl
+    let at = link_at _ _ _ _ _ _ c.self.view_is c.requires c.index_mut-links.ensures.value in
+    changed_is _ _ _ _ _ c.args.entity _ _ (λ (r : EntityRow). record r { is_guilty = true }) c.self.view_is at (λ f m away at_f. refl) refl

@@ -26,6 +26,7 @@ loop-of-preserved c =
       linked = c.clear.ensures.linked;
       entities = omega (arith, c.clear.ensures.entities, c.loop-of.invariant.entities);
       places = omega (arith, c.clear.ensures.places, c.loop-of.invariant.places);
+      room = c.clear.ensures.room ∙ c.loop-of.invariant.room;
       kept = ap (λ (l : List (Option Pair)). without_entity (pairs_in l) c.args.entity) c.clear.ensures.cells
           ∙ (filter_cleared (λ p. not (p.entity == c.args.entity)) cells place
           (λ p at.

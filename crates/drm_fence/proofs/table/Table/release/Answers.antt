@@ -16,6 +16,7 @@ loop-place-preserved c = record {
   size = omega (arith, c.take_out.ensures.linked.counted.room, c.take_out.ensures.entities, c.loop-place.invariant.linked.counted.room, c.loop-place.invariant.size);
   entities = omega (arith, c.take_out.ensures.entities, c.loop-place.invariant.entities);
   places = omega (arith, c.take_out.ensures.places, c.loop-place.invariant.places);
+  room = c.take_out.ensures.room ∙ c.loop-place.invariant.room;
   kept = ap (λ (l : List (Option Pair)). filter (λ p. not (is_released c.args.why p)) (pairs_in l)) c.take_out.ensures.cells
       ∙ (filter_taken (λ p. not (is_released c.args.why p)) c.loop-place.self.cells.items c.in-Some.place c.in-Some.pair c.in-Some.ensures.some.0 (ap not c.in-Some.ensures.some.1)
       ∙ c.loop-place.invariant.kept);

@@ -12,5 +12,5 @@ returns-else-fence-self c =
     let pairs : pairs_in cells ≡ c.args.self.now.pairs = ap (λ (w : Waiting). w.pairs) c.self.view_is in
     let all : without_early (pairs_in cells) c.args.fence ≡ pairs_in cells =
     filter_kept (λ p. not ((p.fence == c.args.fence) && p.is_early)) cells (λ k p at. ap (λ b. not (b && p.is_early)) (fence_within _ _ _ c.self.inside.fences c.args.fence c.self.invariant.0 c.self.invariant.1 c.if-fence-self.false k p at)) in
-    ap (λ (l : List Pair). record { entities = c.args.self.now.entities; fences = c.args.self.now.fences; pairs = l })
+    ap (λ (l : List Pair). record { entities = c.args.self.now.entities; fences = c.args.self.now.fences; places = c.args.self.now.places; pairs = l })
     (sym (subst (λ (l : List Pair). without_early l c.args.fence ≡ l) pairs all))
