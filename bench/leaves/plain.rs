@@ -129,20 +129,28 @@ struct Waiters {
     unmet: Vec<u32>,
     links: Vec<Links>,
     fences: u32,
-    places: u32,
 }
 
 impl Waiters {
-    fn new(entities: usize, places: u32) -> Waiters {
-        let mut links = Vec::with_capacity(entities * 64 + places as usize);
+    fn new(entities: usize, fences: u32) -> Waiters {
+        let mut links = Vec::with_capacity(entities * 64 + fences as usize);
         links.extend((0..entities * 64).map(|place| Links { before: place, behind: place }));
-        Waiters { cells: vec![None; entities * 64], unmet: vec![0; entities], links, fences: 0, places }
+        Waiters { cells: vec![None; entities * 64], unmet: vec![0; entities], links, fences }
     }
 
-    fn add_fence(&mut self) {
+    fn lists(&self) -> usize {
+        self.links.len() - self.cells.len()
+    }
+
+    fn add_list(&mut self) {
         let end = self.links.len();
         self.links.push(Links { before: end, behind: end });
-        self.fences += 1;
+    }
+
+    fn prepare_next(&mut self) {
+        if self.lists() < self.fences as usize {
+            self.add_list();
+        }
     }
 
     fn join(&mut self, before: usize, behind: usize) {
@@ -156,6 +164,9 @@ impl Waiters {
 
     fn watch(&mut self, entity: u32, fence: u32, of: u32, is_early: bool) {
         let place = entity as usize * 64 + of as usize;
+        while self.lists() <= fence as usize {
+            self.add_list();
+        }
         let end = self.cells.len() + fence as usize;
         let links = self.links[end];
         let (before, behind) = if is_early { (end, links.behind) } else { (links.before, end) };
@@ -173,7 +184,7 @@ impl Waiters {
     }
 
     fn release(&mut self, fence: u32, early_only: bool) {
-        if fence >= self.fences {
+        if fence as usize >= self.lists() {
             return;
         }
         let end = self.cells.len() + fence as usize;
@@ -211,9 +222,7 @@ fn waiters() -> u64 {
     let mut sum = 0u64;
     for job in 0..JOBS {
         let entity = job % 64;
-        if waiters.fences < waiters.places {
-            waiters.add_fence();
-        }
+        waiters.prepare_next();
         for step in 0..3u32 {
             let of = (entity * 7 + step * 11 + job / 64) % 64;
             let fence = job.saturating_sub(of);

@@ -70,9 +70,7 @@ pub(crate) fn waiters(alloc: Global) -> Result<u64, AllocError> {
     let mut sum = 0u64;
     for job in 0..65_535u32 {
         let entity = job % 64;
-        if waiters.fences() < waiters.places() {
-            waiters.add_fence();
-        }
+        waiters.prepare_next();
         for step in 0..3u32 {
             watch(
                 &mut waiters,

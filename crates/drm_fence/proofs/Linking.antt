@@ -291,7 +291,7 @@ get_new : (links : List Links) (end : Links) → slice_get (links ++ end ∷ [])
 get_new [] end = refl
 get_new (l ∷ links) end = get_new links end
 
--- one fence more: its list has its end alone
+-- one list more: it has its end alone
 pub more_linked : (cells : List (Option Pair)) (unmet : List ℕ) (links : List Links) → IsLinked cells unmet links → length cells ≤ length links
     → IsLinked cells unmet (links ++ record { before = length links; behind = length links } ∷ [])
 more_linked cells unmet links is few = record {
@@ -399,11 +399,11 @@ more_linked cells unmet links is few = record {
       early_first = early_is;
     }
 
--- the fence of a pair is one of the fences
-pub fence_within : (cells : List (Option Pair)) (unmet : List ℕ) (links : List Links) (fences fence : ℕ) → IsLinked cells unmet links → length links ≡ length cells + fences → fences ≤ fence
+-- nobody waits for a fence without a list
+pub fence_within : (cells : List (Option Pair)) (unmet : List ℕ) (links : List Links) (fence : ℕ) → IsLinked cells unmet links → length links ≤ length cells + fence
     → (k : ℕ) (p : Pair) → slice_get cells k ≡ Some (Some p) → (p.fence == fence) ≡ false
-fence_within cells unmet links fences fence is size past k p at =
-    differs p.fence fence (λ same. absurd (omega (arith, is.fences k p at, size, past, same)))
+fence_within cells unmet links fence is past k p at =
+    differs p.fence fence (λ same. absurd (omega (arith, is.fences k p at, past, same)))
 
 pub entity_within : (cells : List (Option Pair)) (unmet : List ℕ) (links : List Links) (entity : ℕ) → IsLinked cells unmet links → length unmet ≤ entity
     → (k : ℕ) (p : Pair) → slice_get cells k ≡ Some (Some p) → (p.entity == entity) ≡ false

@@ -2,11 +2,10 @@
 use Rattle.std.specs.Prelude.{ℕ, not, ◌&&◌, ◌==◌, List, filter, count_by, All, IsFalse}
 use Rattle.drm_fence.specs.declared.pair.Pair.{Pair}
 
--- the pairs that wait, in any order, how many entities and fences there are, and how many fences there may be
+-- the pairs that wait, in any order, and how many entities and fences there may be
 pub record Waiting : Type 0 where
   pub entities : ℕ
   pub fences : ℕ
-  pub places : ℕ
   pub pairs : List Pair
 
 -- how many fences the entity waits for

@@ -6,7 +6,7 @@ ghost use Rattle.drm_fence.specs.declared.pair.Pair.{Pair};
 
 use crate::links::{Links, empty_rings, join};
 use crate::pair::{Pair, Release};
-use drm_types::EntityId;
+use drm_types::{EntityId, FenceId};
 use std::alloc::{AllocError, Global};
 
 /// A place for each two entities, and the pairs of each fence linked into one list, the early ones in front.
@@ -16,12 +16,12 @@ pub struct Table {
     pub cells: Vec<Option<Pair>>,
     /// How many pairs each entity has.
     pub unmet: Vec<u32>,
-    /// The links of each place, and behind them, for each fence that is there, those of the end of its list.
+    /// The links of each place, and behind them, for each fence that has a list, those of its end.
     pub links: Vec<Links>,
 }
 
 impl Table {
-    /// No pairs and no fence, with room for this many entities and fences.
+    /// No pairs and no lists, with room for this many entities and fences.
     pub fn new(alloc: Global, entities: usize, fences: u32) -> Result<Table, AllocError>
         requires { entities ≤ 64 }
         ensures linked { IfOk result (λ t. IsLinked t.cells.items t.unmet.items t.links.items) }
@@ -37,8 +37,16 @@ impl Table {
         })
     }
 
-    /// One fence more, with nothing in its list.
-    pub fn add_fence(&mut self)
+    /// How many fences have a list: those of the first numbers. Nobody waits for another.
+    pub fn lists(&self) -> usize
+        requires { length self.now.cells.items ≤ length self.now.links.items }
+        ensures { result + length self.now.cells.items ≡ length self.now.links.items }
+    {
+        self.links.len() - self.cells.len()
+    }
+
+    /// One list more, with nothing in it.
+    pub fn add_list(&mut self)
         requires linked { IsLinked self.old.cells.items self.old.unmet.items self.old.links.items }
         requires places { length self.old.cells.items ≤ length self.old.links.items }
         requires room { length self.old.links.items < vec_capacity self.old.links }
@@ -53,6 +61,22 @@ impl Table {
             before: end,
             behind: end,
         });
+    }
+
+    /// Makes the lists up to that of this fence, where they are missing.
+    pub fn reach(&mut self, fence: FenceId)
+        requires linked { IsLinked self.old.cells.items self.old.unmet.items self.old.links.items }
+        requires places { length self.old.cells.items ≤ length self.old.links.items }
+        requires room { length self.old.cells.items + fence < vec_capacity self.old.links }
+        ensures linked { IsLinked self.new.cells.items self.new.unmet.items self.new.links.items }
+        ensures cells { self.new.cells.items ≡ self.old.cells.items }
+        ensures entities { length self.new.unmet.items ≡ length self.old.unmet.items }
+        ensures fence { length self.new.cells.items + fence < length self.new.links.items }
+        ensures room { vec_capacity self.new.links ≡ vec_capacity self.old.links }
+    {
+        'missing: while self.lists() <= fence as usize {
+            self.add_list();
+        }
     }
 
     /// Puts a pair into its place, which is free.

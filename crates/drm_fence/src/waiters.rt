@@ -1,4 +1,4 @@
-ghost use Rattle.std.specs.Prelude.{◌≡◌, ℕ, ◌+◌, ◌<◌, ◌≤◌, [], ◌∷◌, IfOk, length, IsFalse, ◌↔◌, get_or};
+ghost use Rattle.std.specs.Prelude.{◌≡◌, ℕ, ◌<◌, ◌≤◌, [], ◌∷◌, IfOk, length, IsFalse, ◌↔◌, get_or};
 ghost use Rattle.std.specs.List.Sorted.{IsPermutation};
 ghost use Rattle.drm_fence.specs.Waiting.{unmet_in, HasNoPair, without_early, without_fence, without_entity};
 
@@ -14,44 +14,42 @@ use std::marker::Model;
 pub struct Waiters {
     table: Table,
     fences: u32,
-    places: u32,
 }
 
 impl Model for Waiters {
-    ghost use Rattle.std.specs.Prelude.{◌≡◌, ◌+◌, length, vec_capacity};
+    ghost use Rattle.std.specs.Prelude.{◌≡◌, ◌+◌, ◌≤◌, length, vec_capacity};
     ghost use Rattle.drm_fence.specs.Waiting.{Waiting};
     ghost use Rattle.drm_fence.specs.Cells.{pairs_in};
     ghost use Rattle.drm_fence.specs.Linked.{IsLinked};
 
     ghost Value = { Waiting };
 
-    ghost view = { λ w. record { entities = length w.table.unmet.items; fences = w.fences; places = w.places; pairs = pairs_in w.table.cells.items } };
+    ghost view = { λ w. record { entities = length w.table.unmet.items; fences = w.fences; pairs = pairs_in w.table.cells.items } };
 
-    ghost invariant = { λ w. IsLinked w.table.cells.items w.table.unmet.items w.table.links.items × (length w.table.links.items ≡ length w.table.cells.items + w.fences) × (vec_capacity w.table.links ≡ length w.table.cells.items + w.places) };
+    ghost invariant = { λ w. IsLinked w.table.cells.items w.table.unmet.items w.table.links.items × (length w.table.cells.items ≤ length w.table.links.items) × (vec_capacity w.table.links ≡ length w.table.cells.items + w.fences) };
 }
 
 impl Waiters {
-    /// No fence is there, and nobody waits. The memory is taken at once, for at most one pair of each two entities of
-    /// the device, and for the fences of all its jobs.
+    /// Nobody waits. The memory is taken at once, for at most one pair of each two entities of the device.
     pub fn new(alloc: Global, spec: &DeviceSpec) -> Result<Waiters, AllocError>
         requires { length spec.now.entities ≤ 64 }
-        ensures { IfOk result (λ w. w ≡ record { entities = length spec.now.entities; fences = 0; places = spec.now.max_jobs; pairs = [] }) }
+        ensures { IfOk result (λ w. w ≡ record { entities = length spec.now.entities; fences = spec.now.max_jobs; pairs = [] }) }
     {
         Ok(Waiters {
             table: Table::new(alloc, spec.entities.len(), spec.max_jobs)?,
-            fences: 0,
-            places: spec.max_jobs,
+            fences: spec.max_jobs,
         })
     }
 
-    /// One fence more, for which nobody waits: the one of the next number (`cb_list` of `struct dma_fence`, which
-    /// `dma_fence_init` makes empty).
-    pub fn add_fence(&mut self)
-        requires { self.old.fences < self.old.places }
-        ensures { self.new ≡ record self.old { fences = self.old.fences + 1 } }
+    /// Makes the list of the next fence, where there may be one more (`cb_list` of `struct dma_fence`, which
+    /// `dma_fence_init` makes empty). Who calls it for each fence as it comes has each `watch` take the same time, since
+    /// that makes the lists that are missing. Nothing else shows it.
+    pub fn prepare_next(&mut self)
+        ensures { self.new ≡ self.old }
     {
-        self.table.add_fence();
-        self.fences += 1;
+        if self.table.lists() < self.fences as usize {
+            self.table.add_list();
+        }
     }
 
     /// The entity waits for the fence, which is of the entity `of`; early, where it waits only until the fence is
@@ -64,7 +62,6 @@ impl Waiters {
         ensures pairs { IsPermutation (record { entity = entity; fence = fence; of = of; is_early = early } ∷ self.old.pairs) self.new.pairs }
         ensures entities { self.new.entities ≡ self.old.entities }
         ensures fences { self.new.fences ≡ self.old.fences }
-        ensures places { self.new.places ≡ self.old.places }
     {
         let pair = Pair {
             entity,
@@ -72,6 +69,7 @@ impl Waiters {
             of,
             is_early: early,
         };
+        self.table.reach(fence);
         self.table.put(entity as usize * 64 + of as usize, pair);
     }
 
@@ -82,18 +80,11 @@ impl Waiters {
         self.table.unmet.len()
     }
 
-    /// How many fences there are.
+    /// How many fences there may be.
     pub fn fences(&self) -> u32
         ensures { result ≡ self.now.fences }
     {
         self.fences
-    }
-
-    /// How many fences there may be.
-    pub fn places(&self) -> u32
-        ensures { result ≡ self.now.places }
-    {
-        self.places
     }
 
     /// Whether the entity waits for a fence of the entity `of`. One look-up.
@@ -124,7 +115,7 @@ impl Waiters {
     pub fn scheduled(&mut self, fence: FenceId)
         ensures { self.new ≡ record self.old { pairs = without_early self.old.pairs fence } }
     {
-        if fence < self.fences {
+        if (fence as usize) < self.table.lists() {
             self.table.release(Release::Scheduled(fence));
         }
     }
@@ -133,7 +124,7 @@ impl Waiters {
     pub fn ended(&mut self, fence: FenceId)
         ensures { self.new ≡ record self.old { pairs = without_fence self.old.pairs fence } }
     {
-        if fence < self.fences {
+        if (fence as usize) < self.table.lists() {
             self.table.release(Release::Ended(fence));
         }
     }

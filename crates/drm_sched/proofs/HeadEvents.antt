@@ -258,7 +258,7 @@ finish_heads d n waits new_waits h k ring now f o steady there is same stand que
     (stand_left d n waits k (ended_met f) (λ (p : Pair). not (p.fence == f)) e.0.spec
     (λ entity. end_leaves d n f entity e.0 (no_wait entity e.0.job e.1))
     (end_unmet d f)
-    (pairs_left d.spec (length waits) (head_key d) (watched_of d waits) h k (λ (p : Pair). not (p.fence == f)) stand queues waiters))
+    (pairs_left d.spec (head_key d) (watched_of d waits) h k (λ (p : Pair). not (p.fence == f)) stand queues waiters))
   where
     no_wait : (entity : ℕ) (r : JobRecord) → r.phase ≡ Scheduled → waits_in entity r ≡ false
     no_wait entity r phase = ap (λ p. (r.job.entity == entity) && is_queued p) phase ∙ and_no (r.job.entity == entity)
@@ -289,8 +289,8 @@ reap_heads d n waits new_waits h k entity f may is same stand queues waiters =
     (but_left d n waits k (ended_met f) (λ (p : Pair). not (p.fence == f)) entity e.0.spec
     (λ other apart. end_leaves d n f other e.0 (ap (λ b. b && is_queued e.0.job.phase) (ne_eqb e.0.job.job.entity other (λ i. apart (sym i ∙ e.1)))))
     (end_unmet d f)
-    (told_alike d.spec (length waits) (head_key d) (but_key entity (head_key d)) (λ x. filter (λ (p : Pair). not (p.fence == f)) (watched_of d waits x)) (but_watched entity (λ x. filter (λ (p : Pair). not (p.fence == f)) (watched_of d waits x))) k
-    (pairs_left d.spec (length waits) (head_key d) (watched_of d waits) h k (λ (p : Pair). not (p.fence == f)) stand queues waiters)
+    (told_alike d.spec (head_key d) (but_key entity (head_key d)) (λ x. filter (λ (p : Pair). not (p.fence == f)) (watched_of d waits x)) (but_watched entity (λ x. filter (λ (p : Pair). not (p.fence == f)) (watched_of d waits x))) k
+    (pairs_left d.spec (head_key d) (watched_of d waits) h k (λ (p : Pair). not (p.fence == f)) stand queues waiters)
     (λ ring x. but_key_is d entity ring x stopped) (λ x. but_watched_is d waits entity f x stopped)))
     (λ ring. stopped_key n entity ring still) (stopped_watched n waits entity still))
   where
@@ -382,8 +382,8 @@ pick_heads d n waits new_waits h k m ring f entity p steady there of_it same sta
     (but_left d n waits m (picked_met p.job.ring f) left entity p.spec
     (λ other apart. pick_leaves_head d n ring f other p (λ i. apart (i ∙ sym of_it)))
     (λ other. pick_unmet d n ring f other p)
-    (head_removed d.spec (length waits) (head_key d) (λ e. filter left (watched_of d waits e)) k m ring entity
-    (pairs_left d.spec (length waits) (head_key d) (watched_of d waits) h k left stand queues waiters) there here
+    (head_removed d.spec (head_key d) (λ e. filter left (watched_of d waits e)) k m ring entity
+    (pairs_left d.spec (head_key d) (watched_of d waits) h k left stand queues waiters) there here
     (λ other away. on_no_other d entity other f front.0 front.1.first (λ i. away (i ∙ home))) removed forgot))
   where
     front : (r : JobRecord) × IsFront d.journal entity f r

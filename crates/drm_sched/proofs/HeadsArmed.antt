@@ -1,5 +1,5 @@
 -- The heads of the queues after an arming, and after a cancel.
-use Rattle.std.proofs.Common.{◌≡◌, ◌≢◌, ℕ, suc, ◌+◌, ◌<◌, Bool, true, false, cond, not, ◌&&◌, ◌==◌, List, [], ◌∷◌, ◌++◌, length, length-append, set, map, Some, None, Option, refl, sym, ap, subst, ◌∙◌, inl, inr, arith, slice_get}
+use Rattle.std.proofs.Common.{◌≡◌, ◌≢◌, ℕ, suc, ◌+◌, ◌<◌, Bool, true, false, cond, not, ◌&&◌, ◌==◌, List, [], ◌∷◌, ◌++◌, length, set, map, Some, None, Option, refl, sym, ap, subst, ◌∙◌, inl, inr, arith, slice_get}
 use Rattle.std.specs.Option.{option_map_or}
 use Rattle.std.specs.List.{filter, enumerate_from}
 use Rattle.std.proofs.lemmas.Bool.{cases_eq, ne_eqb, eq-eqb}
@@ -25,7 +25,7 @@ use Rattle.drm_sched.specs.Watching.{pair_of, unmet_pairs, watched_of}
 use Rattle.drm_table.proofs.ArmLawful.{get_before_push}
 use Rattle.drm_table.proofs.Candidates.{queued_goes_on}
 use Rattle.drm_sched.proofs.HeadChoice.{first_is}
-use Rattle.drm_sched.proofs.HeadsKept.{told_alike, one_more, but_key, but_watched, no_head_stands, stopped_key, stopped_watched, empty_key, empty_watched}
+use Rattle.drm_sched.proofs.HeadsKept.{told_alike, but_key, but_watched, no_head_stands, stopped_key, stopped_watched, empty_key, empty_watched}
 use Rattle.drm_sched.proofs.HeadsLeft.{LeavesHead, heads_alike, same_heads_itself, left_key, left_watched, keep_all}
 use Rattle.drm_table.proofs.Pairs.{get_set_same, get_set_other}
 use Rattle.drm_table.proofs.Pending.{contains_at}
@@ -36,7 +36,7 @@ use Rattle.drm_table.proofs.Records.{stands_within}
 pub stand_but : (d : DeviceState) (waits : List (List (ℕ × ℕ))) (entity : ℕ) (h : Heads) → HeadsStand d waits h
     → ((ring : ℕ) → head_key d ring entity ≡ None) → watched_of d waits entity ≡ [] → HeadsStandBut d waits entity h
 stand_but d waits entity h stand none nothing =
-    told_alike d.spec (length waits) (head_key d) (but_key entity (head_key d)) (watched_of d waits) (but_watched entity (watched_of d waits)) h stand
+    told_alike d.spec (head_key d) (but_key entity (head_key d)) (watched_of d waits) (but_watched entity (watched_of d waits)) h stand
     (λ ring e. by_key ring e) (λ e. by_pairs e)
   where
     by_key : (ring e : ℕ) → but_key entity (head_key d) ring e ≡ head_key d ring e
@@ -54,13 +54,12 @@ stand_but d waits entity h stand none nothing =
         ]
 
 -- where the others are told alike, so are all but one
-but_alike : (d n : DeviceState) (waits new_waits : List (List (ℕ × ℕ))) (armed entity : ℕ) (h : Heads) → n.spec ≡ d.spec
-    → HeadsAre d.spec armed (but_key entity (head_key d)) (but_watched entity (watched_of d waits)) h
+but_alike : (d n : DeviceState) (waits new_waits : List (List (ℕ × ℕ))) (entity : ℕ) (h : Heads) → n.spec ≡ d.spec → HeadsStandBut d waits entity h
     → ((ring e : ℕ) → e ≢ entity → head_key n ring e ≡ head_key d ring e) → ((e : ℕ) → e ≢ entity → watched_of n new_waits e ≡ watched_of d waits e)
-    → HeadsAre n.spec armed (but_key entity (head_key n)) (but_watched entity (watched_of n new_waits)) h
-but_alike d n waits new_waits armed entity h spec but keys pairs =
-    subst (λ (s : DeviceSpec). HeadsAre s armed (but_key entity (head_key n)) (but_watched entity (watched_of n new_waits)) h) (sym spec)
-    (told_alike d.spec armed (but_key entity (head_key d)) (but_key entity (head_key n)) (but_watched entity (watched_of d waits)) (but_watched entity (watched_of n new_waits)) h but by_key by_pairs)
+    → HeadsStandBut n new_waits entity h
+but_alike d n waits new_waits entity h spec but keys pairs =
+    subst (λ (s : DeviceSpec). HeadsAre s (but_key entity (head_key n)) (but_watched entity (watched_of n new_waits)) h) (sym spec)
+    (told_alike d.spec (but_key entity (head_key d)) (but_key entity (head_key n)) (but_watched entity (watched_of d waits)) (but_watched entity (watched_of n new_waits)) h but by_key by_pairs)
   where
     by_key : (ring e : ℕ) → but_key entity (head_key n) ring e ≡ but_key entity (head_key d) ring e
     by_key ring e =
@@ -103,7 +102,7 @@ cancel_stand d waits entity h lt but =
     let leaves : (e : ℕ) → e ≢ entity → LeavesHead d n (λ ring k. false) e = λ e apart. heads_alike d n e refl (stopped_other d.entities entity e apart) (same_heads_itself d.journal) in
     let stopped : is_stopped n entity ≡ true = stopped_here d.entities entity lt in
     no_head_stands n waits entity h
-    (but_alike d n waits waits (length waits) entity h refl but (λ ring e apart. left_key d n (λ ring k. false) e ring (leaves e apart))
+    (but_alike d n waits waits entity h refl but (λ ring e apart. left_key d n (λ ring k. false) e ring (leaves e apart))
     (λ e apart. left_watched d n waits (λ ring k. false) e (λ p. true) (leaves e apart) (λ ring dep. refl) ∙ keep_all (watched_of d waits e)))
     (λ ring. stopped_key n entity ring stopped) (stopped_watched n waits entity stopped)
 
@@ -197,14 +196,11 @@ armed_watched d job waits deps entity stand keeps =
         (λ k x at. let is_dep = All-contains (IsDependency d.journal m.0 m.1.job) its.0 x of_jobs (contains_at its.0 k x at) in slice_get_within d.journal x.1 is_dep.0 is_dep.1)
         ∙ ap (λ o. unmet_pairs d.journal entity m.1.ring (option_map_or (λ ds. ds) o [])) (sym its.1)))
 
-pub arm_stand : (d : DeviceState) (job : Draft) (waits : List (List (ℕ × ℕ))) (deps : List (ℕ × ℕ)) (h k : Heads) (m : ℕ × JobRecord) → WaitsStand d.journal waits
-    → first (queue_of job.entity d.journal) ≡ Some m → HeadsStand d waits h → k.queues.items ≡ h.queues.items → k.waiters ≡ record h.waiters { fences = h.waiters.fences + 1 }
-    → HeadsStand (armed_device d job) (waits ++ deps ∷ []) k
-arm_stand d job waits deps h k m stand is heads queues waiters =
-    subst (λ n. HeadsAre d.spec n (head_key (armed_device d job)) (watched_of (armed_device d job) (waits ++ deps ∷ [])) k) (sym (length-append waits (deps ∷ [])))
-    (told_alike d.spec (length waits + 1) (head_key d) (head_key (armed_device d job)) (watched_of d waits) (watched_of (armed_device d job) (waits ++ deps ∷ [])) k
-    (one_more d.spec (length waits) (head_key d) (watched_of d waits) h k heads queues waiters)
-    (λ ring e. armed_key d job e ring (keeps e)) (λ e. armed_watched d job waits deps e stand (keeps e)))
+pub arm_stand : (d : DeviceState) (job : Draft) (waits : List (List (ℕ × ℕ))) (deps : List (ℕ × ℕ)) (h : Heads) (m : ℕ × JobRecord) → WaitsStand d.journal waits
+    → first (queue_of job.entity d.journal) ≡ Some m → HeadsStand d waits h → HeadsStand (armed_device d job) (waits ++ deps ∷ []) h
+arm_stand d job waits deps h m stand is heads =
+    told_alike d.spec (head_key d) (head_key (armed_device d job)) (watched_of d waits) (watched_of (armed_device d job) (waits ++ deps ∷ [])) h heads
+    (λ ring e. armed_key d job e ring (keeps e)) (λ e. armed_watched d job waits deps e stand (keeps e))
   where
     keeps : (e : ℕ) → KeepsFirst d job e
     keeps e =
@@ -213,13 +209,9 @@ arm_stand d job waits deps h k m stand is heads queues waiters =
           | inr apart ↦ keeps_other d job e apart
         ]
 
-pub arm_stand_but : (d : DeviceState) (job : Draft) (waits : List (List (ℕ × ℕ))) (deps : List (ℕ × ℕ)) (h k : Heads) → WaitsStand d.journal waits
-    → first (queue_of job.entity d.journal) ≡ None → HeadsStand d waits h → k.queues.items ≡ h.queues.items → k.waiters ≡ record h.waiters { fences = h.waiters.fences + 1 }
-    → HeadsStandBut (armed_device d job) (waits ++ deps ∷ []) job.entity k
-arm_stand_but d job waits deps h k stand none heads queues waiters =
-    let n = armed_device d job in
-    subst (λ m. HeadsAre d.spec m (but_key job.entity (head_key n)) (but_watched job.entity (watched_of n (waits ++ deps ∷ []))) k) (sym (length-append waits (deps ∷ [])))
-    (but_alike d n waits (waits ++ deps ∷ []) (length waits + 1) job.entity k refl
-    (one_more d.spec (length waits) (but_key job.entity (head_key d)) (but_watched job.entity (watched_of d waits)) h k
-    (stand_but d waits job.entity h heads (λ ring. empty_key d job.entity ring none) (empty_watched d waits job.entity none)) queues waiters)
-    (λ ring e apart. armed_key d job e ring (keeps_other d job e apart)) (λ e apart. armed_watched d job waits deps e stand (keeps_other d job e apart)))
+pub arm_stand_but : (d : DeviceState) (job : Draft) (waits : List (List (ℕ × ℕ))) (deps : List (ℕ × ℕ)) (h : Heads) → WaitsStand d.journal waits
+    → first (queue_of job.entity d.journal) ≡ None → HeadsStand d waits h → HeadsStandBut (armed_device d job) (waits ++ deps ∷ []) job.entity h
+arm_stand_but d job waits deps h stand none heads =
+    but_alike d (armed_device d job) waits (waits ++ deps ∷ []) job.entity h refl
+    (stand_but d waits job.entity h heads (λ ring. empty_key d job.entity ring none) (empty_watched d waits job.entity none))
+    (λ ring e apart. armed_key d job e ring (keeps_other d job e apart)) (λ e apart. armed_watched d job waits deps e stand (keeps_other d job e apart))

@@ -1,5 +1,5 @@
 -- What changes of the heads when one is put in place, or taken out.
-use Rattle.std.proofs.Common.{◌≡◌, ◌≢◌, ℕ, ◌+◌, ◌<◌, Bool, true, false, cond, ◌&&◌, ◌==◌, List, [], length, set, Some, None, Option, refl, sym, ap, subst, ◌∙◌, inl, inr, arith, slice_get, get_or}
+use Rattle.std.proofs.Common.{◌≡◌, ◌≢◌, ℕ, ◌<◌, Bool, true, false, cond, ◌&&◌, ◌==◌, List, [], length, set, Some, None, Option, refl, sym, ap, subst, ◌∙◌, inl, inr, arith, slice_get, get_or}
 use Rattle.std.specs.Prelude.{option_map, All}
 use Rattle.std.proofs.lemmas.List.Elements.{All-weaker}
 use Rattle.std.specs.Option.{option_map_or}
@@ -34,16 +34,15 @@ use Rattle.drm_table.proofs.Records.{stands_within, at_index}
 use Rattle.drm_sched.proofs.Watching.{left_of, forgotten, kept_of}
 
 -- the same keys and pairs, told in other words
-pub told_alike : (spec : DeviceSpec) (armed : ℕ) (key new_key : ℕ → ℕ → Option Key) (watched new_watched : ℕ → List Pair) (h : Heads) → HeadsAre spec armed key watched h
-    → ((ring e : ℕ) → new_key ring e ≡ key ring e) → ((e : ℕ) → new_watched e ≡ watched e) → HeadsAre spec armed new_key new_watched h
-told_alike spec armed key new_key watched new_watched h are keys pairs = record {
+pub told_alike : (spec : DeviceSpec) (key new_key : ℕ → ℕ → Option Key) (watched new_watched : ℕ → List Pair) (h : Heads) → HeadsAre spec key watched h
+    → ((ring e : ℕ) → new_key ring e ≡ key ring e) → ((e : ℕ) → new_watched e ≡ watched e) → HeadsAre spec new_key new_watched h
+told_alike spec key new_key watched new_watched h are keys pairs = record {
   rings = are.rings;
   entities = are.entities;
   keys = λ ring e ks k at_ring at. are.keys ring e ks k at_ring at ∙ sym (keys ring e);
   watches = λ e. subst (AreWatched h.waiters.pairs e) (sym (pairs e)) (are.watches e);
   waiting = are.waiting;
   fences = are.fences;
-  places = are.places;
 }
 
 -- a new key is told by this function
@@ -65,11 +64,11 @@ put_on_another : (key : ℕ → ℕ → Option Key) (ring entity r e : ℕ) (new
 put_on_another key ring entity r e new apart = ap (λ b. cond (b && (e == entity)) new (key r e)) (ne_eqb r ring apart)
 
 -- the queues with one key changed, beside waiters with these pairs
-pub key_put : (spec : DeviceSpec) (armed : ℕ) (key : ℕ → ℕ → Option Key) (watched new_watched : ℕ → List Pair) (h n : Heads) (ring entity : ℕ) (new : Option Key) → HeadsAre spec armed key watched h
+pub key_put : (spec : DeviceSpec) (key : ℕ → ℕ → Option Key) (watched new_watched : ℕ → List Pair) (h n : Heads) (ring entity : ℕ) (new : Option Key) → HeadsAre spec key watched h
     → ring < length spec.rings → entity < length spec.entities → n.queues.items ≡ with_key h.queues.items ring entity new
     → ((e : ℕ) → AreWatched n.waiters.pairs e (new_watched e)) → n.waiters.entities ≡ h.waiters.entities → n.waiters.fences ≡ h.waiters.fences
-    → n.waiters.places ≡ h.waiters.places → HeadsAre spec armed (put_key key ring entity new) new_watched n
-key_put spec armed key watched new_watched h n ring entity new are there here is pairs waiting fences places =
+    → HeadsAre spec (put_key key ring entity new) new_watched n
+key_put spec key watched new_watched h n ring entity new are there here is pairs waiting fences =
     let rings = are.rings in
     let at_ring = keys_there h ring (omega (arith, there, rings)) in
     let old = keys_at h.queues.items ring in
@@ -95,7 +94,6 @@ key_put spec armed key watched new_watched h n ring entity new are there here is
       watches = pairs;
       waiting = waiting ∙ are.waiting;
       fences = fences ∙ are.fences;
-      places = places ∙ are.places;
     }
 
 -- one is left out
@@ -109,7 +107,7 @@ but_watched entity watched e = cond (e == entity) [] (watched e)
 pub no_head_stands : (d : DeviceState) (waits : List (List (ℕ × ℕ))) (entity : ℕ) (h : Heads) → HeadsStandBut d waits entity h
     → ((ring : ℕ) → head_key d ring entity ≡ None) → watched_of d waits entity ≡ [] → HeadsStand d waits h
 no_head_stands d waits entity h but none nothing =
-    told_alike d.spec (length waits) (but_key entity (head_key d)) (head_key d) (but_watched entity (watched_of d waits)) (watched_of d waits) h but
+    told_alike d.spec (but_key entity (head_key d)) (head_key d) (but_watched entity (watched_of d waits)) (watched_of d waits) h but
     (λ ring e. by_key ring e)
     (λ e. by_watched e)
   where
@@ -163,7 +161,7 @@ own_key d entity ring number r going is =
 
 -- the entities and the fences of dependencies are there
 pub deps_there : (t : Table) (number : ℕ) (r : JobRecord) (deps : List (ℕ × ℕ)) (w : Waiting) → IsWhole t → slice_get t.journal.items number ≡ Some r → has_ended r.phase ≡ false
-    → slice_get t.waits.lists number ≡ Some deps → w.entities ≡ length t.spec.entities → w.fences ≡ length t.waits.lists → All (λ (d : ℕ × ℕ). (d.0 < w.entities) × (d.1 < w.fences)) deps
+    → slice_get t.waits.lists number ≡ Some deps → w.entities ≡ length t.spec.entities → w.fences ≡ t.spec.max_jobs → All (λ (d : ℕ × ℕ). (d.0 < w.entities) × (d.1 < w.fences)) deps
 deps_there t number r deps w whole at going at_deps entities fences =
     All-weaker (IsDependency t.journal.items number r.job) (λ (d : ℕ × ℕ). (d.0 < w.entities) × (d.1 < w.fences)) each deps (whole.waits.stand number r deps at going at_deps).of_jobs
   where
@@ -173,9 +171,9 @@ deps_there t number r deps w whole at going at_deps entities fences =
         let rows = length-map t.entities.rows marks_of in
         let count = whole.steady.lawful.entity_count in
         let lt = slice_get_within t.journal.items d.1 is.0 is.1 in
-        let armed = whole.waits.count in
+        let few = whole.count in
         let of_it = is.2 in
-        (omega (arith, owner, rows, count, entities, of_it), omega (arith, lt, armed, fences))
+        (omega (arith, owner, rows, count, entities, of_it), omega (arith, lt, few, fences))
 
 -- a head is put in its place
 pub head_placed : (d : DeviceState) (waits : List (List (ℕ × ℕ))) (entity number : ℕ) (r : JobRecord) (deps : List (ℕ × ℕ)) (e : EntitySpec) (h n : Heads) → HeadsStandBut d waits entity h
@@ -184,10 +182,10 @@ pub head_placed : (d : DeviceState) (waits : List (List (ℕ × ℕ))) (entity n
     → n.queues.items ≡ with_key h.queues.items r.ring entity (Some (record { priority = e.priority; age = number }))
     → AreWatched n.waiters.pairs entity (unmet_pairs d.journal entity r.ring deps)
     → ((other : ℕ) (pairs : List Pair) → other ≢ entity → AreWatched h.waiters.pairs other pairs → AreWatched n.waiters.pairs other pairs)
-    → n.waiters.entities ≡ h.waiters.entities → n.waiters.fences ≡ h.waiters.fences → n.waiters.places ≡ h.waiters.places → HeadsStand d waits n
-head_placed d waits entity number r deps e h n but going is at_waits at_spec there here queues watched others waiting fences places =
-    told_alike d.spec (length waits) (put_key (but_key entity (head_key d)) r.ring entity (Some key)) (head_key d) (watched_of d waits) (watched_of d waits) n
-    (key_put d.spec (length waits) (but_key entity (head_key d)) (but_watched entity (watched_of d waits)) (watched_of d waits) h n r.ring entity (Some key) but there here queues pairs waiting fences places)
+    → n.waiters.entities ≡ h.waiters.entities → n.waiters.fences ≡ h.waiters.fences → HeadsStand d waits n
+head_placed d waits entity number r deps e h n but going is at_waits at_spec there here queues watched others waiting fences =
+    told_alike d.spec (put_key (but_key entity (head_key d)) r.ring entity (Some key)) (head_key d) (watched_of d waits) (watched_of d waits) n
+    (key_put d.spec (but_key entity (head_key d)) (but_watched entity (watched_of d waits)) (watched_of d waits) h n r.ring entity (Some key) but there here queues pairs waiting fences)
     keys (λ x. refl)
   where
     key : Key
@@ -229,14 +227,14 @@ head_placed d waits entity number r deps e h n but going is at_waits at_spec the
         ]
 
 -- an entity, whose head is of this ring, is taken out
-pub head_removed : (spec : DeviceSpec) (armed : ℕ) (key : ℕ → ℕ → Option Key) (watched : ℕ → List Pair) (h n : Heads) (ring entity : ℕ) → HeadsAre spec armed key watched h
+pub head_removed : (spec : DeviceSpec) (key : ℕ → ℕ → Option Key) (watched : ℕ → List Pair) (h n : Heads) (ring entity : ℕ) → HeadsAre spec key watched h
     → ring < length spec.rings → entity < length spec.entities → ((other : ℕ) → other ≢ ring → key other entity ≡ None)
     → n.queues.items ≡ with_key h.queues.items ring entity None → n.waiters ≡ record h.waiters { pairs = without_entity h.waiters.pairs entity }
-    → HeadsAre spec armed (but_key entity key) (but_watched entity watched) n
-head_removed spec armed key watched h n ring entity are there here others queues waiters =
-    told_alike spec armed (put_key key ring entity None) (but_key entity key) (but_watched entity watched) (but_watched entity watched) n
-    (key_put spec armed key watched (but_watched entity watched) h n ring entity None are there here queues pairs
-    (ap (λ (w : Waiting). w.entities) waiters) (ap (λ (w : Waiting). w.fences) waiters) (ap (λ (w : Waiting). w.places) waiters))
+    → HeadsAre spec (but_key entity key) (but_watched entity watched) n
+head_removed spec key watched h n ring entity are there here others queues waiters =
+    told_alike spec (put_key key ring entity None) (but_key entity key) (but_watched entity watched) (but_watched entity watched) n
+    (key_put spec key watched (but_watched entity watched) h n ring entity None are there here queues pairs
+    (ap (λ (w : Waiting). w.entities) waiters) (ap (λ (w : Waiting). w.fences) waiters))
     keys (λ x. refl)
   where
     pairs : (x : ℕ) → AreWatched n.waiters.pairs x (but_watched entity watched x)
@@ -264,9 +262,9 @@ head_removed spec armed key watched h n ring entity are there here others queues
         ]
 
 -- pairs are met
-pub pairs_left : (spec : DeviceSpec) (armed : ℕ) (key : ℕ → ℕ → Option Key) (watched : ℕ → List Pair) (h n : Heads) (left : Pair → Bool) → HeadsAre spec armed key watched h
-    → n.queues.items ≡ h.queues.items → n.waiters ≡ record h.waiters { pairs = filter left h.waiters.pairs } → HeadsAre spec armed key (λ e. filter left (watched e)) n
-pairs_left spec armed key watched h n left are queues waiters = record {
+pub pairs_left : (spec : DeviceSpec) (key : ℕ → ℕ → Option Key) (watched : ℕ → List Pair) (h n : Heads) (left : Pair → Bool) → HeadsAre spec key watched h
+    → n.queues.items ≡ h.queues.items → n.waiters ≡ record h.waiters { pairs = filter left h.waiters.pairs } → HeadsAre spec key (λ e. filter left (watched e)) n
+pairs_left spec key watched h n left are queues waiters = record {
   rings = ap length queues ∙ are.rings;
   entities = λ ring ks at. are.entities ring ks (subst (λ qs. slice_get qs ring ≡ Some ks) queues at);
   keys = λ ring e ks k at. are.keys ring e ks k (subst (λ qs. slice_get qs ring ≡ Some ks) queues at);
@@ -274,20 +272,6 @@ pairs_left spec armed key watched h n left are queues waiters = record {
       subst (λ ps. AreWatched ps e (filter left (watched e))) (sym (ap (λ (w : Waiting). w.pairs) waiters)) (left_of h.waiters.pairs (watched e) left e (are.watches e));
   waiting = ap (λ (w : Waiting). w.entities) waiters ∙ are.waiting;
   fences = ap (λ (w : Waiting). w.fences) waiters ∙ are.fences;
-  places = ap (λ (w : Waiting). w.places) waiters ∙ are.places;
-}
-
--- one job more was armed: its fence is there, and nobody waits for it
-pub one_more : (spec : DeviceSpec) (armed : ℕ) (key : ℕ → ℕ → Option Key) (watched : ℕ → List Pair) (h n : Heads) → HeadsAre spec armed key watched h
-    → n.queues.items ≡ h.queues.items → n.waiters ≡ record h.waiters { fences = h.waiters.fences + 1 } → HeadsAre spec (armed + 1) key watched n
-one_more spec armed key watched h n are queues waiters = record {
-  rings = ap length queues ∙ are.rings;
-  entities = λ ring ks at. are.entities ring ks (subst (λ qs. slice_get qs ring ≡ Some ks) queues at);
-  keys = λ ring e ks k at. are.keys ring e ks k (subst (λ qs. slice_get qs ring ≡ Some ks) queues at);
-  watches = λ e. subst (λ ps. AreWatched ps e (watched e)) (sym (ap (λ (w : Waiting). w.pairs) waiters)) (are.watches e);
-  waiting = ap (λ (w : Waiting). w.entities) waiters ∙ are.waiting;
-  fences = ap (λ (w : Waiting). w.fences) waiters ∙ ap (λ m. m + 1) are.fences;
-  places = ap (λ (w : Waiting). w.places) waiters ∙ are.places;
 }
 
 -- the front of an entity's queue, as it is read

@@ -259,28 +259,28 @@ pub stand_alike : (d n : DeviceState) (waits : List (List (ℕ × ℕ))) (h : He
     → SameHeads d.journal n.journal → HeadsStand d waits h → HeadsStand n waits h
 stand_alike d n waits h spec stopped same stand =
     let leaves = λ (e : ℕ). heads_alike d n e spec (stopped e) same in
-    subst (λ (s : DeviceSpec). HeadsAre s (length waits) (head_key n) (watched_of n waits) h) (sym spec)
-    (told_alike d.spec (length waits) (head_key d) (head_key n) (watched_of d waits) (watched_of n waits) h stand
+    subst (λ (s : DeviceSpec). HeadsAre s (head_key n) (watched_of n waits) h) (sym spec)
+    (told_alike d.spec (head_key d) (head_key n) (watched_of d waits) (watched_of n waits) h stand
     (λ ring e. left_key d n (λ ring k. false) e ring (leaves e))
     (λ e. left_watched d n waits (λ ring k. false) e (λ p. true) (leaves e) (λ ring dep. refl) ∙ keep_all (watched_of d waits e)))
 
 -- and one by which fences are met
 pub stand_left : (d n : DeviceState) (waits : List (List (ℕ × ℕ))) (h : Heads) (Met : ℕ → ℕ → Bool) (left : Pair → Bool) → n.spec ≡ d.spec
     → ((entity : ℕ) → LeavesHead d n Met entity) → ((entity : ℕ) → LeavesUnmet d Met entity left)
-    → HeadsAre d.spec (length waits) (head_key d) (λ e. filter left (watched_of d waits e)) h → HeadsStand n waits h
+    → HeadsAre d.spec (head_key d) (λ e. filter left (watched_of d waits e)) h → HeadsStand n waits h
 stand_left d n waits h Met left spec leaves unmet are =
-    subst (λ (s : DeviceSpec). HeadsAre s (length waits) (head_key n) (watched_of n waits) h) (sym spec)
-    (told_alike d.spec (length waits) (head_key d) (head_key n) (λ e. filter left (watched_of d waits e)) (watched_of n waits) h are
+    subst (λ (s : DeviceSpec). HeadsAre s (head_key n) (watched_of n waits) h) (sym spec)
+    (told_alike d.spec (head_key d) (head_key n) (λ e. filter left (watched_of d waits e)) (watched_of n waits) h are
     (λ ring e. left_key d n Met e ring (leaves e))
     (λ e. left_watched d n waits Met e left (leaves e) (unmet e)))
 
 -- the same, of all but one
 pub but_left : (d n : DeviceState) (waits : List (List (ℕ × ℕ))) (h : Heads) (Met : ℕ → ℕ → Bool) (left : Pair → Bool) (entity : ℕ) → n.spec ≡ d.spec
     → ((e : ℕ) → e ≢ entity → LeavesHead d n Met e) → ((e : ℕ) → LeavesUnmet d Met e left)
-    → HeadsAre d.spec (length waits) (but_key entity (head_key d)) (but_watched entity (λ e. filter left (watched_of d waits e))) h → HeadsStandBut n waits entity h
+    → HeadsAre d.spec (but_key entity (head_key d)) (but_watched entity (λ e. filter left (watched_of d waits e))) h → HeadsStandBut n waits entity h
 but_left d n waits h Met left entity spec leaves unmet are =
-    subst (λ (s : DeviceSpec). HeadsAre s (length waits) (but_key entity (head_key n)) (but_watched entity (watched_of n waits)) h) (sym spec)
-    (told_alike d.spec (length waits) (but_key entity (head_key d)) (but_key entity (head_key n)) (but_watched entity (λ e. filter left (watched_of d waits e))) (but_watched entity (watched_of n waits)) h are keys pairs)
+    subst (λ (s : DeviceSpec). HeadsAre s (but_key entity (head_key n)) (but_watched entity (watched_of n waits)) h) (sym spec)
+    (told_alike d.spec (but_key entity (head_key d)) (but_key entity (head_key n)) (but_watched entity (λ e. filter left (watched_of d waits e))) (but_watched entity (watched_of n waits)) h are keys pairs)
   where
     keys : (ring e : ℕ) → but_key entity (head_key n) ring e ≡ but_key entity (head_key d) ring e
     keys ring e =

@@ -1,5 +1,5 @@
 -- The heads stand after each call of a device's tables that changes none of them.
-use Rattle.std.proofs.Common.{◌≡◌, ℕ, zero, suc, ◌+◌, ◌<◌, true, false, ◌∷◌, ◌++◌, ◌&&◌, ◌==◌, List, [], replicate, Option, length, Some, None, Result, Ok, Err, refl, sym, ap, subst, ◌∙◌, arith, slice_get}
+use Rattle.std.proofs.Common.{◌≡◌, ℕ, zero, suc, ◌<◌, true, false, ◌∷◌, ◌++◌, ◌&&◌, ◌==◌, List, [], replicate, Option, length, Some, None, Result, Ok, Err, refl, sym, ap, subst, ◌∙◌, arith, slice_get}
 use Rattle.std.specs.Prelude.{IfOk, IfErr, OnOk}
 use Rattle.std.specs.List.{count_by}
 use Rattle.drm_types.specs.declared.spec.DeviceSpec.{DeviceSpec}
@@ -14,7 +14,7 @@ use Rattle.drm_job.specs.declared.Draft.{Draft}
 use Rattle.drm_job.specs.Fault.{IsJob}
 use Rattle.drm_table.specs.Arming.{armed_device}
 use Rattle.drm_table.specs.Choice.{queue_of}
-use Rattle.drm_table.proofs.ArmDone.{few_entities, may_arm}
+use Rattle.drm_table.proofs.ArmDone.{few_entities}
 use Rattle.drm_sched.proofs.HeadsArmed.{cancel_stand, arm_stand, arm_stand_but}
 use Rattle.drm_sched.proofs.HeadsKept.{empty_key, empty_watched, no_front, front_found}
 use Rattle.std.proofs.lemmas.List.{length-map, length-replicate}
@@ -42,7 +42,7 @@ use Rattle.drm_sched.specs.Heads.{HeadsStand, HeadsStandBut}
 use Rattle.drm_sched.specs.Marks.{MarkedDevice, ring_out, is_in_way}
 use Rattle.drm_sched.specs.MarkedTables.{marked_of, IsWholeMarked}
 use Rattle.drm_table.specs.Outcomes.{cancelled_device, pick_outcome, step_outcome, timeout_outcome}
-use Rattle.drm_table.specs.Refusals.{arm_refusal, cancel_refusal, pick_refusal, step_refusal}
+use Rattle.drm_table.specs.Refusals.{cancel_refusal, pick_refusal, step_refusal}
 use Rattle.drm_table.specs.State.{DeviceState, opened_device}
 use Rattle.drm_table.specs.Tables.{state_of}
 use Rattle.drm_sched.proofs.HeadEvents.{stand_after, all_by, step_all, timeout_all, PicksJob, pick_picks}
@@ -124,7 +124,7 @@ replicate_get (suc n) (suc k) x y at = replicate_get n k x y at
 
 pub opened_beside : (d : MarkedTable) (h : Heads) (spec : DeviceSpec) → marked_of d ≡ unmarked (opened_device spec) → d.table.waits.lists ≡ []
     → h.queues.items ≡ replicate (length spec.rings) (replicate (length spec.entities) None)
-    → h.waiters ≡ record { entities = length spec.entities; fences = 0; places = spec.max_jobs; pairs = [] } → StandBeside d h
+    → h.waiters ≡ record { entities = length spec.entities; fences = spec.max_jobs; pairs = [] } → StandBeside d h
 opened_beside d h spec opened waits queues waiters =
     subst (λ ws. HeadsStand (state_of d.table) ws h) (sym waits)
     (subst (λ (m : MarkedDevice). HeadsStand m.state [] h) (sym opened) stand)
@@ -144,7 +144,6 @@ opened_beside d h spec opened waits queues waiters =
           ∙ sym (ap (count_by test) (empty_watched (opened_device spec) [] entity refl));
       waiting = ap (λ (w : Waiting). w.entities) waiters;
       fences = ap (λ (w : Waiting). w.fences) waiters;
-      places = ap (λ (w : Waiting). w.places) waiters;
     }
 
 -- a call that nothing refuses is not refused
@@ -173,39 +172,29 @@ some_first : (xs : List ℕ) → is_nil xs ≡ false → (x : ℕ) × (first xs 
 some_first [] is = absurd (let never : true ≡ false = is in cc (never))
 some_first (x ∷ xs) is = (x, refl)
 
-pub armed_but : (d n : MarkedTable) (h k : Heads) (job : Draft) (entity : ℕ) (deps : List (ℕ × ℕ)) → IsWholeMarked d → IsJob d.table.spec job → entity ≡ job.entity
+pub armed_but : (d n : MarkedTable) (h : Heads) (job : Draft) (entity : ℕ) (deps : List (ℕ × ℕ)) → IsWholeMarked d → IsJob d.table.spec job → entity ≡ job.entity
     → is_nil (queue_at d.table.entities entity) ≡ true
     → state_of n.table ≡ armed_device (state_of d.table) job → n.table.waits.lists ≡ d.table.waits.lists ++ deps ∷ [] → StandBeside d h
-    → k.queues.items ≡ h.queues.items → k.waiters ≡ record h.waiters { fences = h.waiters.fences + 1 }
-    → (entity < length n.table.spec.entities) × HeadsStandBut (state_of n.table) n.table.waits.lists entity k
-armed_but d n h k job entity deps w is_job of_it none armed waits stand queues waiters =
+    → (entity < length n.table.spec.entities) × HeadsStandBut (state_of n.table) n.table.waits.lists entity h
+armed_but d n h job entity deps w is_job of_it none armed waits stand =
     let there = (few_entities d.table.spec job w.table.limits is_job).0 in
     let here : entity < length d.table.spec.entities = subst (λ e. e < length d.table.spec.entities) (sym of_it) there in
     let empty = no_front d.table entity w.table here (nothing_first (queue_at d.table.entities entity) none) in (
       subst (λ (s : DeviceSpec). entity < length s.entities) (sym (ap (λ (x : DeviceState). x.spec) armed)) here,
-      subst (λ ws. HeadsStandBut (state_of n.table) ws entity k) (sym waits)
-          (subst (λ s. HeadsStandBut s (d.table.waits.lists ++ deps ∷ []) entity k) (sym armed)
-          (subst (λ e. HeadsStandBut (armed_device (state_of d.table) job) (d.table.waits.lists ++ deps ∷ []) e k) (sym of_it)
-          (arm_stand_but (state_of d.table) job d.table.waits.lists deps h k w.table.waits (ap (λ e. first (queue_of e d.table.journal.items)) (sym of_it) ∙ empty) stand queues waiters))),
+      subst (λ ws. HeadsStandBut (state_of n.table) ws entity h) (sym waits)
+          (subst (λ s. HeadsStandBut s (d.table.waits.lists ++ deps ∷ []) entity h) (sym armed)
+          (subst (λ e. HeadsStandBut (armed_device (state_of d.table) job) (d.table.waits.lists ++ deps ∷ []) e h) (sym of_it)
+          (arm_stand_but (state_of d.table) job d.table.waits.lists deps h w.table.waits (ap (λ e. first (queue_of e d.table.journal.items)) (sym of_it) ∙ empty) stand))),
     )
 
-pub armed_beside : (d n : MarkedTable) (h k : Heads) (job : Draft) (entity : ℕ) (deps : List (ℕ × ℕ)) → IsWholeMarked d → IsJob d.table.spec job → entity ≡ job.entity
+pub armed_beside : (d n : MarkedTable) (h : Heads) (job : Draft) (entity : ℕ) (deps : List (ℕ × ℕ)) → IsWholeMarked d → IsJob d.table.spec job → entity ≡ job.entity
     → is_nil (queue_at d.table.entities entity) ≡ false
-    → state_of n.table ≡ armed_device (state_of d.table) job → n.table.waits.lists ≡ d.table.waits.lists ++ deps ∷ [] → StandBeside d h
-    → k.queues.items ≡ h.queues.items → k.waiters ≡ record h.waiters { fences = h.waiters.fences + 1 } → StandBeside n k
-armed_beside d n h k job entity deps w is_job of_it some armed waits stand queues waiters =
+    → state_of n.table ≡ armed_device (state_of d.table) job → n.table.waits.lists ≡ d.table.waits.lists ++ deps ∷ [] → StandBeside d h → StandBeside n h
+armed_beside d n h job entity deps w is_job of_it some armed waits stand =
     let there = (few_entities d.table.spec job w.table.limits is_job).0 in
     let here : entity < length d.table.spec.entities = subst (λ e. e < length d.table.spec.entities) (sym of_it) there in
     let number = some_first (queue_at d.table.entities entity) some in
     let front = front_found d.table entity number.0 w.table here number.1 in
-    subst (λ ws. HeadsStand (state_of n.table) ws k) (sym waits)
-    (subst (λ s. HeadsStand s (d.table.waits.lists ++ deps ∷ []) k) (sym armed)
-    (arm_stand (state_of d.table) job d.table.waits.lists deps h k (number.0, front.0) w.table.waits (ap (λ e. first (queue_of e d.table.journal.items)) (sym of_it) ∙ front.1.first) stand queues waiters))
-
--- the fence of a job that may be armed has a place
-pub fence_fits : (d : MarkedTable) (h : Heads) (job : Draft) → IsWholeMarked d → arm_refusal (state_of d.table) job ≡ None → StandBeside d h → h.waiters.fences < h.waiters.places
-fence_fits d h job w may stand =
-    let room = (may_arm (state_of d.table) job may).place in
-    let count = w.table.waits.count in
-    let fences = stand.fences in
-    let places = stand.places in omega (arith, room, count, fences, places)
+    subst (λ ws. HeadsStand (state_of n.table) ws h) (sym waits)
+    (subst (λ s. HeadsStand s (d.table.waits.lists ++ deps ∷ []) h) (sym armed)
+    (arm_stand (state_of d.table) job d.table.waits.lists deps h (number.0, front.0) w.table.waits (ap (λ e. first (queue_of e d.table.journal.items)) (sym of_it) ∙ front.1.first) stand))

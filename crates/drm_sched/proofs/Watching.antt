@@ -186,13 +186,12 @@ pub record IsWatching (js : List JobRecord) (entity ring : ℕ) (seen : List (�
   pub others : (e : ℕ) (pairs : List Pair) → e ≢ entity → AreWatched old.pairs e pairs → AreWatched new.pairs e pairs
   pub entities : new.entities ≡ old.entities
   pub fences : new.fences ≡ old.fences
-  pub places : new.places ≡ old.places
 
 pub watching_more : (js : List JobRecord) (entity ring i : ℕ) (d : ℕ × ℕ) (deps : List (ℕ × ℕ)) (early : Bool) (old w new : Waiting) → IsWatching js entity ring (take i deps) old w
     → i < length deps → d ≡ get_or deps i d → is_at js d.1 (is_met ring) ≡ false → early ≡ is_at js d.1 (λ r. r.ring == ring)
     → IsPermutation (record { entity = entity; fence = d.1; of = d.0; is_early = early } ∷ w.pairs) new.pairs → new.entities ≡ w.entities → new.fences ≡ w.fences
-    → new.places ≡ w.places → IsWatching js entity ring (take (i + 1) deps) old new
-watching_more js entity ring i d deps early old w new is lt at unmet early_is perm entities fences places =
+    → IsWatching js entity ring (take (i + 1) deps) old new
+watching_more js entity ring i d deps early old w new is lt at unmet early_is perm entities fences =
     let p : Pair = record { entity = entity; fence = d.1; of = d.0; is_early = early } in
     let p_is : p ≡ pair_of js entity ring d = ap (λ b. let q : Pair = record { entity = entity; fence = d.1; of = d.0; is_early = b } in q) early_is in
     let seen : take (i + 1) deps ≡ take i deps ++ d ∷ [] = take_more deps i d lt ∙ ap (λ x. take i deps ++ x ∷ []) (sym at) in
@@ -204,7 +203,6 @@ watching_more js entity ring i d deps early old w new is lt at unmet early_is pe
       others = λ e pairs apart are. other_of w.pairs new.pairs pairs p entity e perm refl apart (is.others e pairs apart are);
       entities = entities ∙ is.entities;
       fences = fences ∙ is.fences;
-      places = places ∙ is.places;
     }
 
 pub watching_met : (js : List JobRecord) (entity ring i : ℕ) (d : ℕ × ℕ) (deps : List (ℕ × ℕ)) (old w : Waiting) → IsWatching js entity ring (take i deps) old w
@@ -219,5 +217,4 @@ watching_met js entity ring i d deps old w is lt at met =
       others = is.others;
       entities = is.entities;
       fences = is.fences;
-      places = is.places;
     }

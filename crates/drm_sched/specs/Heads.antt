@@ -38,27 +38,25 @@ abbrev pub AreWatched : List Pair → ℕ → List Pair → Type 0
 AreWatched pairs entity watched =
     (test : Pair → Bool) → count_by (λ p. (p.entity == entity) && test p) pairs ≡ count_by test watched
 
--- the run queues have these keys, and the waiters these pairs, and a fence for each job that was armed
-pub record HeadsAre (spec : DeviceSpec) (armed : ℕ) (key : ℕ → ℕ → Option Key) (watched : ℕ → List Pair) (h : Heads) : Type 0 where
+-- the run queues have these keys, and the waiters these pairs
+pub record HeadsAre (spec : DeviceSpec) (key : ℕ → ℕ → Option Key) (watched : ℕ → List Pair) (h : Heads) : Type 0 where
   pub rings : length h.queues.items ≡ length spec.rings
   pub entities : (ring : ℕ) (keys : List (Option Key)) → slice_get h.queues.items ring ≡ Some keys → length keys ≡ length spec.entities
   pub keys : (ring entity : ℕ) (keys : List (Option Key)) (k : Option Key) → slice_get h.queues.items ring ≡ Some keys
       → slice_get keys entity ≡ Some k → k ≡ key ring entity
   pub watches : (entity : ℕ) → AreWatched h.waiters.pairs entity (watched entity)
   pub waiting : h.waiters.entities ≡ length spec.entities
-  pub fences : h.waiters.fences ≡ armed
-  pub places : h.waiters.places ≡ spec.max_jobs
+  pub fences : h.waiters.fences ≡ spec.max_jobs
 
 -- they are those of the device's heads
 abbrev pub HeadsStand : DeviceState → List (List (ℕ × ℕ)) → Heads → Type 0
-HeadsStand device waits h = HeadsAre device.spec (length waits) (head_key device) (watched_of device waits) h
+HeadsStand device waits h = HeadsAre device.spec (head_key device) (watched_of device waits) h
 
 -- the same, but nothing is kept of this entity
 abbrev pub HeadsStandBut : DeviceState → List (List (ℕ × ℕ)) → ℕ → Heads → Type 0
 HeadsStandBut device waits entity h =
     HeadsAre
     device.spec
-    (length waits)
     (λ ring e. if e == entity then None else head_key device ring e)
     (λ e. if e == entity then [] else watched_of device waits e)
     h

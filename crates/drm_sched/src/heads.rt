@@ -1,4 +1,4 @@
-ghost use Rattle.std.specs.Prelude.{◌≡◌, ◌≢◌, ℕ, ◌+◌, ◌<◌, ◌≤◌, ◌==◌, [], length, replicate, Some, None, IfOk, IfSome, IfNone, slice_get, All};
+ghost use Rattle.std.specs.Prelude.{◌≡◌, ◌≢◌, ℕ, ◌<◌, ◌≤◌, ◌==◌, [], length, replicate, Some, None, IfOk, IfSome, IfNone, slice_get, All};
 ghost use Rattle.drm_fence.specs.declared.pair.Pair.{Pair};
 ghost use Rattle.drm_fence.specs.Waiting.{unmet_in, without_early, without_entity, without_fence};
 ghost use Rattle.drm_resv.specs.Latest.{IsPerEntity};
@@ -61,7 +61,6 @@ fn watch_unmet(
     ensures others { (e : ℕ) (pairs : _) → e ≢ entity → AreWatched waiters.old.pairs e pairs → AreWatched waiters.new.pairs e pairs }
     ensures entities { waiters.new.entities ≡ waiters.old.entities }
     ensures fences { waiters.new.fences ≡ waiters.old.fences }
-    ensures places { waiters.new.places ≡ waiters.old.places }
 {
     for dep in deps {
         let is_met = is_met(journal, dep.1, ring);
@@ -77,7 +76,7 @@ impl Heads {
     pub(crate) fn new(alloc: Global, spec: &DeviceSpec) -> Result<Heads, AllocError>
         requires { length spec.now.entities ≤ 64 }
         ensures queues { IfOk result (λ h. h.queues.items ≡ replicate (length spec.now.rings) (replicate (length spec.now.entities) None)) }
-        ensures waiters { IfOk result (λ h. h.waiters ≡ record { entities = length spec.now.entities; fences = 0; places = spec.now.max_jobs; pairs = [] }) }
+        ensures waiters { IfOk result (λ h. h.waiters ≡ record { entities = length spec.now.entities; fences = spec.now.max_jobs; pairs = [] }) }
     {
         let queues = empty_queues(alloc, spec.rings.len(), spec.entities.len() as u32)?;
         let waiters = Waiters::new(alloc, spec)?;
@@ -106,13 +105,12 @@ impl Heads {
         table.entities.head(entity)
     }
 
-    /// A job was armed: its fence is one more, for which nobody waits.
-    pub(crate) fn armed(&mut self)
-        requires { self.old.waiters.fences < self.old.waiters.places }
-        ensures waiters { self.new.waiters ≡ record self.old.waiters { fences = self.old.waiters.fences + 1 } }
-        ensures queues { self.new.queues.items ≡ self.old.queues.items }
+    /// A job is about to be armed: what is kept of the fence that it gets is set now, so that who waits for it later
+    /// need not. Nothing else shows it.
+    pub(crate) fn prepare_next(&mut self)
+        ensures { self.new ≡ self.old }
     {
-        self.waiters.add_fence();
+        self.waiters.prepare_next();
     }
 
     /// The job was given to its ring: the heads that wait for it on the same ring have it met.

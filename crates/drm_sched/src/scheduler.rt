@@ -193,14 +193,14 @@ impl Scheduler {
         ensures whole { IsWholeMarked self.new.marked }
         ensures heads { HasHeads self.new }
     {
+        self.heads.prepare_next();
         let entity = job.entity();
-        let is_head = self.marked.table.entities.is_empty(entity);
-        let fence = self.marked.arm(job, deps);
-        self.heads.armed();
-        if is_head {
+        if self.marked.table.entities.is_empty(entity) {
+            let fence = self.marked.arm(job, deps);
             self.heads.place(&self.marked.table, entity);
+            return fence;
         }
-        fence
+        self.marked.arm(job, deps)
     }
 
     /// The tables and the heads of a device on which no job was armed, and of which nothing is out.

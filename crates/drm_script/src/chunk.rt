@@ -21,6 +21,9 @@ use std::vec::IntoIter;
 /// them was taken.
 const JOBS: usize = 2_048;
 
+/// How many events the jobs of a full chunk have at least, where each is submitted, picked, run and finished.
+const EVENTS: usize = 4 * JOBS;
+
 /// Events in their order. Contracts see them as a list; in memory each takes no more than it needs, and the jobs that they
 /// bring stand beside, in their order.
 #[derive(Drop)]
@@ -52,12 +55,12 @@ impl Chunk {
         }
     }
 
-    /// No events, and room for all jobs that a chunk has.
+    /// No events, and room for all jobs that a chunk has, and for their events.
     pub(crate) fn with_room(alloc: Global) -> Result<Chunk, AllocError>
         ensures { IfOk result (λ chunk. chunk ≡ []) }
     {
         Ok(Chunk {
-            kept: Vec::new(alloc),
+            kept: Vec::with_capacity(alloc, EVENTS)?,
             jobs: Vec::with_capacity(alloc, JOBS)?,
         })
     }

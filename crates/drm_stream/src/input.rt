@@ -45,8 +45,8 @@ pub fn to_input_error(error: ReadError) -> InputError
 /// The most bytes that are read: one more than a text has.
 const MOST_READ: usize = MAX_TEXT + 1;
 
-/// How many bytes the first read may give. Each further room is for as many as were read.
-const FIRST_READ: usize = 8192;
+/// How many bytes one read gives at most.
+const MOST_A_READ: usize = 16_384;
 
 /// Makes room behind the first `len` bytes, where there is none.
 fn make_room(text: &mut Vec<u8>, len: usize) -> Result<(), AllocError>
@@ -60,7 +60,7 @@ fn make_room(text: &mut Vec<u8>, len: usize) -> Result<(), AllocError>
     if len < text.len() {
         return Ok(());
     }
-    text.resize((2 * len).clamp(FIRST_READ, MOST_READ), 0)
+    text.resize((len + MOST_A_READ).min(MOST_READ), 0)
 }
 
 fn read_behind<R: Read>(reader: &mut R, text: &mut [u8], len: usize) -> io::Result<usize>
@@ -119,7 +119,7 @@ pub fn read_input<R: Read>(alloc: Global, reader: &mut R) -> io::Result<Vec<u8>>
     ensures left { OnOk result (IfSome (R.remaining reader.old) (λ input. R.remaining reader.new ≡ Some (drop 1048577 input))) }
     ensures most { LosesAtMost 1048577 (R.remaining reader.old) (R.remaining reader.new) }
 {
-    let mut text = Vec::new(alloc);
+    let mut text = Vec::with_capacity(alloc, MOST_READ)?;
     let len = fill(reader, &mut text)?;
     text.truncate(len);
     Ok(text)

@@ -54,11 +54,10 @@ fn statuses(rt: HostRuntime) {
     }
 }
 
-// Nobody waits: 64 entities, and room for 9 fences.
-fn no_waiters(alloc: Global) -> Result<Waiters, AllocError>
+// 64 entities and 9 fences.
+fn waiters_of(alloc: Global) -> Result<Waiters, AllocError>
     ensures entities { IfOk result (λ waiters. waiters.entities ≡ 64) }
-    ensures fences { IfOk result (λ waiters. waiters.fences ≡ 0) }
-    ensures places { IfOk result (λ waiters. waiters.places ≡ 9) }
+    ensures fences { IfOk result (λ waiters. waiters.fences ≡ 9) }
 {
     Waiters::new(
         alloc,
@@ -66,36 +65,24 @@ fn no_waiters(alloc: Global) -> Result<Waiters, AllocError>
     )
 }
 
-// 64 entities and 9 fences.
-fn waiters_of(alloc: Global) -> Result<Waiters, AllocError>
-    ensures entities { IfOk result (λ waiters. waiters.entities ≡ 64) }
-    ensures fences { IfOk result (λ waiters. waiters.fences ≡ 9) }
-{
-    let mut waiters = no_waiters(alloc)?;
-    for _fence in 0..9u32 {
-        waiters.add_fence();
-    }
-    Ok(waiters)
-}
-
 #[test]
-fn fences_come_while_others_wait(rt: HostRuntime) -> Result<(), Fail> {
-    let mut waiters = no_waiters(rt.alloc())?;
-    assert_eq!(rt; (waiters.fences(), waiters.places()), (0, 9));
-    waiters.add_fence();
+fn lists_are_made_as_they_are_needed(rt: HostRuntime) -> Result<(), Fail> {
+    let mut waiters = waiters_of(rt.alloc())?;
+    waiters.prepare_next();
     assert!(rt; !waiters.is_watching(3, 7));
     waiters.watch(3, 0, 7, false);
     waiters.scheduled(1);
     waiters.ended(1);
-    waiters.add_fence();
-    assert_eq!(rt; (waiters.fences(), waiters.places()), (2, 9));
     assert!(rt; !waiters.is_watching(4, 7));
-    waiters.watch(4, 1, 7, true);
+    waiters.watch(4, 8, 7, true);
+    waiters.prepare_next();
     assert_eq!(rt; (waiters.unmet(3), waiters.unmet(4)), (1, 1));
-    waiters.scheduled(1);
+    waiters.ended(7);
+    waiters.scheduled(8);
     assert_eq!(rt; (waiters.unmet(3), waiters.unmet(4)), (1, 0));
+    waiters.ended(9);
     waiters.ended(0);
-    assert_eq!(rt; waiters.unmet(3), 0);
+    assert_eq!(rt; (waiters.unmet(3), waiters.fences()), (0, 9));
     Ok(())
 }
 

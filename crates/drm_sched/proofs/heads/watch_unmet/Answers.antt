@@ -8,7 +8,7 @@ use Rattle.drm_sched.proofs.heads.watch_unmet.Goals as goal
 use Rattle.drm_sched.proofs.heads.watch_unmet.Goals.{then-not-is_met, else-not-is_met}
 
 pub loop-dep-init : goal.loop-dep-init
-loop-dep-init c = record { watched = c.requires.none; others = λ e pairs apart are. are; entities = refl; fences = refl; places = refl }
+loop-dep-init c = record { watched = c.requires.none; others = λ e pairs apart are. are; entities = refl; fences = refl }
 
 pub watch-requires-clause-new : goal.watch-requires-clause-new
 watch-requires-clause-new c =
@@ -27,7 +27,7 @@ loop-dep-preserved c =
           subst (IsWatching c.args.journal.now c.args.entity c.args.ring (take (i + 1) deps) c.args.waiters.now) (sym w.waiters-is)
           (watching_more c.args.journal.now c.args.entity c.args.ring i d deps w.is_on-early.result c.args.waiters.now c.loop-dep.waiters w.watch.new.self c.loop-dep.invariant
           c.loop-dep-test.true (same_read deps i (0, 0) d c.loop-dep-test.true) (sym c.is_met-is_met.ensures ∙ w.if-not-is_met.true) w.is_on-early.ensures
-          w.watch.ensures.pairs w.watch.ensures.entities w.watch.ensures.fences w.watch.ensures.places)
+          w.watch.ensures.pairs w.watch.ensures.entities w.watch.ensures.fences)
       | else-not-is_met w ↦
           subst (IsWatching c.args.journal.now c.args.entity c.args.ring (take (i + 1) deps) c.args.waiters.now) (sym w.waiters-is)
           (watching_met c.args.journal.now c.args.entity c.args.ring i d deps c.args.waiters.now c.loop-dep.waiters c.loop-dep.invariant

@@ -13,5 +13,5 @@ returns-else-entity-len c =
     let past : length c.self.inside.table.unmet.items ≤ c.args.entity = omega (arith, c.len.ensures, c.if-entity-len.false) in
     let all : without_entity (pairs_in cells) c.args.entity ≡ pairs_in cells =
     filter_kept (λ p. not (p.entity == c.args.entity)) cells (λ k p at. ap (λ b. not b) (entity_within _ _ _ c.args.entity c.self.invariant.0 past k p at)) in
-    ap (λ (l : List Pair). record { entities = c.args.self.now.entities; fences = c.args.self.now.fences; places = c.args.self.now.places; pairs = l })
+    ap (λ (l : List Pair). record { entities = c.args.self.now.entities; fences = c.args.self.now.fences; pairs = l })
     (sym (subst (λ (l : List Pair). without_entity l c.args.entity ≡ l) pairs all))

@@ -96,7 +96,6 @@ returns c =
     (λ e pairs apart are. c.watch_unmet.ensures.others e pairs apart (subst (λ (w : Waiting). AreWatched w.pairs e pairs) (sym c.insert.ensures.waiters) are))
     (c.watch_unmet.ensures.entities ∙ ap (λ (w : Waiting). w.entities) c.insert.ensures.waiters)
     (c.watch_unmet.ensures.fences ∙ ap (λ (w : Waiting). w.fences) c.insert.ensures.waiters)
-    (c.watch_unmet.ensures.places ∙ ap (λ (w : Waiting). w.places) c.insert.ensures.waiters)
 
 pub watch_unmet-requires-clause-once : goal.watch_unmet-requires-clause-once
 watch_unmet-requires-clause-once c = c.of-deps.ensures.once

@@ -42,7 +42,7 @@ returns c =
     let front = front_found t c.args.entity c.in-Some.number c.requires.whole c.requires.there (sym c.head.ensures ∙ c.in-Some.is) in
     let same : c.index.result.now ≡ front.0 = its_record t.journal.items c.in-Some.number c.index.result.now front.0 c.index.ensures front.1.at in
     let there = subst (λ (r : JobRecord). r.ring < length t.spec.rings) (sym same) (job_ring_there t c.in-Some.number front.0 c.requires.whole front.1.at) in
-    head_removed t.spec (length t.waits.lists) (head_key (state_of t)) (watched_of (state_of t) t.waits.lists) h c.remove.new.self c.index.result.now.ring c.args.entity c.requires.heads there c.requires.there
+    head_removed t.spec (head_key (state_of t)) (watched_of (state_of t) t.waits.lists) h c.remove.new.self c.index.result.now.ring c.args.entity c.requires.heads there c.requires.there
     (subst (λ (r : JobRecord). (other : ℕ) → other ≢ r.ring → head_key (state_of t) other c.args.entity ≡ None) (sym same)
     (λ other away. on_no_other (state_of t) c.args.entity other c.in-Some.number front.0 front.1.first away))
     c.remove.ensures.queues c.remove.ensures.waiters

@@ -2,7 +2,7 @@ use Rattle.std.proofs.Common.{◌≡◌, ◌++◌, ◌∷◌, [], length, arith,
 use Rattle.drm_fence.specs.Linked.{IsLinked}
 use Rattle.drm_fence.specs.declared.links.Links.{Links}
 use Rattle.drm_fence.proofs.Linking.{more_linked}
-use Rattle.drm_fence.proofs.table.Table.add_fence.Goals as goal
+use Rattle.drm_fence.proofs.table.Table.add_list.Goals as goal
 
 pub returns-clause-linked : goal.returns-clause-linked
 returns-clause-linked c =
