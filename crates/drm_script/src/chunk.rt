@@ -45,7 +45,7 @@ impl Model for Chunk {
 }
 
 impl Chunk {
-    /// No events, in no memory.
+    /// No events, in no memory, and no room for a job.
     pub(crate) fn new(alloc: Global) -> Chunk
         ensures { result ≡ [] }
     {
@@ -65,9 +65,9 @@ impl Chunk {
         })
     }
 
-    /// Whether it has all jobs that a chunk has.
+    /// Whether it has no room for another job.
     pub(crate) fn is_full(&self) -> bool {
-        self.jobs.len() >= JOBS
+        self.jobs.len() >= self.jobs.capacity()
     }
 
     /// Adds an event that brings no job at the end. A refusal of memory leaves the list as it was.
