@@ -6,7 +6,7 @@ ghost use Rattle.drm_answer.specs.Answers.{separated, numbers, text_of_outcome, 
 ghost use Rattle.drm_answer.specs.Lines.{line_room};
 
 use crate::lines::{LINE_ROOM, NUMBER_ROOM, place_line, place_number, place_outcome};
-use drm_table::Answer;
+use drm_state::Answer;
 use drm_text::put_bytes;
 use drm_types::Outcome;
 use std::alloc::{AllocError, Global};

@@ -8,7 +8,7 @@ ghost use Rattle.drm_answer.specs.Answers.{numbers, number_of_list, numbers_of_f
 ghost use Rattle.drm_answer.specs.Lines.{line_room, tells_progress, tells_other};
 
 use drm_job::{DraftList, JobFault};
-use drm_table::{Answer, Refusal};
+use drm_state::{Answer, Refusal};
 use drm_types::Outcome;
 use itoa::write_digits;
 

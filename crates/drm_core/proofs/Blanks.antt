@@ -8,7 +8,7 @@ use Rattle.drm_core.specs.declared.cores.ContextRow.{ContextRow}
 use Rattle.drm_core.specs.declared.cores.CoreTable.{CoreTable}
 use Rattle.drm_types.specs.Limits.{spec_fault}
 use Rattle.drm_sched.specs.Marks.{Mark, MarkedDevice, unmarked}
-use Rattle.drm_table.specs.State.{RingState, opened_device}
+use Rattle.drm_state.specs.State.{RingState, opened_device}
 use Rattle.drm_core.specs.State.{CoreState, opened}
 use Rattle.drm_core.specs.Steady.{IsSteadyCore}
 use Rattle.drm_core.specs.Cores.{core_state, context_of_row, planned_by, IsCore, NothingOut}

@@ -9,9 +9,9 @@ use Rattle.drm_job.specs.declared.Draft.{Draft}
 use Rattle.drm_job.specs.Fault.{IsJob, buffers_of}
 use Rattle.drm_job.specs.Laws.{JobsAreTheSoundDrafts}
 use Rattle.drm_resv.specs.Reservation.{Reservation, WithRoom}
-use Rattle.drm_table.specs.declared.journal.JobRecord.{JobRecord}
-use Rattle.drm_table.specs.Held.{HoldsAll, AllFit}
-use Rattle.drm_table.specs.Reservation.{Fits}
+use Rattle.drm_state.specs.declared.journal.JobRecord.{JobRecord}
+use Rattle.drm_state.specs.Held.{HoldsAll, AllFit}
+use Rattle.drm_state.specs.Reservation.{Fits}
 use Rattle.drm_core.specs.Planning.{kept_at, declared_kept}
 use Rattle.drm_core.proofs.Lists.{at_index, contains_at, to_map, from_map}
 

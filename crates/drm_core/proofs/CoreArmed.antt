@@ -19,21 +19,21 @@ use Rattle.drm_fence.specs.declared.timeline.FenceState.{FenceState}
 use Rattle.drm_fence.specs.Fences.{has_ended_at}
 use Rattle.drm_resv.specs.Entries.{added_to}
 use Rattle.drm_resv.specs.Reservation.{Reservation, WithRoom}
-use Rattle.drm_table.specs.declared.journal.JobRecord.{JobRecord}
+use Rattle.drm_state.specs.declared.journal.JobRecord.{JobRecord}
 use Rattle.drm_types.specs.Limits.{spec_fault}
 use Rattle.drm_sched.specs.Marks.{MarkedDevice}
-use Rattle.drm_table.specs.declared.plans.Plan.{Plan}
+use Rattle.drm_state.specs.declared.plans.Plan.{Plan}
 use Rattle.drm_core.specs.declared.cores.CoreTable.{CoreTable}
-use Rattle.drm_table.specs.State.{DeviceState}
+use Rattle.drm_state.specs.State.{DeviceState}
 use Rattle.drm_core.specs.State.{CoreState}
-use Rattle.drm_table.specs.Arming.{new_record, armed_device, armed_reservation, armed_reservations}
+use Rattle.drm_state.specs.Arming.{new_record, armed_device, armed_reservation, armed_reservations}
 use Rattle.drm_core.specs.Outcomes.{armed_core}
-use Rattle.drm_table.specs.Reservation.{usage_at, is_signaled}
+use Rattle.drm_state.specs.Reservation.{usage_at, is_signaled}
 use Rattle.drm_core.specs.Steady.{IsSteadyCore}
-use Rattle.drm_table.specs.Tables.{fence_state_of}
+use Rattle.drm_state.specs.Records.{fence_state_of}
 use Rattle.drm_core.specs.Cores.{core_state, planned_by, PlanStands, IsCore}
-use Rattle.drm_table.specs.Plans.{MeetsPlan, DepsCover}
-use Rattle.drm_table.specs.Uses.{HasUse}
+use Rattle.drm_state.specs.Plans.{MeetsPlan, DepsCover}
+use Rattle.drm_state.specs.Uses.{HasUse}
 use Rattle.drm_core.specs.Planning.{HaveUses, ShareNoBuffer}
 use Rattle.drm_core.proofs.Lists.{to_map, from_map}
 use Rattle.drm_core.proofs.Lists.{find_first}

@@ -10,19 +10,19 @@ use Rattle.drm_job.specs.Conflicts.{conflicts}
 use Rattle.drm_packet.specs.declared.Packet.{Packet}
 use Rattle.drm_packet.specs.Touches.{touches}
 use Rattle.drm_types.specs.Limits.{spec_fault}
-use Rattle.drm_table.specs.declared.answer.Refusal.{Refusal}
+use Rattle.drm_state.specs.declared.answer.Refusal.{Refusal}
 use Rattle.drm_sched.specs.Begun.{out_or}
 use Rattle.drm_sched.specs.Marks.{Mark, MarkedDevice, buffer_out, is_in_way, is_out, out_by, ring_out}
-use Rattle.drm_table.specs.Outcomes.{next_packet}
-use Rattle.drm_table.specs.Ring.{current_of}
+use Rattle.drm_state.specs.Outcomes.{next_packet}
+use Rattle.drm_state.specs.Ring.{current_of}
 use Rattle.drm_core.specs.Laws.{DeviceLaws}
 use Rattle.drm_core.specs.declared.cores.CoreTable.{CoreTable}
-use Rattle.drm_table.specs.State.{DeviceState}
-use Rattle.drm_table.specs.Grows.{EachInPlace, RecordGrows}
+use Rattle.drm_state.specs.State.{DeviceState}
+use Rattle.drm_state.specs.Grows.{EachInPlace, RecordGrows}
 use Rattle.drm_core.specs.Cores.{core_state, IsCore, NothingOut}
-use Rattle.drm_table.specs.Plans.{MeetsPlan, DepsCover}
+use Rattle.drm_state.specs.Plans.{MeetsPlan, DepsCover}
 use Rattle.drm_core.proofs.CoreSteps.{device_kept}
-use Rattle.drm_table.specs.Events.{IsKept}
+use Rattle.drm_state.specs.Events.{IsKept}
 use Rattle.drm_core.proofs.DeviceFacts.{grew_from, had_not_ended}
 
 -- what covers goes on to cover while the journal grows

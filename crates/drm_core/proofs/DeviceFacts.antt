@@ -2,21 +2,21 @@
 use Rattle.std.proofs.Common.{◌≡◌, ℕ, zero, suc, List, [], ◌∷◌, map, refl, ap, ◌∙◌, set, length, Some, None, slice_get, sym, subst, true, arith, Bool, not, ◌<◌, false, get_or}
 use Rattle.drm_fence.specs.declared.timeline.FenceState.{FenceState}
 use Rattle.drm_fence.specs.Fences.{has_ended_at}
-use Rattle.drm_table.specs.declared.journal.JobRecord.{JobRecord}
-use Rattle.drm_table.specs.Reservation.{is_signaled}
-use Rattle.drm_table.specs.Tables.{fence_state_of}
-use Rattle.drm_table.specs.declared.answer.Answer.{Answer}
-use Rattle.drm_table.specs.State.{DeviceState, EntityState}
+use Rattle.drm_state.specs.declared.journal.JobRecord.{JobRecord}
+use Rattle.drm_state.specs.Reservation.{is_signaled}
+use Rattle.drm_state.specs.Records.{fence_state_of}
+use Rattle.drm_state.specs.declared.answer.Answer.{Answer}
+use Rattle.drm_state.specs.State.{DeviceState, EntityState}
 use Rattle.std.specs.Option.{option_map_or}
 use Rattle.std.proofs.lemmas.List.{length-set}
-use Rattle.drm_table.specs.Journal.{changed_at, is_at, is_complete}
-use Rattle.drm_table.specs.Outcomes.{at_record}
+use Rattle.drm_state.specs.Journal.{changed_at, is_at, is_complete}
+use Rattle.drm_state.specs.Outcomes.{at_record}
 use Rattle.std.proofs.lemmas.Bool.{not-true}
 use Rattle.drm_fence.specs.declared.phase.Phase.{Phase}
 use Rattle.drm_fence.specs.declared.phase.Phase.TheVariants.{Queued, Scheduled, Ended}
-use Rattle.drm_table.specs.Grows.{GoesOn, RecordGrows, EntityGrows, EachInPlace, Grows}
-use Rattle.drm_table.specs.Ring.{pending_of, current_of}
-use Rattle.drm_table.specs.Lawful.{IsLawfulDevice}
+use Rattle.drm_state.specs.Grows.{GoesOn, RecordGrows, EntityGrows, EachInPlace, Grows}
+use Rattle.drm_state.specs.Ring.{pending_of, current_of}
+use Rattle.drm_state.specs.Lawful.{IsLawfulDevice}
 use Rattle.std.proofs.lemmas.Option.{slice_get_within, slice_get-get_or}
 use Rattle.drm_fence.specs.Phases.{has_ended}
 use Rattle.drm_core.proofs.Lists.{at_test, contains_at, find_first}

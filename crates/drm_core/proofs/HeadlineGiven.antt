@@ -8,15 +8,15 @@ use Rattle.drm_types.specs.Firsts.{when, first_of}
 use Rattle.drm_types.specs.declared.spec.DeviceSpec.{DeviceSpec}
 use Rattle.drm_buffer.specs.Memory.{bytes_of}
 use Rattle.drm_types.proofs.Firsts.{none_first}
-use Rattle.drm_table.specs.declared.answer.Answer.{Answer}
-use Rattle.drm_table.specs.declared.answer.Answer.TheVariants as answer
+use Rattle.drm_state.specs.declared.answer.Answer.{Answer}
+use Rattle.drm_state.specs.declared.answer.Answer.TheVariants as answer
 use Rattle.drm_core.specs.declared.event.Event.{Event}
 use Rattle.drm_core.specs.declared.event.Event.TheVariants as event
-use Rattle.drm_table.specs.declared.answer.Refusal.TheVariants.{Busy, CtxIdle, Memory, NotHeld, StillHolds}
+use Rattle.drm_state.specs.declared.answer.Refusal.TheVariants.{Busy, CtxIdle, Memory, NotHeld, StillHolds}
 use Rattle.drm_core.specs.State.{Context, CoreState, opened}
 use Rattle.drm_core.specs.Context.{context_of, holder_of, holds, least_held, ticket_of, with_holder}
 use Rattle.drm_core.specs.Refusals.{plan_of, idle_refusal, not_held_refusal, early_refusal}
-use Rattle.drm_table.specs.Refusals.{read_refusal}
+use Rattle.drm_state.specs.Refusals.{read_refusal}
 use Rattle.drm_core.specs.Outcomes.{armed_core, context_changed, outcome_of_event}
 use Rattle.drm_core.specs.Run.{Run}
 use Rattle.drm_core.specs.Step.{unless_refused, Step}

@@ -14,24 +14,24 @@ use Rattle.drm_types.proofs.Firsts.{none_first, none_when}
 use Rattle.drm_fence.specs.declared.phase.Phase.{Phase}
 use Rattle.drm_fence.specs.declared.phase.Phase.TheVariants.{Queued, Scheduled, Ended}
 use Rattle.drm_fence.specs.Phases.{has_ended, status_of}
-use Rattle.drm_table.specs.declared.answer.Answer.{Answer}
-use Rattle.drm_table.specs.declared.answer.Answer.TheVariants as answer
+use Rattle.drm_state.specs.declared.answer.Answer.{Answer}
+use Rattle.drm_state.specs.declared.answer.Answer.TheVariants as answer
 use Rattle.drm_core.specs.declared.event.Event.{Event}
 use Rattle.drm_core.specs.declared.event.Event.TheVariants as event
-use Rattle.drm_table.specs.declared.answer.Refusal.TheVariants.{Memory, NotHeld, Busy, NoFence}
-use Rattle.drm_table.specs.declared.journal.JobRecord.{JobRecord}
+use Rattle.drm_state.specs.declared.answer.Refusal.TheVariants.{Memory, NotHeld, Busy, NoFence}
+use Rattle.drm_state.specs.declared.journal.JobRecord.{JobRecord}
 use Rattle.drm_core.specs.State.{CoreState, opened}
-use Rattle.drm_table.specs.Journal.{turns}
-use Rattle.drm_table.specs.Ring.{used_credits}
+use Rattle.drm_state.specs.Journal.{turns}
+use Rattle.drm_state.specs.Ring.{used_credits}
 use Rattle.drm_core.specs.Outcomes.{outcome_of_event}
 use Rattle.drm_core.specs.Context.{holds}
 use Rattle.drm_core.specs.Names.{names_exist}
-use Rattle.drm_table.specs.Order.{HasPlace}
+use Rattle.drm_state.specs.Order.{HasPlace}
 use Rattle.drm_core.specs.Refusals.{idle_refusal, not_held_refusal}
-use Rattle.drm_table.specs.Refusals.{read_refusal, busy_fence}
+use Rattle.drm_state.specs.Refusals.{read_refusal, busy_fence}
 use Rattle.drm_core.specs.Step.{Step}
 use Rattle.drm_core.specs.Run.{Run, AllNamesExist}
-use Rattle.drm_table.specs.Lawful.{HasRightOutcome, IsLawfulDevice}
+use Rattle.drm_state.specs.Lawful.{HasRightOutcome, IsLawfulDevice}
 use Rattle.drm_core.specs.Steady.{IsSteadyCore, PlansHeld, HoldersBegun, JobsHavePlace}
 use Rattle.drm_core.specs.Headline.{serial_memory, serial_bytes, WritersEnded, MayRead, IsRefused, TellsOutcome, Promises, Headline}
 use Rattle.drm_core.proofs.CoreSteps.{step_is_kept}

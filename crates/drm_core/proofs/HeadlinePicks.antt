@@ -4,20 +4,20 @@ use Rattle.std.specs.Prelude.{nat_lt}
 use Rattle.std.specs.Option.{option_map_or}
 use Rattle.std.proofs.lemmas.Bool.{both_ways}
 use Rattle.drm_types.specs.Firsts.{when, first_of}
-use Rattle.drm_table.specs.declared.answer.Answer.{Answer}
-use Rattle.drm_table.specs.declared.answer.Answer.TheVariants as answer
+use Rattle.drm_state.specs.declared.answer.Answer.{Answer}
+use Rattle.drm_state.specs.declared.answer.Answer.TheVariants as answer
 use Rattle.drm_core.specs.declared.event.Event.TheVariants as event
-use Rattle.drm_table.specs.declared.answer.Refusal.{Refusal}
-use Rattle.drm_table.specs.declared.answer.Refusal.TheVariants.{Idle, NoCredit}
-use Rattle.drm_table.specs.declared.journal.JobRecord.{JobRecord}
-use Rattle.drm_table.specs.State.{DeviceState}
+use Rattle.drm_state.specs.declared.answer.Refusal.{Refusal}
+use Rattle.drm_state.specs.declared.answer.Refusal.TheVariants.{Idle, NoCredit}
+use Rattle.drm_state.specs.declared.journal.JobRecord.{JobRecord}
+use Rattle.drm_state.specs.State.{DeviceState}
 use Rattle.drm_core.specs.State.{CoreState}
-use Rattle.drm_table.specs.Choice.{choice}
-use Rattle.drm_table.specs.Chosen.{IsLeast, NoneMayBegin}
-use Rattle.drm_table.specs.Outcomes.{picked_device, at_record}
+use Rattle.drm_state.specs.Choice.{choice}
+use Rattle.drm_state.specs.Chosen.{IsLeast, NoneMayBegin}
+use Rattle.drm_state.specs.Outcomes.{picked_device, at_record}
 use Rattle.drm_core.specs.Outcomes.{with_device}
-use Rattle.drm_table.specs.Ring.{credits_of, free_credits, is_guilty}
-use Rattle.drm_table.specs.Steady.{IsSteady}
+use Rattle.drm_state.specs.Ring.{credits_of, free_credits, is_guilty}
+use Rattle.drm_state.specs.Steady.{IsSteady}
 use Rattle.drm_core.specs.Step.{unless_refused, Step}
 use Rattle.drm_core.proofs.HeadlineSteps.{cases_step, at_option, is_refusal}
 use Rattle.drm_core.specs.Laws.{DeviceLaws}

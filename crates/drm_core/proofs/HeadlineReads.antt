@@ -17,28 +17,28 @@ use Rattle.drm_job.specs.declared.Draft.{Draft}
 use Rattle.drm_job.specs.Fault.{job_fault, buffers_of}
 use Rattle.drm_types.proofs.Firsts.{none_first, none_when}
 use Rattle.drm_fence.specs.Phases.{has_ended}
-use Rattle.drm_table.specs.declared.answer.Answer.{Answer}
-use Rattle.drm_table.specs.declared.answer.Answer.TheVariants as answer
+use Rattle.drm_state.specs.declared.answer.Answer.{Answer}
+use Rattle.drm_state.specs.declared.answer.Answer.TheVariants as answer
 use Rattle.drm_core.specs.declared.event.Event.{Event}
 use Rattle.drm_core.specs.declared.event.Event.TheVariants as event
-use Rattle.drm_table.specs.declared.answer.Refusal.TheVariants.{CtxIdle, Faulty, Held, NotAllHeld, NotHeld}
-use Rattle.drm_table.specs.declared.journal.JobRecord.{JobRecord}
-use Rattle.drm_table.specs.State.{DeviceState}
+use Rattle.drm_state.specs.declared.answer.Refusal.TheVariants.{CtxIdle, Faulty, Held, NotAllHeld, NotHeld}
+use Rattle.drm_state.specs.declared.journal.JobRecord.{JobRecord}
+use Rattle.drm_state.specs.State.{DeviceState}
 use Rattle.drm_core.specs.State.{Context, CoreState, opened}
-use Rattle.drm_table.specs.Journal.{is_at}
-use Rattle.drm_table.specs.Choice.{queue_of, choice}
-use Rattle.drm_table.specs.Ring.{head_of, current_of}
-use Rattle.drm_table.specs.Arming.{new_record}
-use Rattle.drm_table.specs.Reservation.{usage_at}
+use Rattle.drm_state.specs.Journal.{is_at}
+use Rattle.drm_state.specs.Choice.{queue_of, choice}
+use Rattle.drm_state.specs.Ring.{head_of, current_of}
+use Rattle.drm_state.specs.Arming.{new_record}
+use Rattle.drm_state.specs.Reservation.{usage_at}
 use Rattle.drm_core.specs.Context.{context_of, holder_of, is_held, holds, holds_all, ticket_of, with_context, with_holder}
-use Rattle.drm_table.specs.Grows.{RecordGrows, EachInPlace}
+use Rattle.drm_state.specs.Grows.{RecordGrows, EachInPlace}
 use Rattle.drm_core.specs.Refusals.{plan_of, idle_refusal, not_held_refusal, early_refusal}
-use Rattle.drm_table.specs.Outcomes.{must_stall, ran_device, stepped_by}
+use Rattle.drm_state.specs.Outcomes.{must_stall, ran_device, stepped_by}
 use Rattle.drm_core.specs.Outcomes.{armed_core, context_changed, outcome_of_event}
 use Rattle.drm_core.specs.Run.{Run}
 use Rattle.drm_core.specs.Steady.{PlansHeld}
 use Rattle.drm_core.specs.Step.{Step}
-use Rattle.drm_table.specs.Writers.{is_writer}
+use Rattle.drm_state.specs.Writers.{is_writer}
 use Rattle.drm_core.specs.Headline.{MayRead, GivesUp}
 use Rattle.drm_core.proofs.Lists.{stands_within, to_map}
 use Rattle.drm_core.proofs.Lists.{get_set_other}

@@ -25,28 +25,28 @@ use Rattle.drm_serial.proofs.Commute.{within_at}
 use Rattle.drm_fence.specs.Phases.{has_ended}
 use Rattle.drm_fence.specs.declared.phase.Phase.{Phase}
 use Rattle.drm_fence.specs.declared.phase.Phase.TheVariants.{Queued, Scheduled, Ended}
-use Rattle.drm_table.specs.declared.answer.Answer.{Answer}
-use Rattle.drm_table.specs.declared.answer.Answer.TheVariants as answer
+use Rattle.drm_state.specs.declared.answer.Answer.{Answer}
+use Rattle.drm_state.specs.declared.answer.Answer.TheVariants as answer
 use Rattle.drm_core.specs.declared.event.Event.{Event}
 use Rattle.drm_core.specs.declared.event.Event.TheVariants as event
-use Rattle.drm_table.specs.declared.answer.Refusal.{Refusal}
-use Rattle.drm_table.specs.declared.answer.Refusal.TheVariants.{Memory}
-use Rattle.drm_table.specs.declared.journal.JobRecord.{JobRecord}
-use Rattle.drm_table.specs.State.{DeviceState}
+use Rattle.drm_state.specs.declared.answer.Refusal.{Refusal}
+use Rattle.drm_state.specs.declared.answer.Refusal.TheVariants.{Memory}
+use Rattle.drm_state.specs.declared.journal.JobRecord.{JobRecord}
+use Rattle.drm_state.specs.State.{DeviceState}
 use Rattle.drm_core.specs.State.{Context, CoreState}
-use Rattle.drm_table.specs.Journal.{is_at, is_complete}
-use Rattle.drm_table.specs.Choice.{queue_of, choice}
+use Rattle.drm_state.specs.Journal.{is_at, is_complete}
+use Rattle.drm_state.specs.Choice.{queue_of, choice}
 use Rattle.drm_types.specs.Firsts.{first}
-use Rattle.drm_table.specs.Ring.{limit_of, head_of, current_of, age_of}
+use Rattle.drm_state.specs.Ring.{limit_of, head_of, current_of, age_of}
 use Rattle.drm_core.specs.Context.{context_of, holder_of, ticket_of, with_holder}
-use Rattle.drm_table.specs.Grows.{GoesOn}
+use Rattle.drm_state.specs.Grows.{GoesOn}
 use Rattle.drm_core.specs.Names.{names_exist}
 use Rattle.drm_core.specs.Refusals.{plan_of, early_refusal, late_refusal}
-use Rattle.drm_table.specs.Outcomes.{must_stall, ran_device, stepped_by, is_too_much, hung_device, condemned_device, timeout_at, at_record, step_outcome, timeout_outcome}
+use Rattle.drm_state.specs.Outcomes.{must_stall, ran_device, stepped_by, is_too_much, hung_device, condemned_device, timeout_at, at_record, step_outcome, timeout_outcome}
 use Rattle.drm_core.specs.Outcomes.{armed_core, context_changed, outcome_of_event}
 use Rattle.drm_core.specs.Step.{unless_refused, Step}
-use Rattle.drm_table.specs.Lawful.{IsLawfulDevice}
-use Rattle.drm_table.specs.Writers.{is_writer}
+use Rattle.drm_state.specs.Lawful.{IsLawfulDevice}
+use Rattle.drm_state.specs.Writers.{is_writer}
 use Rattle.drm_core.specs.Headline.{WritersEnded}
 use Rattle.drm_core.proofs.DeviceFacts.{at_record_is}
 use Rattle.drm_core.proofs.DeviceFacts.{IsCurrent, current_is}

@@ -10,10 +10,10 @@ use Rattle.drm_job.specs.declared.Draft.{Draft}
 use Rattle.drm_job.specs.Fault.{IsJob, buffers_of}
 use Rattle.drm_resv.specs.Reservation.{WithRoom}
 use Rattle.drm_core.specs.Refusals.{plan_of}
-use Rattle.drm_table.specs.declared.answer.Answer.{Answer}
+use Rattle.drm_state.specs.declared.answer.Answer.{Answer}
 use Rattle.drm_core.specs.declared.event.Event.{Event}
 use Rattle.drm_core.specs.declared.event.Event.TheVariants as event
-use Rattle.drm_table.specs.declared.plans.Plan.{Plan}
+use Rattle.drm_state.specs.declared.plans.Plan.{Plan}
 use Rattle.drm_core.specs.declared.cores.ContextRow.{ContextRow}
 use Rattle.drm_core.specs.declared.cores.CoreTable.{CoreTable}
 use Rattle.drm_types.specs.Limits.{spec_fault}
@@ -25,15 +25,15 @@ use Rattle.drm_core.specs.Outcomes.{outcome_of_event}
 use Rattle.drm_core.specs.Step.{unless_refused, reply}
 use Rattle.drm_core.specs.Steady.{IsSteadyCore}
 use Rattle.drm_core.specs.Cores.{core_state, planned_by, IsCore, NothingOut}
-use Rattle.drm_table.specs.Plans.{DepsCover}
+use Rattle.drm_state.specs.Plans.{DepsCover}
 use Rattle.drm_core.proofs.CoreSteps.{contexts_kept}
 use Rattle.drm_core.proofs.Lists.{get_set_other}
 use Rattle.std.proofs.lemmas.Bool.{eqb-true}
 use Rattle.std.proofs.Common.{get_or}
 use Rattle.drm_core.proofs.Lists.{to_map, at_index}
 use Rattle.std.proofs.lemmas.List.{map-set, length-set}
-use Rattle.drm_table.specs.declared.answer.Answer.TheVariants as answer
-use Rattle.drm_table.specs.declared.answer.Refusal.TheVariants as refusal
+use Rattle.drm_state.specs.declared.answer.Answer.TheVariants as answer
+use Rattle.drm_state.specs.declared.answer.Refusal.TheVariants as refusal
 use Rattle.drm_core.specs.State.{Context}
 use Rattle.drm_core.specs.Claims.{claimed_of, with_seal, without_plan}
 use Rattle.drm_core.specs.Cores.{context_of_row}

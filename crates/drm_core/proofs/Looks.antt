@@ -11,10 +11,10 @@ use Rattle.drm_fence.specs.declared.phase.Phase.{Phase}
 use Rattle.drm_fence.specs.declared.phase.Phase.TheVariants.{Queued, Scheduled, Ended}
 use Rattle.drm_fence.specs.Phases.{status_of}
 use Rattle.drm_core.specs.declared.cores.CoreTable.{CoreTable}
-use Rattle.drm_table.specs.declared.answer.Answer.TheVariants as answer
+use Rattle.drm_state.specs.declared.answer.Answer.TheVariants as answer
 use Rattle.drm_core.specs.declared.event.Event.TheVariants as event
-use Rattle.drm_table.specs.declared.answer.Refusal.TheVariants as refusal
-use Rattle.drm_table.specs.declared.journal.JobRecord.{JobRecord}
+use Rattle.drm_state.specs.declared.answer.Refusal.TheVariants as refusal
+use Rattle.drm_state.specs.declared.journal.JobRecord.{JobRecord}
 use Rattle.drm_core.specs.Step.{reply}
 use Rattle.drm_core.specs.Cores.{core_state}
 use Rattle.drm_core.proofs.Lists.{stands_within}

@@ -8,20 +8,20 @@ use Rattle.drm_types.specs.Firsts.{when}
 use Rattle.drm_types.specs.declared.spec.DeviceSpec.{DeviceSpec}
 use Rattle.drm_job.specs.declared.Draft.{Draft}
 use Rattle.drm_types.proofs.Firsts.{none_first}
-use Rattle.drm_table.specs.declared.answer.Answer.{Answer}
+use Rattle.drm_state.specs.declared.answer.Answer.{Answer}
 use Rattle.drm_core.specs.declared.event.Event.{Event}
 use Rattle.drm_core.specs.declared.event.Event.TheVariants as event
-use Rattle.drm_table.specs.declared.answer.Refusal.TheVariants.{Full, NoFence, NotPlanned, Stopped}
-use Rattle.drm_table.specs.declared.journal.JobRecord.{JobRecord}
-use Rattle.drm_table.specs.State.{DeviceState}
+use Rattle.drm_state.specs.declared.answer.Refusal.TheVariants.{Full, NoFence, NotPlanned, Stopped}
+use Rattle.drm_state.specs.declared.journal.JobRecord.{JobRecord}
+use Rattle.drm_state.specs.State.{DeviceState}
 use Rattle.drm_core.specs.State.{CoreState, opened}
-use Rattle.drm_table.specs.Arming.{new_record}
-use Rattle.drm_table.specs.Grows.{Grows}
+use Rattle.drm_state.specs.Arming.{new_record}
+use Rattle.drm_state.specs.Grows.{Grows}
 use Rattle.drm_core.specs.Names.{names_exist}
-use Rattle.drm_table.specs.Order.{HasPlace}
+use Rattle.drm_state.specs.Order.{HasPlace}
 use Rattle.drm_core.specs.Refusals.{plan_of, idle_refusal, early_refusal, late_refusal}
-use Rattle.drm_table.specs.Refusals.{arm_refusal}
-use Rattle.drm_table.specs.Ring.{is_stopped}
+use Rattle.drm_state.specs.Refusals.{arm_refusal}
+use Rattle.drm_state.specs.Ring.{is_stopped}
 use Rattle.drm_core.specs.Run.{Run, AllNamesExist}
 use Rattle.drm_core.specs.Steady.{IsSteadyCore, JobsHavePlace}
 use Rattle.drm_core.specs.Step.{Step}

@@ -11,22 +11,22 @@ use Rattle.drm_types.specs.declared.access.Access.{Access}
 use Rattle.drm_job.specs.declared.Draft.{Draft}
 use Rattle.drm_job.specs.Fault.{job_fault, IsJob, buffers_of}
 use Rattle.drm_types.proofs.Firsts.{first_of_one}
-use Rattle.drm_table.specs.declared.answer.Answer.{Answer}
-use Rattle.drm_table.specs.declared.answer.Answer.TheVariants as answer
+use Rattle.drm_state.specs.declared.answer.Answer.{Answer}
+use Rattle.drm_state.specs.declared.answer.Answer.TheVariants as answer
 use Rattle.drm_core.specs.declared.event.Event.TheVariants as event
-use Rattle.drm_table.specs.declared.answer.Refusal.TheVariants as refusal
-use Rattle.drm_table.specs.declared.plans.Plan.{Plan}
+use Rattle.drm_state.specs.declared.answer.Refusal.TheVariants as refusal
+use Rattle.drm_state.specs.declared.plans.Plan.{Plan}
 use Rattle.drm_core.specs.declared.cores.ContextRow.{ContextRow}
 use Rattle.drm_core.specs.declared.cores.CoreTable.{CoreTable}
 use Rattle.drm_core.specs.State.{Context, CoreState}
 use Rattle.drm_core.specs.Context.{context_of, holder_of, holds, holds_all, with_context}
 use Rattle.drm_core.specs.Claims.{without_plan}
-use Rattle.drm_table.specs.Refusals.{arm_refusal}
+use Rattle.drm_state.specs.Refusals.{arm_refusal}
 use Rattle.drm_core.specs.Refusals.{early_refusal, plan_of}
 use Rattle.drm_core.specs.Outcomes.{armed_core, context_changed}
 use Rattle.drm_core.specs.Step.{Step, reply}
 use Rattle.drm_core.specs.Cores.{core_state, planned_by, PlanStands, IsCore}
-use Rattle.drm_table.specs.Plans.{DepsCover}
+use Rattle.drm_state.specs.Plans.{DepsCover}
 use Rattle.drm_core.specs.Planning.{holds_in, AreRoomy, ShareNoBuffer}
 use Rattle.drm_core.proofs.Lists.{all_at}
 use Rattle.drm_core.proofs.Locks.{plan_of_row, plan_cases, reply_is, row_changed, planned_job, steady_still}

@@ -14,22 +14,22 @@ use Rattle.drm_job.specs.declared.Draft.{Draft}
 use Rattle.drm_job.specs.declared.JobFault.{JobFault}
 use Rattle.drm_job.specs.Fault.{job_fault, buffers_of}
 use Rattle.drm_resv.specs.Reservation.{Reservation, WithRoom}
-use Rattle.drm_table.specs.declared.plans.Plan.{Plan}
+use Rattle.drm_state.specs.declared.plans.Plan.{Plan}
 use Rattle.drm_core.specs.declared.cores.CoreTable.{CoreTable}
-use Rattle.drm_table.specs.declared.answer.Answer.{Answer}
-use Rattle.drm_table.specs.declared.answer.Answer.TheVariants as answer
+use Rattle.drm_state.specs.declared.answer.Answer.{Answer}
+use Rattle.drm_state.specs.declared.answer.Answer.TheVariants as answer
 use Rattle.drm_core.specs.declared.event.Event.{Event}
 use Rattle.drm_core.specs.declared.event.Event.TheVariants as event
-use Rattle.drm_table.specs.declared.answer.Refusal.{Refusal}
-use Rattle.drm_table.specs.declared.answer.Refusal.TheVariants.{Faulty, Held, Memory}
+use Rattle.drm_state.specs.declared.answer.Refusal.{Refusal}
+use Rattle.drm_state.specs.declared.answer.Refusal.TheVariants.{Faulty, Held, Memory}
 use Rattle.drm_core.specs.State.{CoreState}
 use Rattle.drm_core.specs.Context.{holds, is_held}
 use Rattle.drm_core.specs.Refusals.{early_refusal, late_refusal}
-use Rattle.drm_table.specs.Refusals.{arm_refusal}
+use Rattle.drm_state.specs.Refusals.{arm_refusal}
 use Rattle.drm_core.specs.Outcomes.{outcome_of_event, armed_core}
 use Rattle.drm_core.specs.Step.{unless_refused, reply, Step}
 use Rattle.drm_core.specs.Steady.{IsSteadyCore}
-use Rattle.drm_table.specs.Reservation.{usage_at, Fits}
+use Rattle.drm_state.specs.Reservation.{usage_at, Fits}
 use Rattle.drm_core.specs.Cores.{core_state, planned_by, PlanStands, IsCore}
 use Rattle.drm_core.specs.Planning.{MoreRoom, HasRoomFor, AreRoomy, ShareNoBuffer, is_held_in}
 use Rattle.drm_sched.specs.Marks.{MarkedDevice}

@@ -11,9 +11,9 @@ use Rattle.drm_job.specs.declared.Draft.{Draft}
 use Rattle.drm_job.specs.Fault.{IsJob}
 use Rattle.drm_job.specs.Laws.{JobsAreTheSoundDrafts}
 use Rattle.drm_resv.specs.Reservation.{WithRoom}
-use Rattle.drm_table.specs.Reservation.{usage_at}
+use Rattle.drm_state.specs.Reservation.{usage_at}
 use Rattle.drm_types.specs.Usages.{added_usage}
-use Rattle.drm_table.specs.Uses.{HasUse}
+use Rattle.drm_state.specs.Uses.{HasUse}
 use Rattle.drm_core.specs.Planning.{DeclaresOnce, HaveUses}
 use Rattle.drm_core.proofs.Lists.{each_fails, find_first, get_set_same, get_set_other, to_map}
 

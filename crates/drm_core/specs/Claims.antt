@@ -1,7 +1,7 @@
 -- What a claim answers where another context holds the reservation, and how the row of a context changes.
 use Rattle.std.specs.Prelude.{ℕ, nat_lt, if◌then◌else◌, true, None}
-use Rattle.drm_table.specs.declared.answer.Answer.{Answer}
-use Rattle.drm_table.specs.declared.answer.Answer.TheVariants as answer
+use Rattle.drm_state.specs.declared.answer.Answer.{Answer}
+use Rattle.drm_state.specs.declared.answer.Answer.TheVariants as answer
 use Rattle.drm_core.specs.declared.cores.ContextRow.{ContextRow}
 
 -- the holder is older, or younger, than the context of this ticket

@@ -2,16 +2,16 @@
 use Rattle.std.specs.Prelude.{◌≡◌, ℕ, ◌≤◌, ◌^◌, IsTrue, length, map, Option, Some, None, option_map, slice_get}
 use Rattle.std.specs.Option.{option_map_or}
 use Rattle.drm_resv.specs.Reservation.{WithRoom}
-use Rattle.drm_table.specs.declared.plans.Plan.{Plan}
+use Rattle.drm_state.specs.declared.plans.Plan.{Plan}
 use Rattle.drm_core.specs.declared.cores.ContextRow.{ContextRow}
 use Rattle.drm_core.specs.declared.cores.CoreTable.{CoreTable}
 use Rattle.drm_core.specs.State.{Context, CoreState}
 use Rattle.drm_core.specs.Context.{holds_all}
-use Rattle.drm_table.specs.Reservation.{usage_at}
+use Rattle.drm_state.specs.Reservation.{usage_at}
 use Rattle.drm_core.specs.Steady.{IsSteadyCore, PlansHeld, HoldersBegun, JobsHavePlace}
 use Rattle.drm_types.specs.Limits.{spec_fault}
 use Rattle.drm_sched.specs.Marks.{MarkedDevice, mark_of}
-use Rattle.drm_table.specs.Plans.{DepsCover}
+use Rattle.drm_state.specs.Plans.{DepsCover}
 
 -- the context of a row: what it has planned is its job
 abbrev pub context_of_row : ContextRow → Context

@@ -7,24 +7,24 @@ use Rattle.drm_job.specs.declared.Draft.{Draft}
 use Rattle.drm_job.specs.Fault.{IsJob}
 use Rattle.drm_serial.specs.Serial.{serial}
 use Rattle.drm_fence.specs.Phases.{is_queued, has_ended, status_of}
-use Rattle.drm_table.specs.declared.answer.Answer.{Answer}
-use Rattle.drm_table.specs.declared.answer.Answer.TheVariants as answer
+use Rattle.drm_state.specs.declared.answer.Answer.{Answer}
+use Rattle.drm_state.specs.declared.answer.Answer.TheVariants as answer
 use Rattle.drm_core.specs.declared.event.Event.{Event}
 use Rattle.drm_core.specs.declared.event.Event.TheVariants as event
-use Rattle.drm_table.specs.declared.answer.Refusal.{Refusal}
-use Rattle.drm_table.specs.declared.answer.Refusal.TheVariants.{Memory, Idle}
-use Rattle.drm_table.specs.declared.journal.JobRecord.{JobRecord}
+use Rattle.drm_state.specs.declared.answer.Refusal.{Refusal}
+use Rattle.drm_state.specs.declared.answer.Refusal.TheVariants.{Memory, Idle}
+use Rattle.drm_state.specs.declared.journal.JobRecord.{JobRecord}
 use Rattle.drm_core.specs.State.{CoreState, opened}
-use Rattle.drm_table.specs.Journal.{turns, is_over}
-use Rattle.drm_table.specs.Order.{comes_after, HasPlace}
-use Rattle.drm_table.specs.Ring.{used_credits}
-use Rattle.drm_table.specs.Chosen.{IsLeast, NoneMayBegin}
+use Rattle.drm_state.specs.Journal.{turns, is_over}
+use Rattle.drm_state.specs.Order.{comes_after, HasPlace}
+use Rattle.drm_state.specs.Ring.{used_credits}
+use Rattle.drm_state.specs.Chosen.{IsLeast, NoneMayBegin}
 use Rattle.drm_core.specs.Context.{holds}
 use Rattle.drm_core.specs.Names.{names_exist}
 use Rattle.drm_core.specs.Refusals.{plan_of}
 use Rattle.drm_core.specs.Step.{Step}
 use Rattle.drm_core.specs.Run.{Run, AllNamesExist}
-use Rattle.drm_table.specs.Writers.{is_writer, HaveEnded}
+use Rattle.drm_state.specs.Writers.{is_writer, HaveEnded}
 
 -- the memory of the machine that runs the armed jobs one after another in arming order, each with the packets that it has run
 abbrev pub serial_memory : DeviceSpec → CoreState → List (List ℕ)

@@ -1,7 +1,7 @@
 -- What the laws say of every device.
-use Rattle.drm_table.specs.Chosen.{ChoiceIsLeast}
-use Rattle.drm_table.specs.Events.{DevicesStaySteady}
-use Rattle.drm_table.specs.Writers.{ReadsWaitForWriters}
+use Rattle.drm_state.specs.Chosen.{ChoiceIsLeast}
+use Rattle.drm_state.specs.Events.{DevicesStaySteady}
+use Rattle.drm_state.specs.Writers.{ReadsWaitForWriters}
 
 pub record DeviceLaws : Type 0 where
   pub steady : DevicesStaySteady

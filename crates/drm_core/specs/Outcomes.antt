@@ -3,17 +3,17 @@ use Rattle.std.specs.Prelude.{ℕ, ◌+◌, true, false, nat_lt, if◌then◌els
 use Rattle.std.specs.Option.{option_map_or}
 use Rattle.drm_buffer.specs.Memory.{bytes_of}
 use Rattle.drm_job.specs.declared.Draft.{Draft}
-use Rattle.drm_table.specs.declared.answer.Answer.{Answer}
-use Rattle.drm_table.specs.declared.answer.Answer.TheVariants as answer
+use Rattle.drm_state.specs.declared.answer.Answer.{Answer}
+use Rattle.drm_state.specs.declared.answer.Answer.TheVariants as answer
 use Rattle.drm_core.specs.declared.event.Event.{Event}
 use Rattle.drm_core.specs.declared.event.Event.TheVariants as event
-use Rattle.drm_table.specs.State.{DeviceState}
+use Rattle.drm_state.specs.State.{DeviceState}
 use Rattle.drm_core.specs.State.{Context, CoreState}
 use Rattle.drm_fence.specs.Phases.{status_of}
-use Rattle.drm_table.specs.Arming.{armed_device, armed_reservations}
+use Rattle.drm_state.specs.Arming.{armed_device, armed_reservations}
 use Rattle.drm_core.specs.Context.{context_of, holder_of, ticket_of, with_context, with_holder}
 use Rattle.drm_core.specs.Refusals.{plan_of}
-use Rattle.drm_table.specs.Outcomes.{pick_outcome, step_outcome, finish_outcome, timeout_outcome, cancelled_device, reap_outcome}
+use Rattle.drm_state.specs.Outcomes.{pick_outcome, step_outcome, finish_outcome, timeout_outcome, cancelled_device, reap_outcome}
 
 -- the core over an answer and a device
 abbrev pub with_device : CoreState → Answer × DeviceState → Answer × CoreState

@@ -5,8 +5,8 @@ use Rattle.drm_types.specs.declared.access.Access.{Access}
 use Rattle.drm_types.specs.declared.access.Usage.{Usage}
 use Rattle.drm_job.specs.declared.Draft.{Draft}
 use Rattle.drm_resv.specs.Reservation.{Reservation, WithRoom}
-use Rattle.drm_table.specs.Reservation.{usage_at}
-use Rattle.drm_table.specs.Uses.{HasUse}
+use Rattle.drm_state.specs.Reservation.{usage_at}
+use Rattle.drm_state.specs.Uses.{HasUse}
 
 -- whether a context holds the buffer
 abbrev pub is_held_in : List (Option ℕ) → ℕ → Bool

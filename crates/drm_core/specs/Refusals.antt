@@ -6,11 +6,11 @@ use Rattle.drm_job.specs.declared.Draft.{Draft}
 use Rattle.drm_job.specs.Fault.{job_fault, buffers_of}
 use Rattle.drm_core.specs.declared.event.Event.{Event}
 use Rattle.drm_core.specs.declared.event.Event.TheVariants as event
-use Rattle.drm_table.specs.declared.answer.Refusal.{Refusal}
-use Rattle.drm_table.specs.declared.answer.Refusal.TheVariants.{Faulty, CtxBusy, CtxIdle, NotHeld, NotAllHeld, NotPlanned, Sealed, StillHolds, Held, TicketsOut, Already}
+use Rattle.drm_state.specs.declared.answer.Refusal.{Refusal}
+use Rattle.drm_state.specs.declared.answer.Refusal.TheVariants.{Faulty, CtxBusy, CtxIdle, NotHeld, NotAllHeld, NotPlanned, Sealed, StillHolds, Held, TicketsOut, Already}
 use Rattle.drm_core.specs.State.{CoreState}
 use Rattle.drm_core.specs.Context.{context_of, is_held, holds, holds_all, least_held}
-use Rattle.drm_table.specs.Refusals.{arm_refusal, pick_refusal, step_refusal, finish_refusal, cancel_refusal, reap_refusal, read_refusal, status_refusal}
+use Rattle.drm_state.specs.Refusals.{arm_refusal, pick_refusal, step_refusal, finish_refusal, cancel_refusal, reap_refusal, read_refusal, status_refusal}
 
 abbrev pub idle_refusal : CoreState → ℕ → Option Refusal
 idle_refusal state ctx = when (is_none (context_of state ctx)) CtxIdle

@@ -3,7 +3,7 @@ use Rattle.std.specs.Prelude.{ℕ, Bool, List, [], Option, None, map, replicate}
 use Rattle.drm_types.specs.declared.spec.DeviceSpec.{DeviceSpec}
 use Rattle.drm_job.specs.declared.Draft.{Draft}
 use Rattle.drm_resv.specs.Reservation.{Reservation}
-use Rattle.drm_table.specs.State.{DeviceState, opened_device}
+use Rattle.drm_state.specs.State.{DeviceState, opened_device}
 
 -- a context that has begun
 pub record Context : Type 0 where

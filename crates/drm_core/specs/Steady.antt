@@ -1,16 +1,16 @@
 -- What holds of every core beside its laws, and from which they follow at the next event.
 use Rattle.std.specs.Prelude.{◌≡◌, ℕ, ◌<◌, IsTrue, Bool, List, length, Option, Some, is_some, option_and_then, slice_get, Contains}
-use Rattle.drm_table.specs.declared.journal.JobRecord.{JobRecord}
-use Rattle.drm_table.specs.State.{DeviceState}
+use Rattle.drm_state.specs.declared.journal.JobRecord.{JobRecord}
+use Rattle.drm_state.specs.State.{DeviceState}
 use Rattle.drm_core.specs.State.{Context, CoreState}
 use Rattle.drm_resv.specs.Reservation.{Reservation}
-use Rattle.drm_table.specs.Order.{HasPlace}
+use Rattle.drm_state.specs.Order.{HasPlace}
 use Rattle.drm_job.specs.declared.Draft.{Draft}
 use Rattle.drm_job.specs.Fault.{IsJob, buffers_of}
 use Rattle.drm_core.specs.Context.{holds}
 use Rattle.drm_core.specs.Refusals.{plan_of}
-use Rattle.drm_table.specs.Reservation.{Fits}
-use Rattle.drm_table.specs.Steady.{IsSteady}
+use Rattle.drm_state.specs.Reservation.{Fits}
+use Rattle.drm_state.specs.Steady.{IsSteady}
 
 -- a core over a steady device: each reservation fits it, and each plan is a job
 pub record IsSteadyCore (state : CoreState) : Type 0 where

@@ -2,7 +2,7 @@ ghost use Rattle.std.specs.Prelude.{◌≡◌, [], None, IfOk, map, replicate};
 ghost use Rattle.drm_core.specs.State.{opened};
 ghost use Rattle.drm_types.specs.Limits.{spec_fault};
 ghost use Rattle.drm_sched.specs.Marks.{unmarked};
-ghost use Rattle.drm_table.specs.State.{opened_device};
+ghost use Rattle.drm_state.specs.State.{opened_device};
 ghost use Rattle.drm_core.specs.Cores.{core_state, IsCore};
 
 use crate::cores::{ContextRow, CoreTable};

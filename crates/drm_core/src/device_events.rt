@@ -1,7 +1,7 @@
 ghost use Rattle.std.specs.Prelude.{◌≡◌, ◌<◌, length};
 ghost use Rattle.drm_core.specs.declared.event.Event.TheVariants as event;
 ghost use Rattle.drm_core.specs.Step.{reply};
-ghost use Rattle.drm_table.specs.Answers.{picked as picked_answer, stepped as stepped_answer, finished as finished_answer, timed_out as timed_out_answer};
+ghost use Rattle.drm_state.specs.Answers.{picked as picked_answer, stepped as stepped_answer, finished as finished_answer, timed_out as timed_out_answer};
 ghost use Rattle.drm_core.specs.Cores.{core_state, IsCore};
 
 use crate::cores::CoreTable;

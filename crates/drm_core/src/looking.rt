@@ -1,9 +1,9 @@
 ghost use Rattle.std.specs.Prelude.{◌≡◌, ◌⊎◌, ◌<◌, length};
 ghost use Rattle.drm_buffer.specs.Memory.{bytes_of};
-ghost use Rattle.drm_table.specs.declared.answer.Answer.TheVariants as answer;
-ghost use Rattle.drm_table.specs.declared.answer.Refusal.TheVariants as refusal;
+ghost use Rattle.drm_state.specs.declared.answer.Answer.TheVariants as answer;
+ghost use Rattle.drm_state.specs.declared.answer.Refusal.TheVariants as refusal;
 ghost use Rattle.drm_core.specs.declared.event.Event.TheVariants as event;
-ghost use Rattle.drm_table.specs.Refusals.{busy_fence};
+ghost use Rattle.drm_state.specs.Refusals.{busy_fence};
 ghost use Rattle.drm_core.specs.Step.{reply, Step};
 ghost use Rattle.drm_core.specs.Cores.{core_state, IsCore};
 

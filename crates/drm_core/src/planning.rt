@@ -3,7 +3,7 @@ ghost use Rattle.std.specs.List.{list_all};
 ghost use Rattle.drm_types.specs.declared.spec.DeviceSpec.{DeviceSpec};
 ghost use Rattle.drm_job.specs.Fault.{IsJob};
 ghost use Rattle.drm_fence.specs.Fences.{has_ended_at};
-ghost use Rattle.drm_table.specs.Collected.{IsCollected};
+ghost use Rattle.drm_state.specs.Collected.{IsCollected};
 ghost use Rattle.drm_core.specs.Planning.{is_held_in, holds_in, declared_kept, MoreRoom, HasRoomFor, AreRoomy, DeclaresOnce, HaveUses};
 
 use drm_fence::Timeline;

@@ -2,11 +2,11 @@ ghost use Rattle.std.specs.Prelude.{◌≡◌, ℕ, [], length, Some, None, OnOk
 ghost use Rattle.drm_core.specs.declared.event.Event.TheVariants as event;
 ghost use Rattle.drm_core.specs.Step.{Step};
 ghost use Rattle.drm_job.specs.Fault.{IsJob};
-ghost use Rattle.drm_table.specs.declared.plans.Plan.{Plan as PlanOf};
+ghost use Rattle.drm_state.specs.declared.plans.Plan.{Plan as PlanOf};
 ghost use Rattle.drm_core.specs.Outcomes.{armed_core};
-ghost use Rattle.drm_table.specs.Refusals.{arm_refusal};
+ghost use Rattle.drm_state.specs.Refusals.{arm_refusal};
 ghost use Rattle.drm_core.specs.Cores.{core_state, planned_by, IsCore};
-ghost use Rattle.drm_table.specs.Plans.{DepsCover};
+ghost use Rattle.drm_state.specs.Plans.{DepsCover};
 ghost use Rattle.drm_core.specs.Planning.{AreRoomy, ShareNoBuffer};
 
 use crate::cores::CoreTable;

@@ -1,7 +1,7 @@
 -- What is drawn of a script.
 use Rattle.std.proofs.Common.{◌≡◌, ◌<◌, ℕ, List, Option, Some, None, length, refl, subst}
 use Rattle.std.specs.Io.KnownBytes.{Keeps}
-use Rattle.drm_table.specs.declared.answer.Answer.{Answer}
+use Rattle.drm_state.specs.declared.answer.Answer.{Answer}
 use Rattle.drm_picture.specs.declared.command.Step.{Step}
 use Rattle.drm_picture.specs.declared.picture.Shape.{Shape}
 use Rattle.drm_script.specs.declared.script.Script.{Script}

@@ -1,7 +1,7 @@
 -- Steps: the events and the answers so far, and one more.
 use Rattle.std.proofs.Common.{◌≡◌, ◌∙◌, List, Option, [], ◌∷◌, ◌++◌, map, ap, append_assoc, append-nil, sym}
 use Rattle.std.proofs.lemmas.List.{map-append}
-use Rattle.drm_table.specs.declared.answer.Answer.{Answer}
+use Rattle.drm_state.specs.declared.answer.Answer.{Answer}
 use Rattle.drm_core.specs.declared.event.Event.{Event}
 use Rattle.drm_picture.specs.declared.command.Command.{Command}
 use Rattle.drm_picture.specs.declared.command.Request.{Request}

@@ -7,7 +7,7 @@ use Rattle.std.proofs.Math.Seq.{take-append-add}
 use Rattle.std.proofs.lemmas.Grind.{flat_map-append}
 use Rattle.std.proofs.lemmas.List.{length-append, take-append-le, flat_map_more}
 use Rattle.drm_types.specs.declared.spec.DeviceSpec.{DeviceSpec}
-use Rattle.drm_table.specs.declared.answer.Answer.{Answer}
+use Rattle.drm_state.specs.declared.answer.Answer.{Answer}
 use Rattle.drm_core.specs.declared.event.Event.{Event}
 use Rattle.drm_core.specs.State.{CoreState, opened}
 use Rattle.drm_core.specs.Headline.{Headline}

@@ -2,9 +2,9 @@
 use Rattle.std.proofs.Common.{◌≡◌, ℕ, List, [], ◌∷◌, Ok, Err, refl, sym, ap, ◌∙◌, subst}
 use Rattle.drm_resv.specs.Reservation.{Reservation}
 use Rattle.drm_sched.specs.Marks.{MarkedDevice}
-use Rattle.drm_table.specs.Readers.{StaysHeld, BytesStay}
-use Rattle.drm_table.specs.Reservation.{Fits}
-use Rattle.drm_table.specs.declared.errors.ReadError.TheVariants.{Busy}
+use Rattle.drm_state.specs.Readers.{StaysHeld, BytesStay}
+use Rattle.drm_state.specs.Reservation.{Fits}
+use Rattle.drm_state.specs.declared.errors.ReadError.TheVariants.{Busy}
 use Rattle.drm_gpu.specs.Passes.{PassState, IsGood, GrowsTo}
 use Rattle.drm_gpu.specs.Reading.{ReadingState, HoldsFitting, ReadbacksAgree}
 

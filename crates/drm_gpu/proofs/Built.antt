@@ -9,8 +9,8 @@ use Rattle.drm_types.specs.declared.spec.DeviceSpec.{DeviceSpec}
 use Rattle.drm_types.specs.Firsts.{when, first_of}
 use Rattle.drm_types.specs.Limits.{is_between, whole, each, are_rings, spec_fault}
 use Rattle.drm_resv.specs.Reservation.{Reservation, WithRoom}
-use Rattle.drm_table.specs.Keeps.{word_at}
-use Rattle.drm_table.specs.Reservation.{IsOfJob, Fits}
+use Rattle.drm_state.specs.Keeps.{word_at}
+use Rattle.drm_state.specs.Reservation.{IsOfJob, Fits}
 use Rattle.ww_lock.specs.Lifetime.{AllFit}
 
 -- ---- its description is within the limits

@@ -7,14 +7,14 @@ use Rattle.ww_lock.specs.Fences.{NotBack}
 use Rattle.ww_lock.specs.Rule.{In}
 use Rattle.ww_lock.specs.Steps.{IsChain, IsLater}
 use Rattle.drm_types.specs.declared.spec.DeviceSpec.{DeviceSpec}
-use Rattle.drm_table.specs.declared.answer.Picked.{Picked}
-use Rattle.drm_table.specs.declared.errors.CancelError.{CancelError}
-use Rattle.drm_table.specs.declared.errors.PickError.{PickError}
-use Rattle.drm_table.specs.Errors.{refusal_of_cancel, refusal_of_pick}
-use Rattle.drm_table.specs.Answers.{picked}
+use Rattle.drm_state.specs.declared.answer.Picked.{Picked}
+use Rattle.drm_state.specs.declared.errors.CancelError.{CancelError}
+use Rattle.drm_state.specs.declared.errors.PickError.{PickError}
+use Rattle.drm_state.specs.Errors.{refusal_of_cancel, refusal_of_pick}
+use Rattle.drm_state.specs.Answers.{picked}
 use Rattle.drm_sched.specs.Marks.{MarkedDevice, Task, IsBusy}
-use Rattle.drm_table.specs.Outcomes.{pick_outcome, cancelled_device}
-use Rattle.drm_table.specs.Refusals.{pick_refusal, cancel_refusal}
+use Rattle.drm_state.specs.Outcomes.{pick_outcome, cancelled_device}
+use Rattle.drm_state.specs.Refusals.{pick_refusal, cancel_refusal}
 use Rattle.drm_gpu.specs.declared.running.OutPacket.{OutPacket}
 use Rattle.drm_gpu.specs.Answers.{PickIs, CancelIs}
 use Rattle.drm_gpu.specs.Passes.{GpuState, PassState, Seeing, DeviceSeat, Knows, KnowsWith, IsJoinedOf, IsPassSeat, IsFound, IsGood, IsSameBut, Adds, Calls, CallsAs, GrowsTo, word_shown, last_of, gpu_of, pass_of}

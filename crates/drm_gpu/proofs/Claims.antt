@@ -14,9 +14,9 @@ use Rattle.ww_lock.specs.Rule.{In}
 use Rattle.ww_lock.specs.Steps.{with_claim, with_mets}
 use Rattle.drm_job.specs.declared.Draft.{Draft}
 use Rattle.drm_resv.specs.Reservation.{Reservation, WithRoom}
-use Rattle.drm_table.specs.Held.{kept_of}
+use Rattle.drm_state.specs.Held.{kept_of}
 use Rattle.drm_sched.specs.Marks.{MarkedDevice}
-use Rattle.drm_table.specs.Reservation.{Fits}
+use Rattle.drm_state.specs.Reservation.{Fits}
 use Rattle.drm_gpu.specs.Passes.{Seeing, GpuState, PassState, Knows, last_of, pass_of}
 use Rattle.drm_gpu.specs.Submissions.{Submission, DeviceAcquire, Holding, TriesLock, MayWait, Claims, Locks, WentOn, submission_of}
 use Rattle.drm_gpu.proofs.Chains.{knows_same}

@@ -1,6 +1,6 @@
 -- A device that is left as it was found.
 use Rattle.std.proofs.Common.{refl}
-use Rattle.drm_table.specs.Keeps.{Keeps}
+use Rattle.drm_state.specs.Keeps.{Keeps}
 use Rattle.drm_sched.specs.Marks.{MarkedDevice}
 use Rattle.drm_gpu.specs.Passes.{GrowsTo}
 use Rattle.drm_gpu.specs.Laws as laws

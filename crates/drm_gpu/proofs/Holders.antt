@@ -10,9 +10,9 @@ use Rattle.ww_lock.specs.Begun.{IsOutside}
 use Rattle.drm_types.specs.declared.spec.DeviceSpec.{DeviceSpec}
 use Rattle.drm_job.specs.declared.Draft.{Draft}
 use Rattle.drm_resv.specs.Reservation.{Reservation, WithRoom}
-use Rattle.drm_table.specs.Held.{kept_of, HoldsAll, AllFit}
-use Rattle.drm_table.specs.Keeps.{KeepsArmed}
-use Rattle.drm_table.specs.Reservation.{Fits}
+use Rattle.drm_state.specs.Held.{kept_of, HoldsAll, AllFit}
+use Rattle.drm_state.specs.Keeps.{KeepsArmed}
+use Rattle.drm_state.specs.Reservation.{Fits}
 use Rattle.drm_sched.specs.Marks.{MarkedDevice}
 use Rattle.drm_gpu.specs.Passes.{Seeing, DeviceSeat, IsPassSeat, GpuState, PassState, Knows, IsFound, IsSameBut, Adds, Calls, GrowsTo, first_or, blank, last_of, pass_of}
 use Rattle.drm_gpu.specs.Submissions.{DeviceAcquire, Holding, EnteredWith, Fitting, KeepsOthers}

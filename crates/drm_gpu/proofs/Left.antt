@@ -4,8 +4,8 @@ use Rattle.std.specs.Prelude.{slice_get, slice_index_or}
 use Rattle.std.proofs.lemmas.Option.{slice_get-get_or}
 use Rattle.drm_types.specs.declared.spec.DeviceSpec.{DeviceSpec}
 use Rattle.drm_job.specs.Fault.{IsJob}
-use Rattle.drm_table.specs.declared.journal.JobRecord.{JobRecord}
-use Rattle.drm_table.specs.Lawful.{IsSound}
+use Rattle.drm_state.specs.declared.journal.JobRecord.{JobRecord}
+use Rattle.drm_state.specs.Lawful.{IsSound}
 
 pub jobs_of : (spec : DeviceSpec) (journal : List JobRecord) (left : DeviceSpec) (records : List JobRecord) → left ≡ spec → records ≡ journal
     → ((i : ℕ) (r : JobRecord) → slice_get journal i ≡ Some r → IsSound spec r) → All (λ r. IsJob left r.job) records

@@ -6,14 +6,14 @@ use Rattle.std.specs.Prelude.{slice_set, is_none, not, ◌||◌, ◌==◌, ◌<�
 use Rattle.drm_types.specs.Firsts.{when}
 use Rattle.ww_lock.specs.declared.board.TaskChange.TheVariants.{Begins, Ends}
 use Rattle.ww_lock.specs.Steps.{Turns}
-use Rattle.drm_table.specs.declared.journal.JobRecord.{JobRecord}
-use Rattle.drm_table.specs.declared.answer.Refusal.{Refusal}
-use Rattle.drm_table.specs.declared.answer.Refusal.TheVariants.{Idle}
+use Rattle.drm_state.specs.declared.journal.JobRecord.{JobRecord}
+use Rattle.drm_state.specs.declared.answer.Refusal.{Refusal}
+use Rattle.drm_state.specs.declared.answer.Refusal.TheVariants.{Idle}
 use Rattle.drm_sched.specs.declared.marked.Begun.TheVariants.{Work}
 use Rattle.drm_sched.specs.Begun.{HasBegun, IsReport, KeepsTasks, MayComeBack, MayRun, out_or}
 use Rattle.drm_sched.specs.Marks.{Mark, MarkedDevice, Task, IsBusy, buffer_out, is_in_way, is_out, mark_for, mark_of, out_by, packet_at, ring_out}
-use Rattle.drm_table.specs.Refusals.{step_refusal}
-use Rattle.drm_table.specs.Ring.{current_of}
+use Rattle.drm_state.specs.Refusals.{step_refusal}
+use Rattle.drm_state.specs.Ring.{current_of}
 use Rattle.drm_gpu.specs.declared.running.OutPacket.{OutPacket}
 use Rattle.drm_gpu.specs.Laws.{reflexive}
 use Rattle.drm_gpu.specs.Passes.{GrowsTo}

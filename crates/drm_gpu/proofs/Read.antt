@@ -5,14 +5,14 @@ use Rattle.std.proofs.Math.ListN.{get_or-map}
 use Rattle.std.proofs.lemmas.List.{length-map}
 use Rattle.drm_buffer.specs.Memory.{bytes_of, sizes_of}
 use Rattle.drm_resv.specs.Reservation.{Reservation}
-use Rattle.drm_table.specs.declared.answer.Refusal.TheVariants as refusal
-use Rattle.drm_table.specs.declared.errors.ReadError.{ReadError}
-use Rattle.drm_table.specs.declared.errors.ReadError.TheVariants.{Busy}
-use Rattle.drm_table.specs.Errors.{refusal_of_read}
+use Rattle.drm_state.specs.declared.answer.Refusal.TheVariants as refusal
+use Rattle.drm_state.specs.declared.errors.ReadError.{ReadError}
+use Rattle.drm_state.specs.declared.errors.ReadError.TheVariants.{Busy}
+use Rattle.drm_state.specs.Errors.{refusal_of_read}
 use Rattle.drm_sched.specs.Begun.{out_or}
-use Rattle.drm_table.specs.Writers.{HaveEnded}
+use Rattle.drm_state.specs.Writers.{HaveEnded}
 use Rattle.drm_sched.specs.Marks.{MarkedDevice, is_out}
-use Rattle.drm_table.specs.Refusals.{busy_fence}
+use Rattle.drm_state.specs.Refusals.{busy_fence}
 use Rattle.ww_lock.specs.Rule.{In}
 use Rattle.drm_gpu.specs.Reading.{ReadingState, HoldsFitting, ReadIs}
 use Rattle.drm_gpu.proofs.Packets.{not_out}

@@ -1,7 +1,7 @@
 -- What is kept, value by value.
 use Rattle.std.proofs.Common.{◌≡◌, ◌<◌, ℕ, zero, suc, List, [], ◌∷◌, length, set, get_or, refl, ap, arith}
 use Rattle.drm_resv.specs.Reservation.{WithRoom}
-use Rattle.drm_table.specs.Held.{kept_of}
+use Rattle.drm_state.specs.Held.{kept_of}
 
 -- a value of the same buffer that keeps the same
 pub kept_set : (hs : List (ℕ × WithRoom)) (i : ℕ) (d : ℕ × WithRoom) (r : WithRoom) → i < length hs → r.kept ≡ (get_or hs i d).1.kept → kept_of (set hs i ((get_or hs i d).0, r)) ≡ kept_of hs

@@ -6,8 +6,8 @@ use Rattle.drm_types.specs.declared.outcome.Outcome.TheVariants.{Good, Cancelled
 use Rattle.drm_fence.specs.declared.phase.Phase.{Phase}
 use Rattle.drm_fence.specs.declared.phase.Phase.TheVariants.{Queued, Scheduled, Ended}
 use Rattle.drm_fence.specs.Phases.{status_of}
-use Rattle.drm_table.specs.declared.journal.JobRecord.{JobRecord}
-use Rattle.drm_table.specs.Keeps.{word_of, word_at}
+use Rattle.drm_state.specs.declared.journal.JobRecord.{JobRecord}
+use Rattle.drm_state.specs.Keeps.{word_of, word_at}
 
 abbrev pub status_by : ℕ → Option ℤ
 status_by zero = None

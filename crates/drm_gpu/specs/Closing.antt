@@ -3,7 +3,7 @@ use Rattle.std.specs.Prelude.{◌≡◌, ◌<◌, ℕ, false, All, Some, length,
 use Rattle.drm_job.specs.Fault.{IsJob}
 use Rattle.drm_resv.specs.Reservation.{WithRoom}
 use Rattle.drm_sched.specs.Marks.{MarkedDevice}
-use Rattle.drm_table.specs.Reservation.{Fits}
+use Rattle.drm_state.specs.Reservation.{Fits}
 use Rattle.ww_lock.specs.Lifetime.{FitsAll}
 use Rattle.ww_lock.specs.Parts.{IsWhole}
 use Rattle.drm_gpu.specs.declared.gpu.Closed.{Closed}

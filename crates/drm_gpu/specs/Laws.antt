@@ -8,9 +8,9 @@ use Rattle.drm_fence.specs.declared.phase.Phase.{Phase}
 use Rattle.drm_fence.specs.declared.phase.Phase.TheVariants.{Queued, Scheduled, Ended}
 use Rattle.drm_fence.specs.Phases.{has_ended}
 use Rattle.ww_lock.specs.Fences.{NotBack}
-use Rattle.drm_table.specs.declared.journal.JobRecord.{JobRecord}
-use Rattle.drm_table.specs.Grows.{GoesOn, RecordGrows, EntityGrows, EachInPlace}
-use Rattle.drm_table.specs.Keeps.{word_of}
+use Rattle.drm_state.specs.declared.journal.JobRecord.{JobRecord}
+use Rattle.drm_state.specs.Grows.{GoesOn, RecordGrows, EntityGrows, EachInPlace}
+use Rattle.drm_state.specs.Keeps.{word_of}
 use Rattle.drm_sched.specs.Marks.{MarkedDevice}
 use Rattle.drm_gpu.specs.Passes.{GrowsTo, word_shown}
 

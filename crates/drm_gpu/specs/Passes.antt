@@ -9,11 +9,11 @@ use Rattle.ww_lock.specs.Rule.{In}
 use Rattle.ww_lock.specs.Steps.{IsChain}
 use Rattle.drm_types.specs.declared.spec.DeviceSpec.{DeviceSpec}
 use Rattle.drm_resv.specs.Reservation.{WithRoom}
-use Rattle.drm_table.specs.Keeps.{word_at}
-use Rattle.drm_table.specs.Grows.{Grows}
-use Rattle.drm_table.specs.Lawful.{IsLawfulDevice}
+use Rattle.drm_state.specs.Keeps.{word_at}
+use Rattle.drm_state.specs.Grows.{Grows}
+use Rattle.drm_state.specs.Lawful.{IsLawfulDevice}
 use Rattle.drm_sched.specs.Marks.{MarkedDevice, Task, unmarked}
-use Rattle.drm_table.specs.State.{opened_device}
+use Rattle.drm_state.specs.State.{opened_device}
 
 -- a device that is lawful
 abbrev pub IsGood : MarkedDevice → Type 0

@@ -2,12 +2,12 @@
 use Rattle.std.specs.Prelude.{◌≡◌, ℕ, List, [], ◌∷◌, false, Some, Result, Ok, Err}
 use Rattle.drm_buffer.specs.Memory.{bytes_of}
 use Rattle.drm_resv.specs.Reservation.{Reservation}
-use Rattle.drm_table.specs.declared.errors.ReadError.{ReadError}
-use Rattle.drm_table.specs.declared.errors.ReadError.TheVariants.{Busy}
-use Rattle.drm_table.specs.Writers.{HaveEnded}
+use Rattle.drm_state.specs.declared.errors.ReadError.{ReadError}
+use Rattle.drm_state.specs.declared.errors.ReadError.TheVariants.{Busy}
+use Rattle.drm_state.specs.Writers.{HaveEnded}
 use Rattle.drm_sched.specs.Marks.{MarkedDevice, is_out}
-use Rattle.drm_table.specs.Refusals.{busy_fence}
-use Rattle.drm_table.specs.Reservation.{Fits}
+use Rattle.drm_state.specs.Refusals.{busy_fence}
+use Rattle.drm_state.specs.Reservation.{Fits}
 use Rattle.ww_lock.specs.Rule.{In}
 use Rattle.drm_gpu.specs.Passes.{Calls, PassState}
 

@@ -12,13 +12,13 @@ use Rattle.ww_lock.specs.Held.{Lacks}
 use Rattle.ww_lock.specs.Rule.{In}
 use Rattle.drm_job.specs.declared.Draft.{Draft}
 use Rattle.drm_resv.specs.Reservation.{Reservation, WithRoom}
-use Rattle.drm_table.specs.declared.errors.ArmError.{ArmError}
-use Rattle.drm_table.specs.Arming.{armed_device}
-use Rattle.drm_table.specs.Plans.{DepsCover}
-use Rattle.drm_table.specs.Held.{kept_of, armed_held, AllFit}
-use Rattle.drm_table.specs.Errors.{refusal_of_arm}
-use Rattle.drm_table.specs.Refusals.{arm_refusal}
-use Rattle.drm_table.specs.Reservation.{Fits}
+use Rattle.drm_state.specs.declared.errors.ArmError.{ArmError}
+use Rattle.drm_state.specs.Arming.{armed_device}
+use Rattle.drm_state.specs.Plans.{DepsCover}
+use Rattle.drm_state.specs.Held.{kept_of, armed_held, AllFit}
+use Rattle.drm_state.specs.Errors.{refusal_of_arm}
+use Rattle.drm_state.specs.Refusals.{arm_refusal}
+use Rattle.drm_state.specs.Reservation.{Fits}
 use Rattle.drm_sched.specs.Marks.{MarkedDevice, Task}
 use Rattle.drm_gpu.specs.Passes.{GpuState, PassState, Knows, last_of, pass_of, word_shown}
 

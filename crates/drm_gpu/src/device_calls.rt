@@ -2,7 +2,7 @@
 ghost use Rattle.std.specs.Prelude.{◌≡◌, ◌<◌, length, MatchResult, Some};
 ghost use Rattle.drm_sched.specs.Marks.{MarkedDevice};
 ghost use Rattle.drm_fence.specs.declared.phase.Phase.TheVariants.{Ended};
-ghost use Rattle.drm_table.specs.Keeps.{word_of};
+ghost use Rattle.drm_state.specs.Keeps.{word_of};
 ghost use Rattle.drm_job.specs.Fault.{IsJob, job_fault};
 ghost use Rattle.ww_lock.specs.Acquiring.{view};
 ghost use Rattle.drm_gpu.specs.Passes.{Calls, pass_of, word_shown};

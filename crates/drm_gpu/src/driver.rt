@@ -1,6 +1,6 @@
 //! What the board keeps of a device and its reservations.
 ghost use Rattle.drm_sched.specs.Marks.{IsBusy};
-ghost use Rattle.drm_table.specs.Reservation.{Fits};
+ghost use Rattle.drm_state.specs.Reservation.{Fits};
 ghost use Rattle.drm_gpu.specs.Passes.{IsGood, GrowsTo, word_shown};
 ghost use Rattle.drm_gpu.specs.Laws as laws;
 

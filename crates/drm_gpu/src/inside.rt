@@ -2,8 +2,8 @@
 ghost use Rattle.std.specs.Prelude.{◌≡◌, Some, None};
 ghost use Rattle.ww_lock.specs.Acquiring.{view};
 ghost use Rattle.ww_lock.specs.Begun.{sees};
-ghost use Rattle.drm_table.specs.Held.{kept_of};
-ghost use Rattle.drm_table.specs.Keeps.{Keeps, KeepsBut};
+ghost use Rattle.drm_state.specs.Held.{kept_of};
+ghost use Rattle.drm_state.specs.Keeps.{Keeps, KeepsBut};
 ghost use Rattle.drm_sched.specs.Begun.{KeepsTasks};
 ghost use Rattle.drm_sched.specs.Marks.{IsBusy, mark_of};
 ghost use Rattle.drm_gpu.specs.Passes.{IsPassSeat, Entered, EnteredWithTask, SeatedWith, IsFound, IsGood, GrowsTo, IsSameBut, Adds, last_of};

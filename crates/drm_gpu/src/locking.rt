@@ -4,7 +4,7 @@ ghost use Rattle.ww_lock.specs.Held.{Lacks};
 ghost use Rattle.ww_lock.specs.Rule.{In};
 ghost use Rattle.ww_lock.specs.Steps.{without};
 ghost use Rattle.drm_resv.specs.Reservation.{Reservation, WithRoom};
-ghost use Rattle.drm_table.specs.Held.{kept_of, HoldsAll};
+ghost use Rattle.drm_state.specs.Held.{kept_of, HoldsAll};
 ghost use Rattle.drm_job.specs.Fault.{IsJob};
 ghost use Rattle.ww_lock.specs.Acquiring.{view};
 ghost use Rattle.drm_gpu.specs.Passes.{pass_of};
@@ -76,7 +76,7 @@ pub struct Locked<'g> {
 impl<'g> Model for Locked<'g> {
     ghost use Rattle.std.specs.Prelude.{◌≡◌, true};
     ghost use Rattle.drm_job.specs.Fault.{IsJob};
-    ghost use Rattle.drm_table.specs.Held.{kept_of, HoldsAll};
+    ghost use Rattle.drm_state.specs.Held.{kept_of, HoldsAll};
     ghost use Rattle.drm_gpu.specs.Submissions.{Submission, submission_of, Holding};
 
     ghost Value = { Submission };

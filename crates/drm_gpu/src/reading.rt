@@ -26,7 +26,7 @@ pub struct Reading<'g> {
 impl<'g> Model for Reading<'g> {
     ghost use Rattle.std.specs.Prelude.{◌≡◌, ◌<◌, ◌∷◌, [], false, length};
     ghost use Rattle.drm_resv.specs.Reservation.{WithRoom};
-    ghost use Rattle.drm_table.specs.Held.{kept_of};
+    ghost use Rattle.drm_state.specs.Held.{kept_of};
     ghost use Rattle.drm_gpu.specs.Passes.{pass_of};
     ghost use Rattle.drm_gpu.specs.Submissions.{Holding};
     ghost use Rattle.drm_gpu.specs.Reading.{ReadingState};

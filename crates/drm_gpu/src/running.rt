@@ -2,7 +2,7 @@
 ghost use Rattle.std.specs.Prelude.{◌≡◌, ◌<◌, ℕ, List, Some, IsTrue, length, Ok, IfOk, IfErr};
 ghost use Rattle.drm_packet.specs.Parts.{fits_parts};
 ghost use Rattle.ww_lock.specs.Begun.{sees};
-ghost use Rattle.drm_table.specs.declared.answer.Stepped.TheVariants.{Ran};
+ghost use Rattle.drm_state.specs.declared.answer.Stepped.TheVariants.{Ran};
 ghost use Rattle.drm_gpu.specs.Answers.{StepIs};
 ghost use Rattle.drm_gpu.specs.Passes.{Calls, CallsAs, IsPassSeat};
 ghost use Rattle.drm_gpu.specs.Running.{SeatHasOut, IsSent, RunsNothing, Starts, task_of, written};

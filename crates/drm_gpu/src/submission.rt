@@ -1,8 +1,8 @@
 //! A submission that has its locks: what it waits for is collected, and it is armed.
 ghost use Rattle.std.specs.Prelude.{◌≡◌, ℕ, [], ◌∷◌, IfOk, IfErr, OnOk, OnErr, MatchResult, IsTrue, map};
 ghost use Rattle.drm_resv.specs.Reservation.{WithRoom};
-ghost use Rattle.drm_table.specs.Held.{HaveRoom, kept_of};
-ghost use Rattle.drm_table.specs.Collected.{IsCollected};
+ghost use Rattle.drm_state.specs.Held.{HaveRoom, kept_of};
+ghost use Rattle.drm_state.specs.Collected.{IsCollected};
 ghost use Rattle.drm_gpu.specs.Passes.{Calls};
 ghost use Rattle.drm_gpu.specs.Status.{AnswersStatus};
 ghost use Rattle.drm_gpu.specs.Submissions.{ArmIs, ArmRefused};
@@ -30,8 +30,8 @@ pub struct Planned<'g> {
 impl<'g> Model for Planned<'g> {
     ghost use Rattle.std.specs.Prelude.{◌≡◌, true};
     ghost use Rattle.drm_job.specs.Fault.{IsJob};
-    ghost use Rattle.drm_table.specs.Held.{kept_of, HoldsAll, HaveRoom};
-    ghost use Rattle.drm_table.specs.Collected.{CoverWhereFit};
+    ghost use Rattle.drm_state.specs.Held.{kept_of, HoldsAll, HaveRoom};
+    ghost use Rattle.drm_state.specs.Collected.{CoverWhereFit};
     ghost use Rattle.drm_gpu.specs.Submissions.{PlannedSubmission, submission_of, Holding};
 
     ghost Value = { PlannedSubmission };
@@ -52,7 +52,7 @@ pub struct Armed<'g> {
 
 impl<'g> Model for Armed<'g> {
     ghost use Rattle.std.specs.Prelude.{◌≡◌, true};
-    ghost use Rattle.drm_table.specs.Held.{kept_of};
+    ghost use Rattle.drm_state.specs.Held.{kept_of};
     ghost use Rattle.drm_gpu.specs.Passes.{pass_of};
     ghost use Rattle.drm_gpu.specs.Submissions.{ArmedSubmission, Holding};
     ghost use Rattle.ww_lock.specs.Acquiring.{view as view_of};

@@ -2,7 +2,7 @@
 ghost use Rattle.std.specs.Prelude.{◌≡◌, false, true, length, MatchOption};
 ghost use Rattle.ww_lock.specs.Acquiring.{view};
 ghost use Rattle.ww_lock.specs.Begun.{sees};
-ghost use Rattle.drm_table.specs.Held.{kept_of};
+ghost use Rattle.drm_state.specs.Held.{kept_of};
 ghost use Rattle.drm_gpu.specs.Passes.{Entered, GrowsTo, IsFound, IsPassSeat, IsSameBut, last_of};
 ghost use Rattle.drm_gpu.specs.Running.{IsThere, is_kept};
 ghost use Rattle.drm_gpu.specs.Submissions.{EnteredWith, Fitting, Holding, IsSameHolder};

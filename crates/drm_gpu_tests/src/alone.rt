@@ -1,7 +1,7 @@
 //! What the records of a closed device leave where its jobs run one after another.
 ghost use Rattle.std.specs.Prelude.{◌≡◌, All, IfOk, map};
 ghost use Rattle.drm_job.specs.Fault.{IsJob};
-ghost use Rattle.drm_table.specs.Journal.{turns as turns_of};
+ghost use Rattle.drm_state.specs.Journal.{turns as turns_of};
 ghost use Rattle.drm_serial.specs.Serial.{serial};
 
 use drm_job::jobs_run_in_their_device;

@@ -14,9 +14,9 @@ use Rattle.drm_fence.specs.Phases.{outcome_of, status_of}
 use Rattle.drm_fence.specs.declared.phase.Phase.{Phase}
 use Rattle.drm_fence.specs.declared.phase.Phase.TheVariants.{Queued, Scheduled, Ended}
 use Rattle.drm_serial.specs.Serial.{serial}
-use Rattle.drm_table.specs.declared.journal.JobRecord.{JobRecord}
-use Rattle.drm_table.specs.Journal.{turns}
-use Rattle.drm_table.specs.Lawful.{HasRightOutcome}
+use Rattle.drm_state.specs.declared.journal.JobRecord.{JobRecord}
+use Rattle.drm_state.specs.Journal.{turns}
+use Rattle.drm_state.specs.Lawful.{HasRightOutcome}
 use Rattle.drm_core.specs.Headline.{Promises, TellsOutcome}
 use Rattle.drm_core.specs.State.{CoreState}
 use Rattle.drm_journal.specs.declared.journal.JournalJob.{JournalJob}

@@ -4,9 +4,9 @@ use Rattle.drm_types.specs.declared.spec.DeviceSpec.{DeviceSpec}
 use Rattle.drm_job.specs.Fault.{IsJob}
 use Rattle.drm_fence.specs.Phases.{outcome_of}
 use Rattle.drm_serial.specs.Serial.{Turn, serial}
-use Rattle.drm_table.specs.declared.journal.JobRecord.{JobRecord}
-use Rattle.drm_table.specs.Lawful.{HasRightOutcome}
-use Rattle.drm_table.specs.Order.{HasPlace}
+use Rattle.drm_state.specs.declared.journal.JobRecord.{JobRecord}
+use Rattle.drm_state.specs.Lawful.{HasRightOutcome}
+use Rattle.drm_state.specs.Order.{HasPlace}
 use Rattle.drm_core.specs.State.{CoreState}
 use Rattle.drm_journal.specs.declared.journal.JournalJob.{JournalJob}
 use Rattle.drm_journal.specs.declared.journal.Reading.{Reading}

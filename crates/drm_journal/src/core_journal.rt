@@ -3,7 +3,7 @@
 ghost use Rattle.std.specs.Prelude.{◌≡◌, IfOk, None, length, map};
 ghost use Rattle.drm_buffer.specs.Stored.{AreIn};
 ghost use Rattle.drm_fence.specs.Phases.{outcome_of as outcome_in};
-ghost use Rattle.drm_table.specs.Journal.{turns};
+ghost use Rattle.drm_state.specs.Journal.{turns};
 ghost use Rattle.drm_serial.specs.Serial.{serial};
 ghost use Rattle.drm_types.specs.Limits.{spec_fault};
 ghost use Rattle.drm_journal.specs.Leaving.{AreLeft, left_by, told_of, journal_told, journal_left};

@@ -5,8 +5,8 @@ use Rattle.std.specs.List.{list_any, position_or_len}
 use Rattle.std.proofs.lemmas.Bool.{cases_eq, eqb-true}
 use Rattle.std.proofs.lemmas.List.{get_or-set_other, length-drop, length-set, take_min, take_rest}
 use Rattle.std.proofs.lemmas.Option.{none-some, same_Some}
-use Rattle.drm_table.specs.declared.answer.Answer.{Answer}
-use Rattle.drm_table.specs.declared.answer.Answer.TheVariants as answer
+use Rattle.drm_state.specs.declared.answer.Answer.{Answer}
+use Rattle.drm_state.specs.declared.answer.Answer.TheVariants as answer
 use Rattle.drm_picture.specs.Bars.{drops, ends, ends_fence, ends_job, granted, leaves_queue, unlocks_in}
 use Rattle.drm_picture.specs.Ends.{AreNext, ended_in_lock, ended_number, finished_fence, noted, number_in, number_of, over_fence, taken_fence}
 use Rattle.drm_picture.specs.declared.bars.Kind.{Kind}

@@ -2,8 +2,8 @@
 use Rattle.std.specs.Prelude.{ℕ, Bool, true, false, List, Option, Some, None, ◌+◌, ◌==◌, ◌&&◌, length, drop, take, position, find, count_by, nat_lt, option_map, option_and_then, reverse, slice_get, unwrap_or, if◌then◌else◌}
 use Rattle.std.specs.Option.{option_map_or}
 use Rattle.std.specs.List.{enumerate_from, filter_map}
-use Rattle.drm_table.specs.declared.answer.Answer.{Answer}
-use Rattle.drm_table.specs.declared.answer.Answer.TheVariants as answer
+use Rattle.drm_state.specs.declared.answer.Answer.{Answer}
+use Rattle.drm_state.specs.declared.answer.Answer.TheVariants as answer
 use Rattle.drm_types.specs.declared.outcome.Outcome.{Outcome}
 use Rattle.drm_types.specs.declared.outcome.Outcome.TheVariants as outcome
 use Rattle.drm_picture.specs.Commands.{moment_of}

@@ -1,8 +1,8 @@
 -- Ends: where the search for what ends something may begin.
 use Rattle.std.specs.Prelude.{◌≡◌, ℕ, false, List, Option, Some, None, ◌-◌, drop, get_or, set, take}
 use Rattle.std.specs.List.{list_any}
-use Rattle.drm_table.specs.declared.answer.Answer.{Answer}
-use Rattle.drm_table.specs.declared.answer.Answer.TheVariants as answer
+use Rattle.drm_state.specs.declared.answer.Answer.{Answer}
+use Rattle.drm_state.specs.declared.answer.Answer.TheVariants as answer
 use Rattle.drm_picture.specs.Bars.{ends}
 use Rattle.drm_picture.specs.declared.bars.Kind.{Kind}
 use Rattle.drm_picture.specs.declared.bars.Kind.TheVariants as kind

@@ -3,8 +3,8 @@ use Rattle.std.specs.Prelude.{ℕ, Bool, false, List, [], ◌∷◌, Option, Som
 use Rattle.std.specs.List.{enumerate_from}
 use Rattle.std.specs.Option.{option_map_or}
 use Rattle.drm_types.specs.declared.access.Access.{Access}
-use Rattle.drm_table.specs.declared.answer.Answer.{Answer}
-use Rattle.drm_table.specs.declared.answer.Answer.TheVariants as answer
+use Rattle.drm_state.specs.declared.answer.Answer.{Answer}
+use Rattle.drm_state.specs.declared.answer.Answer.TheVariants as answer
 use Rattle.drm_picture.specs.Bars.{armed_job, bars_of}
 use Rattle.drm_picture.specs.Waits.{conflict, is_open_at, job_of}
 use Rattle.drm_picture.specs.declared.bars.Bar.{Bar}

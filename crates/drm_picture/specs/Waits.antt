@@ -3,8 +3,8 @@ use Rattle.std.specs.Prelude.{ℕ, Bool, List, [], Option, Some, None, ◌+◌, 
 use Rattle.std.specs.List.{enumerate_from, filter_map, list_any}
 use Rattle.drm_types.specs.declared.access.Access.{Access}
 use Rattle.drm_job.specs.Conflicts.{must_wait}
-use Rattle.drm_table.specs.declared.answer.Answer.{Answer}
-use Rattle.drm_table.specs.declared.answer.Answer.TheVariants as answer
+use Rattle.drm_state.specs.declared.answer.Answer.{Answer}
+use Rattle.drm_state.specs.declared.answer.Answer.TheVariants as answer
 use Rattle.drm_picture.specs.Bars.{armed_job, bars_of}
 use Rattle.drm_picture.specs.declared.bars.Bar.{Bar}
 use Rattle.drm_picture.specs.declared.bars.Kind.TheVariants as kind

@@ -9,7 +9,7 @@ ghost use Rattle.drm_picture.specs.Ends.{AreNext, none_ends};
 
 use crate::command::{Command, Request, Step, run_before};
 use crate::ends::{note_end, skipped};
-use drm_table::Answer;
+use drm_state::Answer;
 use drm_types::{EntityId, FenceId, Moment, Outcome};
 use std::alloc::{AllocError, Global};
 

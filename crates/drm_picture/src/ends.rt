@@ -5,7 +5,7 @@ ghost use Rattle.drm_picture.specs.Ends.{ended_in_lock, ended_number as ended_nu
 
 use crate::bars::{Kind, Lane, Opening};
 use crate::command::{Command, Step};
-use drm_table::Answer;
+use drm_state::Answer;
 
 // The number by which an end of what began is looked up: of a lock that of its buffer.
 fn number(kind: Kind, opening: Opening) -> u32

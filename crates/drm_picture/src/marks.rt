@@ -6,7 +6,7 @@ ghost use Rattle.drm_picture.specs.Marks.{mark_of, marks_at, marks_of, marks_of_
 
 use crate::bars::Lane;
 use crate::command::Step;
-use drm_table::Answer;
+use drm_state::Answer;
 use drm_types::{Access, BufferId};
 use std::alloc::{AllocError, Global};
 

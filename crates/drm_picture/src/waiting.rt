@@ -13,7 +13,7 @@ use crate::bars::{Bar, Kind, Lane, Look, Opening, armed_job, push_bar};
 use crate::command::{Request, Step, run_before};
 use crate::conflict::is_conflict;
 use crate::waits::{armed_before, is_open, job_of};
-use drm_table::Answer;
+use drm_state::Answer;
 use drm_types::{Access, BufferId, FenceId, Moment};
 use std::alloc::{AllocError, Global};
 

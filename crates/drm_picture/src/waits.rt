@@ -11,7 +11,7 @@ ghost use Rattle.drm_picture.specs.declared.bars.Kind.TheVariants as kind;
 
 use crate::bars::{Bar, armed_job};
 use crate::command::{Request, Step, run_before};
-use drm_table::Answer;
+use drm_state::Answer;
 use drm_types::{EntityId, FenceId};
 use std::alloc::{AllocError, Global};
 

@@ -7,25 +7,25 @@ use Rattle.std.proofs.lemmas.List.{append-nil, length-set, length-map, length-ap
 use Rattle.drm_types.specs.Firsts.{first}
 use Rattle.drm_types.specs.declared.outcome.Outcome.TheVariants as outcome
 use Rattle.drm_packet.specs.declared.Packet.{Packet}
-use Rattle.drm_table.specs.declared.answer.Answer.{Answer}
-use Rattle.drm_table.specs.declared.answer.Answer.TheVariants as answer
-use Rattle.drm_table.specs.declared.answer.Picked.{Picked}
-use Rattle.drm_table.specs.declared.answer.Stepped.{Stepped}
-use Rattle.drm_table.specs.declared.answer.Stepped.TheVariants.{Ran, Stalled}
-use Rattle.drm_table.specs.declared.answer.Finished.{Finished}
-use Rattle.drm_table.specs.declared.errors.CancelError.{CancelError}
-use Rattle.drm_table.specs.declared.errors.FinishError.{FinishError}
-use Rattle.drm_table.specs.declared.errors.PickError.{PickError}
-use Rattle.drm_table.specs.declared.errors.ReapError.{ReapError}
-use Rattle.drm_table.specs.declared.errors.StepError.{StepError}
-use Rattle.drm_table.specs.declared.journal.JobRecord.{JobRecord}
-use Rattle.drm_table.specs.Arming.{new_record}
-use Rattle.drm_table.specs.Choice.{choice, queue_of}
-use Rattle.drm_table.specs.Journal.{changed_at, is_at, is_complete}
+use Rattle.drm_state.specs.declared.answer.Answer.{Answer}
+use Rattle.drm_state.specs.declared.answer.Answer.TheVariants as answer
+use Rattle.drm_state.specs.declared.answer.Picked.{Picked}
+use Rattle.drm_state.specs.declared.answer.Stepped.{Stepped}
+use Rattle.drm_state.specs.declared.answer.Stepped.TheVariants.{Ran, Stalled}
+use Rattle.drm_state.specs.declared.answer.Finished.{Finished}
+use Rattle.drm_state.specs.declared.errors.CancelError.{CancelError}
+use Rattle.drm_state.specs.declared.errors.FinishError.{FinishError}
+use Rattle.drm_state.specs.declared.errors.PickError.{PickError}
+use Rattle.drm_state.specs.declared.errors.ReapError.{ReapError}
+use Rattle.drm_state.specs.declared.errors.StepError.{StepError}
+use Rattle.drm_state.specs.declared.journal.JobRecord.{JobRecord}
+use Rattle.drm_state.specs.Arming.{new_record}
+use Rattle.drm_state.specs.Choice.{choice, queue_of}
+use Rattle.drm_state.specs.Journal.{changed_at, is_at, is_complete}
 use Rattle.drm_sched.specs.Marks.{MarkedDevice}
-use Rattle.drm_table.specs.Outcomes.{at_record, stepped_by, hang_outcome, timeout_at, is_too_much, must_stall, picked_device, finished_device, final_outcome, pick_outcome, step_outcome, finish_outcome, timeout_outcome, reap_outcome, hung, condemned, ended_at}
-use Rattle.drm_table.specs.Ring.{current_of, head_of, age_of, limit_of, is_guilty}
-use Rattle.drm_table.specs.State.{DeviceState}
+use Rattle.drm_state.specs.Outcomes.{at_record, stepped_by, hang_outcome, timeout_at, is_too_much, must_stall, picked_device, finished_device, final_outcome, pick_outcome, step_outcome, finish_outcome, timeout_outcome, reap_outcome, hung, condemned, ended_at}
+use Rattle.drm_state.specs.Ring.{current_of, head_of, age_of, limit_of, is_guilty}
+use Rattle.drm_state.specs.State.{DeviceState}
 use Rattle.drm_gpu.specs.Passes.{PassState, Calls}
 use Rattle.drm_gpu.specs.Answers.{PickIs, StepIs, FinishIs, TimeoutIs, CancelIs, ReapIs, CountsAre}
 use Rattle.drm_gpu.specs.Submissions.{ArmRefused}

@@ -5,16 +5,16 @@ use Rattle.ww_lock.specs.Rule.{In}
 use Rattle.ww_lock.specs.Steps.{IsChain}
 use Rattle.drm_sched.specs.Marks.{MarkedDevice}
 use Rattle.drm_resv.specs.Reservation.{Reservation}
-use Rattle.drm_table.specs.declared.answer.Picked.{Picked}
-use Rattle.drm_table.specs.declared.answer.Stepped.{Stepped}
-use Rattle.drm_table.specs.declared.answer.Finished.{Finished}
-use Rattle.drm_table.specs.declared.answer.Expired.{Expired}
-use Rattle.drm_table.specs.declared.errors.ArmError.{ArmError}
-use Rattle.drm_table.specs.declared.errors.CancelError.{CancelError}
-use Rattle.drm_table.specs.declared.errors.FinishError.{FinishError}
-use Rattle.drm_table.specs.declared.errors.PickError.{PickError}
-use Rattle.drm_table.specs.declared.errors.ReapError.{ReapError}
-use Rattle.drm_table.specs.declared.errors.StepError.{StepError}
+use Rattle.drm_state.specs.declared.answer.Picked.{Picked}
+use Rattle.drm_state.specs.declared.answer.Stepped.{Stepped}
+use Rattle.drm_state.specs.declared.answer.Finished.{Finished}
+use Rattle.drm_state.specs.declared.answer.Expired.{Expired}
+use Rattle.drm_state.specs.declared.errors.ArmError.{ArmError}
+use Rattle.drm_state.specs.declared.errors.CancelError.{CancelError}
+use Rattle.drm_state.specs.declared.errors.FinishError.{FinishError}
+use Rattle.drm_state.specs.declared.errors.PickError.{PickError}
+use Rattle.drm_state.specs.declared.errors.ReapError.{ReapError}
+use Rattle.drm_state.specs.declared.errors.StepError.{StepError}
 use Rattle.drm_gpu.specs.Passes.{PassState, Calls, GrowsTo, IsJoinedOf}
 use Rattle.drm_gpu.specs.Answers.{PickIs, StepIs, FinishIs, TimeoutIs, CancelIs, ReapIs, CountsAre}
 use Rattle.drm_gpu.specs.Submissions.{ArmIs, ArmRefused}

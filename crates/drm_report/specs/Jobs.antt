@@ -1,7 +1,7 @@
 -- The numbers of jobs that were armed.
 use Rattle.std.specs.Prelude.{◌≡◌, ◌+◌, ℕ, List, [], ◌∷◌, Some, slice_get}
 use Rattle.drm_job.specs.declared.Draft.{Draft}
-use Rattle.drm_table.specs.declared.journal.JobRecord.{JobRecord}
+use Rattle.drm_state.specs.declared.journal.JobRecord.{JobRecord}
 
 -- the record of this number is that of the job
 abbrev pub JobAt : List JobRecord → ℕ → Draft → Type 0

@@ -6,10 +6,10 @@ use Rattle.drm_job.specs.declared.Draft.{Draft}
 use Rattle.drm_serial.specs.Serial.{serial}
 use Rattle.drm_fence.specs.Phases.{has_ended}
 use Rattle.drm_resv.specs.Reservation.{WithRoom}
-use Rattle.drm_table.specs.declared.journal.JobRecord.{JobRecord}
-use Rattle.drm_table.specs.Journal.{turns}
-use Rattle.drm_table.specs.Lawful.{IsSound}
-use Rattle.drm_table.specs.Reservation.{Fits}
+use Rattle.drm_state.specs.declared.journal.JobRecord.{JobRecord}
+use Rattle.drm_state.specs.Journal.{turns}
+use Rattle.drm_state.specs.Lawful.{IsSound}
+use Rattle.drm_state.specs.Reservation.{Fits}
 use Rattle.ww_lock.specs.Lifetime.{FitsAll}
 use Rattle.drm_gpu.specs.declared.gpu.Closed.{Closed}
 use Rattle.drm_gpu.specs.Closing.{Leaves}

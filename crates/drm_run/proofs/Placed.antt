@@ -12,9 +12,9 @@ use Rattle.drm_job.specs.Laws.{JobsRunInTheirDevice}
 use Rattle.drm_job.specs.Ranges.{RunsIn}
 use Rattle.drm_serial.specs.Laws.{SerialKeepsSizes}
 use Rattle.drm_serial.specs.Serial.{Turn}
-use Rattle.drm_table.specs.declared.journal.JobRecord.{JobRecord}
-use Rattle.drm_table.specs.Journal.{turns}
-use Rattle.drm_table.specs.Lawful.{IsSound}
+use Rattle.drm_state.specs.declared.journal.JobRecord.{JobRecord}
+use Rattle.drm_state.specs.Journal.{turns}
+use Rattle.drm_state.specs.Lawful.{IsSound}
 use Rattle.drm_report.specs.declared.report.Report.{Report}
 use Rattle.drm_report.specs.Jobs.{AreJobsOf, numbers_from}
 use Rattle.drm_report.specs.Reports.{AreArmed, IsReport, all_items}

@@ -8,13 +8,13 @@ use Rattle.drm_types.specs.declared.spec.Priority.{Priority}
 use Rattle.drm_types.specs.declared.spec.Priority.TheVariants.{Kernel, High, Normal, Low}
 use Rattle.drm_runq.specs.declared.key.Key.{Key}
 use Rattle.drm_sched.specs.Candidates.{IsHeadCandidate, goes_first}
-use Rattle.drm_table.specs.declared.journal.JobRecord.{JobRecord}
-use Rattle.drm_table.specs.State.{DeviceState}
-use Rattle.drm_table.specs.Journal.{numbered}
-use Rattle.drm_table.specs.Order.{is_ready}
-use Rattle.drm_table.specs.Choice.{is_head_of, may_begin, ready_heads, choice}
-use Rattle.drm_table.proofs.Found.{find_at, find_none, first_map}
-use Rattle.drm_table.proofs.ChoiceIs.{is_ready_head, numbered_get, get_numbered, first-filter}
+use Rattle.drm_state.specs.declared.journal.JobRecord.{JobRecord}
+use Rattle.drm_state.specs.State.{DeviceState}
+use Rattle.drm_state.specs.Journal.{numbered}
+use Rattle.drm_state.specs.Order.{is_ready}
+use Rattle.drm_state.specs.Choice.{is_head_of, may_begin, ready_heads, choice}
+use Rattle.drm_state.proofs.Found.{find_at, find_none, first_map}
+use Rattle.drm_state.proofs.ChoiceIs.{is_ready_head, numbered_get, get_numbered, first-filter}
 
 -- the entity's head was answered true, and each that comes before it false
 pub record IsFirstReady (Answers : ℕ → Bool → Type 0) (device : DeviceState) (ring entity : ℕ) : Type 0 where

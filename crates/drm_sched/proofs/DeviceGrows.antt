@@ -1,27 +1,27 @@
 -- A device grows over each of its calls, whether it is refused or not.
 use Rattle.std.proofs.Common.{◌≡◌, ℕ, ◌<◌, length, Some, None, Result, Ok, Err, sym, ap, subst}
 use Rattle.std.specs.Prelude.{IfOk, IfErr, OnOk}
-use Rattle.drm_table.specs.declared.answer.Expired.{Expired}
-use Rattle.drm_table.specs.declared.answer.Finished.{Finished}
-use Rattle.drm_table.specs.declared.answer.Picked.{Picked}
-use Rattle.drm_table.specs.declared.answer.Stepped.{Stepped}
-use Rattle.drm_table.specs.declared.answer.Answer.{Answer}
-use Rattle.drm_table.specs.declared.answer.Answer.TheVariants as answer
-use Rattle.drm_table.specs.declared.errors.CancelError.{CancelError}
-use Rattle.drm_table.specs.declared.errors.FinishError.{FinishError}
-use Rattle.drm_table.specs.declared.errors.PickError.{PickError}
-use Rattle.drm_table.specs.declared.errors.ReapError.{ReapError}
-use Rattle.drm_table.specs.declared.errors.StepError.{StepError}
-use Rattle.drm_table.specs.Errors.{refusal_of_cancel, refusal_of_finish, refusal_of_pick, refusal_of_reap, refusal_of_step}
+use Rattle.drm_state.specs.declared.answer.Expired.{Expired}
+use Rattle.drm_state.specs.declared.answer.Finished.{Finished}
+use Rattle.drm_state.specs.declared.answer.Picked.{Picked}
+use Rattle.drm_state.specs.declared.answer.Stepped.{Stepped}
+use Rattle.drm_state.specs.declared.answer.Answer.{Answer}
+use Rattle.drm_state.specs.declared.answer.Answer.TheVariants as answer
+use Rattle.drm_state.specs.declared.errors.CancelError.{CancelError}
+use Rattle.drm_state.specs.declared.errors.FinishError.{FinishError}
+use Rattle.drm_state.specs.declared.errors.PickError.{PickError}
+use Rattle.drm_state.specs.declared.errors.ReapError.{ReapError}
+use Rattle.drm_state.specs.declared.errors.StepError.{StepError}
+use Rattle.drm_state.specs.Errors.{refusal_of_cancel, refusal_of_finish, refusal_of_pick, refusal_of_reap, refusal_of_step}
 use Rattle.drm_table.specs.declared.table.Table.{Table}
-use Rattle.drm_table.specs.Answers.{picked, stepped, finished, timed_out}
-use Rattle.drm_table.specs.Grows.{Grows}
-use Rattle.drm_table.specs.Outcomes.{pick_outcome, step_outcome, finish_outcome, timeout_outcome, cancelled_device, reap_outcome}
-use Rattle.drm_table.specs.Refusals.{pick_refusal, step_refusal, finish_refusal, cancel_refusal, reap_refusal}
-use Rattle.drm_table.specs.State.{DeviceState}
+use Rattle.drm_state.specs.Answers.{picked, stepped, finished, timed_out}
+use Rattle.drm_state.specs.Grows.{Grows}
+use Rattle.drm_state.specs.Outcomes.{pick_outcome, step_outcome, finish_outcome, timeout_outcome, cancelled_device, reap_outcome}
+use Rattle.drm_state.specs.Refusals.{pick_refusal, step_refusal, finish_refusal, cancel_refusal, reap_refusal}
+use Rattle.drm_state.specs.State.{DeviceState}
 use Rattle.drm_table.specs.Tables.{state_of, IsWhole}
-use Rattle.drm_table.proofs.DeviceSteps.{pick_kept, step_kept, finish_kept, timeout_kept, cancel_kept, reap_kept}
-use Rattle.drm_table.proofs.Growth.{grows_itself}
+use Rattle.drm_state.proofs.DeviceSteps.{pick_kept, step_kept, finish_kept, timeout_kept, cancel_kept, reap_kept}
+use Rattle.drm_state.proofs.Growth.{grows_itself}
 
 -- where the outcome is this one, the device has grown to it
 grown : (d new : DeviceState) (a : Answer) (outcome : Answer × DeviceState) → outcome ≡ (a, new) → Grows d outcome.1 → Grows d new

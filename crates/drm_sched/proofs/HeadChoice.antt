@@ -14,21 +14,21 @@ use Rattle.drm_runq.specs.declared.key.Key.{Key}
 use Rattle.drm_runq.specs.Keys.{HasKey, comes_before}
 use Rattle.drm_runq.specs.Keys as keys
 use Rattle.drm_sched.specs.declared.heads.Heads.{Heads}
-use Rattle.drm_table.specs.declared.journal.JobRecord.{JobRecord}
+use Rattle.drm_state.specs.declared.journal.JobRecord.{JobRecord}
 use Rattle.drm_sched.specs.Candidates.{IsHeadCandidate}
-use Rattle.drm_table.specs.Choice.{queue_of, choice}
+use Rattle.drm_state.specs.Choice.{queue_of, choice}
 use Rattle.drm_sched.specs.Heads.{keys_at, key_of, head_key, HeadsStand}
-use Rattle.drm_table.specs.Journal.{is_at}
-use Rattle.drm_table.specs.Order.{is_met, is_ready}
+use Rattle.drm_state.specs.Journal.{is_at}
+use Rattle.drm_state.specs.Order.{is_met, is_ready}
 use Rattle.drm_table.specs.Plain.{WaitsStand}
-use Rattle.drm_table.specs.Ring.{is_stopped}
-use Rattle.drm_table.specs.State.{EntityState, DeviceState}
-use Rattle.drm_table.specs.Steady.{IsSteady}
+use Rattle.drm_state.specs.Ring.{is_stopped}
+use Rattle.drm_state.specs.State.{EntityState, DeviceState}
+use Rattle.drm_state.specs.Steady.{IsSteady}
 use Rattle.drm_sched.specs.Watching.{pair_of, unmet_pairs, watched_of}
 use Rattle.drm_table.proofs.Candidates.{head_number, ready_by_waits}
 use Rattle.drm_sched.proofs.ChoiceByKeys.{IsFirstReady, AnswersReady, choice_is_first, choice_is_none}
 use Rattle.drm_table.proofs.Queues.{IsFront, front_is, head_numbered}
-use Rattle.drm_table.proofs.Records.{stands_within}
+use Rattle.drm_state.proofs.Records.{stands_within}
 use Rattle.drm_sched.proofs.Watching.{unmet_is}
 
 -- an answer whether the entity's head waits for nothing

@@ -13,34 +13,34 @@ use Rattle.drm_fence.specs.declared.phase.Phase.{Phase}
 use Rattle.drm_fence.specs.declared.phase.Phase.TheVariants.{Queued, Scheduled, Ended}
 use Rattle.drm_fence.specs.Phases.{is_queued, is_scheduled}
 use Rattle.drm_packet.specs.declared.Packet.{Packet}
-use Rattle.drm_table.specs.declared.answer.Answer.{Answer}
-use Rattle.drm_table.specs.declared.answer.Answer.TheVariants as answer
+use Rattle.drm_state.specs.declared.answer.Answer.{Answer}
+use Rattle.drm_state.specs.declared.answer.Answer.TheVariants as answer
 use Rattle.drm_sched.specs.declared.heads.Heads.{Heads}
-use Rattle.drm_table.specs.declared.journal.JobRecord.{JobRecord}
-use Rattle.drm_table.specs.Choice.{queue_of, choice, is_head_of}
+use Rattle.drm_state.specs.declared.journal.JobRecord.{JobRecord}
+use Rattle.drm_state.specs.Choice.{queue_of, choice, is_head_of}
 use Rattle.drm_sched.specs.Heads.{head_key, with_key, HeadsStand, HeadsStandBut}
-use Rattle.drm_table.specs.Journal.{is_at, is_complete}
-use Rattle.drm_table.specs.Order.{is_met}
-use Rattle.drm_table.specs.Outcomes.{must_stall, at_record, stepped_by, ran_device, step_outcome, hung, hung_device, condemned, condemned_device, is_too_much, hang_outcome, timeout_at, timeout_outcome, ended_at, final_outcome, finished_device, finish_outcome, picked_device, pick_outcome, reap_outcome}
-use Rattle.drm_table.specs.Ring.{is_stopped, head_of, current_of, limit_of, age_of, is_guilty, entity_changed}
-use Rattle.drm_table.specs.State.{EntityState, DeviceState}
-use Rattle.drm_table.specs.Steady.{IsSteady}
+use Rattle.drm_state.specs.Journal.{is_at, is_complete}
+use Rattle.drm_state.specs.Order.{is_met}
+use Rattle.drm_state.specs.Outcomes.{must_stall, at_record, stepped_by, ran_device, step_outcome, hung, hung_device, condemned, condemned_device, is_too_much, hang_outcome, timeout_at, timeout_outcome, ended_at, final_outcome, finished_device, finish_outcome, picked_device, pick_outcome, reap_outcome}
+use Rattle.drm_state.specs.Ring.{is_stopped, head_of, current_of, limit_of, age_of, is_guilty, entity_changed}
+use Rattle.drm_state.specs.State.{EntityState, DeviceState}
+use Rattle.drm_state.specs.Steady.{IsSteady}
 use Rattle.drm_sched.specs.Watching.{watched_of}
-use Rattle.drm_table.proofs.DeviceSteps.{at_record_is, not_when}
-use Rattle.drm_table.proofs.FinishLawful.{IsHead, head_is}
+use Rattle.drm_state.proofs.DeviceSteps.{at_record_is, not_when}
+use Rattle.drm_state.proofs.FinishLawful.{IsHead, head_is}
 use Rattle.drm_sched.proofs.HeadsLeft.{LeavesHead, LeavesUnmet, SameHead, SameHeads, same_heads_itself, same_heads_set, same_heads_map, same_heads_trans, set_leaves, stand_alike, stand_left, but_left}
 use Rattle.drm_fence.specs.Waiting.{without_early, without_entity, without_fence}
-use Rattle.drm_table.specs.declared.answer.Refusal.TheVariants.{Nothing, Waits}
-use Rattle.drm_table.specs.Refusals.{reap_refusal, must_still_wait}
+use Rattle.drm_state.specs.declared.answer.Refusal.TheVariants.{Nothing, Waits}
+use Rattle.drm_state.specs.Refusals.{reap_refusal, must_still_wait}
 use Rattle.drm_sched.proofs.HeadsKept.{but_key, but_watched, told_alike, pairs_left, no_head_stands, stopped_key, stopped_watched, head_removed, on_no_other}
-use Rattle.drm_table.proofs.ChoiceIs.{choice_is}
-use Rattle.drm_table.proofs.PickLawful.{not_met, given}
+use Rattle.drm_state.proofs.ChoiceIs.{choice_is}
+use Rattle.drm_state.proofs.PickLawful.{not_met, given}
 use Rattle.drm_table.proofs.TableFacts.{neither}
 use Rattle.drm_sched.proofs.HeadChoice.{first_is}
-use Rattle.drm_table.proofs.Pairs.{get_set_same, get_set_other}
+use Rattle.drm_state.proofs.Pairs.{get_set_same, get_set_other}
 use Rattle.drm_table.proofs.Queues.{waits_in, IsFront, front_is, head_numbered}
-use Rattle.drm_table.proofs.RanLawful.{current_is, one_more_ran}
-use Rattle.drm_table.proofs.Records.{changed_is, at_test}
+use Rattle.drm_state.proofs.RanLawful.{current_is, one_more_ran}
+use Rattle.drm_state.proofs.Records.{changed_is, at_test}
 
 -- the device has the same heads, which wait for the same
 pub record LeavesAll (d n : DeviceState) : Type 0 where

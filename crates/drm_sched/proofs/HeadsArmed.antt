@@ -10,27 +10,27 @@ use Rattle.drm_types.specs.Firsts.{first}
 use Rattle.drm_job.specs.declared.Draft.{Draft}
 use Rattle.drm_fence.specs.declared.pair.Pair.{Pair}
 use Rattle.drm_sched.specs.declared.heads.Heads.{Heads}
-use Rattle.drm_table.specs.declared.journal.JobRecord.{JobRecord}
-use Rattle.drm_table.specs.Arming.{armed_device, new_record}
-use Rattle.drm_table.specs.Choice.{queue_of}
+use Rattle.drm_state.specs.declared.journal.JobRecord.{JobRecord}
+use Rattle.drm_state.specs.Arming.{armed_device, new_record}
+use Rattle.drm_state.specs.Choice.{queue_of}
 use Rattle.drm_sched.specs.Heads.{head_key, key_of, HeadsAre, HeadsStand, HeadsStandBut}
-use Rattle.drm_table.specs.Journal.{is_at}
-use Rattle.drm_table.specs.Order.{is_met}
-use Rattle.drm_table.specs.Outcomes.{cancelled_device}
+use Rattle.drm_state.specs.Journal.{is_at}
+use Rattle.drm_state.specs.Order.{is_met}
+use Rattle.drm_state.specs.Outcomes.{cancelled_device}
 use Rattle.drm_table.specs.Plain.{WaitsStand}
-use Rattle.drm_table.specs.Ring.{is_stopped, entity_changed}
-use Rattle.drm_table.specs.State.{EntityState, DeviceState}
-use Rattle.drm_table.specs.Waits.{IsDependency}
+use Rattle.drm_state.specs.Ring.{is_stopped, entity_changed}
+use Rattle.drm_state.specs.State.{EntityState, DeviceState}
+use Rattle.drm_state.specs.Waits.{IsDependency}
 use Rattle.drm_sched.specs.Watching.{pair_of, unmet_pairs, watched_of}
-use Rattle.drm_table.proofs.ArmLawful.{get_before_push}
+use Rattle.drm_state.proofs.ArmLawful.{get_before_push}
 use Rattle.drm_table.proofs.Candidates.{queued_goes_on}
 use Rattle.drm_sched.proofs.HeadChoice.{first_is}
 use Rattle.drm_sched.proofs.HeadsKept.{told_alike, but_key, but_watched, no_head_stands, stopped_key, stopped_watched, empty_key, empty_watched}
 use Rattle.drm_sched.proofs.HeadsLeft.{LeavesHead, heads_alike, same_heads_itself, left_key, left_watched, keep_all}
-use Rattle.drm_table.proofs.Pairs.{get_set_same, get_set_other}
-use Rattle.drm_table.proofs.Pending.{contains_at}
+use Rattle.drm_state.proofs.Pairs.{get_set_same, get_set_other}
+use Rattle.drm_state.proofs.Pending.{contains_at}
 use Rattle.drm_table.proofs.Queues.{waits_in}
-use Rattle.drm_table.proofs.Records.{stands_within}
+use Rattle.drm_state.proofs.Records.{stands_within}
 
 -- an entity without a head may be left out
 pub stand_but : (d : DeviceState) (waits : List (List (ℕ × ℕ))) (entity : ℕ) (h : Heads) → HeadsStand d waits h

@@ -13,24 +13,24 @@ use Rattle.drm_fence.specs.declared.pair.Pair.{Pair}
 use Rattle.drm_fence.specs.Waiting.{Waiting, without_entity}
 use Rattle.drm_runq.specs.declared.key.Key.{Key}
 use Rattle.drm_sched.specs.declared.heads.Heads.{Heads}
-use Rattle.drm_table.specs.declared.journal.JobRecord.{JobRecord}
-use Rattle.drm_table.specs.Choice.{queue_of}
+use Rattle.drm_state.specs.declared.journal.JobRecord.{JobRecord}
+use Rattle.drm_state.specs.Choice.{queue_of}
 use Rattle.drm_sched.specs.Heads.{keys_at, with_key, key_of, head_key, AreWatched, HeadsAre, HeadsStand, HeadsStandBut}
-use Rattle.drm_table.specs.Ring.{is_stopped}
-use Rattle.drm_table.specs.State.{DeviceState}
+use Rattle.drm_state.specs.Ring.{is_stopped}
+use Rattle.drm_state.specs.State.{DeviceState}
 use Rattle.drm_sched.specs.Watching.{unmet_pairs, watched_of}
 use Rattle.drm_table.specs.declared.table.Table.{Table}
 use Rattle.drm_table.specs.Plain.{marks_of}
 use Rattle.drm_table.specs.Tables.{IsWhole}
-use Rattle.drm_table.specs.Waits.{IsDependency}
+use Rattle.drm_state.specs.Waits.{IsDependency}
 use Rattle.drm_fence.specs.Phases.{has_ended}
 use Rattle.std.proofs.lemmas.Option.{slice_get_within}
 use Rattle.drm_entity.specs.Rows.{queue_at}
 use Rattle.drm_table.proofs.Queues.{IsFront, front_is, head_is_first}
 use Rattle.drm_table.proofs.TableFacts.{entity_there, entity_row_there}
 use Rattle.drm_sched.proofs.HeadChoice.{keys_there, watched_is}
-use Rattle.drm_table.proofs.Pairs.{get_set_cases}
-use Rattle.drm_table.proofs.Records.{stands_within, at_index}
+use Rattle.drm_state.proofs.Pairs.{get_set_cases}
+use Rattle.drm_state.proofs.Records.{stands_within, at_index}
 use Rattle.drm_sched.proofs.Watching.{left_of, forgotten, kept_of}
 
 -- the same keys and pairs, told in other words

@@ -10,18 +10,18 @@ use Rattle.drm_types.specs.Firsts.{first}
 use Rattle.drm_fence.specs.Phases.{is_queued, has_ended}
 use Rattle.drm_fence.specs.declared.pair.Pair.{Pair}
 use Rattle.drm_sched.specs.declared.heads.Heads.{Heads}
-use Rattle.drm_table.specs.declared.journal.JobRecord.{JobRecord}
-use Rattle.drm_table.specs.Choice.{queue_of}
+use Rattle.drm_state.specs.declared.journal.JobRecord.{JobRecord}
+use Rattle.drm_state.specs.Choice.{queue_of}
 use Rattle.drm_sched.specs.Heads.{key_of, head_key, HeadsAre, HeadsStand, HeadsStandBut}
-use Rattle.drm_table.specs.Journal.{is_at}
-use Rattle.drm_table.specs.Order.{is_met}
-use Rattle.drm_table.specs.Ring.{is_stopped}
-use Rattle.drm_table.specs.State.{DeviceState}
+use Rattle.drm_state.specs.Journal.{is_at}
+use Rattle.drm_state.specs.Order.{is_met}
+use Rattle.drm_state.specs.Ring.{is_stopped}
+use Rattle.drm_state.specs.State.{DeviceState}
 use Rattle.drm_sched.specs.Watching.{pair_of, unmet_pairs, watched_of}
 use Rattle.drm_sched.proofs.HeadsKept.{told_alike, but_key, but_watched}
-use Rattle.drm_table.proofs.Pairs.{get_set_same, get_set_other}
+use Rattle.drm_state.proofs.Pairs.{get_set_same, get_set_other}
 use Rattle.drm_table.proofs.Queues.{waits_in}
-use Rattle.drm_table.proofs.Records.{stands_within, to_map}
+use Rattle.drm_state.proofs.Records.{stands_within, to_map}
 
 -- what stays of the head of an entity: its job, on its ring. A fence is met that was met, and those that `Met` tells
 pub record LeavesHead (d n : DeviceState) (Met : ℕ → ℕ → Bool) (entity : ℕ) : Type 0 where

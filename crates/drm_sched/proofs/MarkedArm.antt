@@ -3,14 +3,14 @@ use Rattle.std.proofs.Common.{◌≡◌, ℕ, ◌<◌, length, refl, sym, ap, su
 use Rattle.drm_job.specs.declared.Draft.{Draft}
 use Rattle.drm_table.specs.declared.table.Table.{Table}
 use Rattle.drm_sched.specs.declared.marked.MarkedTable.{MarkedTable}
-use Rattle.drm_table.specs.Arming.{new_record, armed_device}
+use Rattle.drm_state.specs.Arming.{new_record, armed_device}
 use Rattle.drm_sched.specs.MarkedTables.{IsWholeMarked}
-use Rattle.drm_table.specs.Ring.{pending_of}
-use Rattle.drm_table.specs.State.{DeviceState}
-use Rattle.drm_table.specs.Steady.{IsSteady}
+use Rattle.drm_state.specs.Ring.{pending_of}
+use Rattle.drm_state.specs.State.{DeviceState}
+use Rattle.drm_state.specs.Steady.{IsSteady}
 use Rattle.drm_table.specs.Tables.{state_of, IsWhole}
-use Rattle.drm_table.proofs.ArmLawful.{get_before_push}
-use Rattle.drm_table.proofs.Pending.{contains_at}
+use Rattle.drm_state.proofs.ArmLawful.{get_before_push}
+use Rattle.drm_state.proofs.Pending.{contains_at}
 use Rattle.drm_sched.proofs.MarksOther.{LeavesRing, leaves_itself}
 use Rattle.drm_sched.proofs.MarkedDone.{kept_marked, ring_is_there}
 

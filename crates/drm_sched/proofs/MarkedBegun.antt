@@ -10,14 +10,14 @@ use Rattle.drm_packet.specs.declared.Packet.{Packet}
 use Rattle.drm_packet.specs.Laws.{PacketsFitTheirParts}
 use Rattle.drm_packet.specs.Parts.{target_of, other_bytes, fits_parts}
 use Rattle.drm_packet.specs.Touches.{touches, is_in_range}
-use Rattle.drm_table.specs.declared.journal.JobRecord.{JobRecord}
+use Rattle.drm_state.specs.declared.journal.JobRecord.{JobRecord}
 use Rattle.drm_sched.specs.declared.marked.OutMark.{OutMark}
 use Rattle.drm_sched.specs.declared.marked.MarkedTable.{MarkedTable}
 use Rattle.drm_table.specs.declared.table.Table.{Table}
 use Rattle.drm_sched.specs.Marks.{Mark, mark_of, mark_for, ring_out, buffer_out, is_in_way, begun_device, IsSteadyMarked}
 use Rattle.drm_sched.specs.MarkedTables.{mark_of_row, marked_of, IsWholeMarked, HasOut}
-use Rattle.drm_table.specs.Outcomes.{must_stall}
-use Rattle.drm_table.specs.Ring.{current_of}
+use Rattle.drm_state.specs.Outcomes.{must_stall}
+use Rattle.drm_state.specs.Ring.{current_of}
 use Rattle.drm_table.specs.Tables.{state_of, IsWhole}
 use Rattle.drm_sched.proofs.MarkedBuffers.{set_both, begun_out}
 use Rattle.drm_sched.proofs.MarkedOut.{asks_is, next_is_in}

@@ -6,7 +6,8 @@ use Rattle.std.proofs.lemmas.List.{length-map, length-replicate}
 use Rattle.drm_sched.specs.declared.marked.MarkedTable.{MarkedTable}
 use Rattle.drm_sched.specs.Marks.{Mark, MarkedDevice, mark_of, unmarked}
 use Rattle.drm_sched.specs.MarkedTables.{mark_of_row, marked_of, IsWholeMarked}
-use Rattle.drm_table.specs.Tables.{ring_state_of, state_of, IsWhole, AllIn}
+use Rattle.drm_state.specs.Rows.{ring_state_of}
+use Rattle.drm_table.specs.Tables.{state_of, IsWhole, AllIn}
 use Rattle.drm_table.proofs.Blanks.{map_to_same, map_same}
 
 -- a device of whose rings none is marked

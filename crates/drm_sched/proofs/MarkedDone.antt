@@ -5,25 +5,25 @@ use Rattle.std.specs.Prelude.{IfOk, IfErr, OnOk, is_none, Contains}
 use Rattle.std.proofs.lemmas.Bool.{both_ways}
 use Rattle.drm_types.specs.declared.spec.DeviceSpec.{DeviceSpec}
 use Rattle.drm_packet.specs.Touches.{touches}
-use Rattle.drm_table.specs.declared.answer.Expired.{Expired}
-use Rattle.drm_table.specs.declared.answer.Finished.{Finished}
-use Rattle.drm_table.specs.declared.answer.Picked.{Picked}
-use Rattle.drm_table.specs.declared.answer.Answer.{Answer}
-use Rattle.drm_table.specs.declared.answer.Answer.TheVariants as answer
-use Rattle.drm_table.specs.declared.errors.CancelError.{CancelError}
-use Rattle.drm_table.specs.declared.errors.FinishError.{FinishError}
-use Rattle.drm_table.specs.declared.errors.PickError.{PickError}
-use Rattle.drm_table.specs.declared.errors.ReapError.{ReapError}
-use Rattle.drm_table.specs.Errors.{refusal_of_cancel, refusal_of_finish, refusal_of_pick, refusal_of_reap}
-use Rattle.drm_table.specs.declared.journal.JobRecord.{JobRecord}
+use Rattle.drm_state.specs.declared.answer.Expired.{Expired}
+use Rattle.drm_state.specs.declared.answer.Finished.{Finished}
+use Rattle.drm_state.specs.declared.answer.Picked.{Picked}
+use Rattle.drm_state.specs.declared.answer.Answer.{Answer}
+use Rattle.drm_state.specs.declared.answer.Answer.TheVariants as answer
+use Rattle.drm_state.specs.declared.errors.CancelError.{CancelError}
+use Rattle.drm_state.specs.declared.errors.FinishError.{FinishError}
+use Rattle.drm_state.specs.declared.errors.PickError.{PickError}
+use Rattle.drm_state.specs.declared.errors.ReapError.{ReapError}
+use Rattle.drm_state.specs.Errors.{refusal_of_cancel, refusal_of_finish, refusal_of_pick, refusal_of_reap}
+use Rattle.drm_state.specs.declared.journal.JobRecord.{JobRecord}
 use Rattle.drm_table.specs.declared.table.Table.{Table}
 use Rattle.drm_sched.specs.declared.marked.MarkedTable.{MarkedTable}
-use Rattle.drm_table.specs.Answers.{picked, finished, timed_out}
+use Rattle.drm_state.specs.Answers.{picked, finished, timed_out}
 use Rattle.drm_sched.specs.Marks.{Mark, MarkedDevice, mark_of, out_by, ring_out}
 use Rattle.drm_sched.specs.MarkedTables.{marked_of, IsWholeMarked}
-use Rattle.drm_table.specs.Outcomes.{pick_outcome, finish_outcome, timeout_outcome, cancelled_device, reap_outcome}
-use Rattle.drm_table.specs.Refusals.{pick_refusal, finish_refusal, cancel_refusal, reap_refusal}
-use Rattle.drm_table.specs.State.{DeviceState}
+use Rattle.drm_state.specs.Outcomes.{pick_outcome, finish_outcome, timeout_outcome, cancelled_device, reap_outcome}
+use Rattle.drm_state.specs.Refusals.{pick_refusal, finish_refusal, cancel_refusal, reap_refusal}
+use Rattle.drm_state.specs.State.{DeviceState}
 use Rattle.drm_table.specs.Tables.{state_of, IsWhole}
 use Rattle.drm_sched.proofs.DeviceGrows.{pick_grown, finish_grown, timeout_grown, cancel_grown, reap_grown}
 use Rattle.drm_sched.proofs.MarksOther.{LeavesRing, left_out, still_steady, mark_there, pick_leaves, finish_leaves, timeout_leaves, cancel_leaves, reap_leaves}

@@ -1,31 +1,31 @@
 -- A device grows over each of its calls while packets are out of it, whether the call is refused or not.
 use Rattle.std.proofs.Common.{◌≡◌, ℕ, ◌<◌, Bool, true, false, length, Some, None, Option, Result, Ok, Err, sym, subst}
 use Rattle.std.specs.Prelude.{IfOk, IfErr, OnOk}
-use Rattle.drm_table.specs.declared.answer.Expired.{Expired}
-use Rattle.drm_table.specs.declared.answer.Finished.{Finished}
-use Rattle.drm_table.specs.declared.answer.Picked.{Picked}
-use Rattle.drm_table.specs.declared.answer.Stepped.{Stepped}
-use Rattle.drm_table.specs.declared.answer.Stepped.TheVariants.{Ran}
-use Rattle.drm_table.specs.declared.answer.Answer.TheVariants as answer
-use Rattle.drm_table.specs.declared.answer.Refusal.{Refusal}
-use Rattle.drm_table.specs.declared.errors.CancelError.{CancelError}
-use Rattle.drm_table.specs.declared.errors.FinishError.{FinishError}
-use Rattle.drm_table.specs.declared.errors.PickError.{PickError}
-use Rattle.drm_table.specs.declared.errors.ReapError.{ReapError}
-use Rattle.drm_table.specs.declared.errors.StepError.{StepError}
-use Rattle.drm_table.specs.declared.errors.TimeoutError.{TimeoutError}
-use Rattle.drm_table.specs.Errors.{refusal_of_cancel, refusal_of_finish, refusal_of_pick, refusal_of_reap, refusal_of_step, refusal_of_timeout}
+use Rattle.drm_state.specs.declared.answer.Expired.{Expired}
+use Rattle.drm_state.specs.declared.answer.Finished.{Finished}
+use Rattle.drm_state.specs.declared.answer.Picked.{Picked}
+use Rattle.drm_state.specs.declared.answer.Stepped.{Stepped}
+use Rattle.drm_state.specs.declared.answer.Stepped.TheVariants.{Ran}
+use Rattle.drm_state.specs.declared.answer.Answer.TheVariants as answer
+use Rattle.drm_state.specs.declared.answer.Refusal.{Refusal}
+use Rattle.drm_state.specs.declared.errors.CancelError.{CancelError}
+use Rattle.drm_state.specs.declared.errors.FinishError.{FinishError}
+use Rattle.drm_state.specs.declared.errors.PickError.{PickError}
+use Rattle.drm_state.specs.declared.errors.ReapError.{ReapError}
+use Rattle.drm_state.specs.declared.errors.StepError.{StepError}
+use Rattle.drm_state.specs.declared.errors.TimeoutError.{TimeoutError}
+use Rattle.drm_state.specs.Errors.{refusal_of_cancel, refusal_of_finish, refusal_of_pick, refusal_of_reap, refusal_of_step, refusal_of_timeout}
 use Rattle.drm_sched.specs.declared.marked.MarkedTable.{MarkedTable}
-use Rattle.drm_table.specs.Answers.{picked, stepped, finished, timed_out}
+use Rattle.drm_state.specs.Answers.{picked, stepped, finished, timed_out}
 use Rattle.drm_sched.specs.Begun.{HasReported, out_or}
-use Rattle.drm_table.specs.Grows.{Grows}
+use Rattle.drm_state.specs.Grows.{Grows}
 use Rattle.drm_sched.specs.Marks.{ring_out, is_in_way}
 use Rattle.drm_sched.specs.MarkedTables.{marked_of, IsWholeMarked}
-use Rattle.drm_table.specs.Outcomes.{pick_outcome, step_outcome, finish_outcome, timeout_outcome, cancelled_device, reap_outcome}
-use Rattle.drm_table.specs.Refusals.{pick_refusal, step_refusal, finish_refusal, cancel_refusal, reap_refusal}
+use Rattle.drm_state.specs.Outcomes.{pick_outcome, step_outcome, finish_outcome, timeout_outcome, cancelled_device, reap_outcome}
+use Rattle.drm_state.specs.Refusals.{pick_refusal, step_refusal, finish_refusal, cancel_refusal, reap_refusal}
 use Rattle.drm_table.specs.Tables.{state_of}
 use Rattle.drm_sched.proofs.DeviceGrows.{pick_grown, step_grown, finish_grown, timeout_grown, cancel_grown, reap_grown}
-use Rattle.drm_table.proofs.Growth.{grows_itself}
+use Rattle.drm_state.proofs.Growth.{grows_itself}
 use Rattle.drm_sched.proofs.MarkedDone.{ring_is_there}
 
 -- where nothing is refused, what else might refuse does not

@@ -13,10 +13,10 @@ use Rattle.drm_sched.specs.declared.marked.MarkedTable.{MarkedTable}
 use Rattle.drm_sched.specs.Marks.{Mark, MarkedDevice, mark_of, out_by, is_out, buffer_out}
 use Rattle.drm_sched.specs.MarkedTables.{marked_of, HasOut, IsWholeMarked}
 use Rattle.drm_table.specs.Outside.{next_asks_out}
-use Rattle.drm_table.specs.Outcomes.{next_packet}
-use Rattle.drm_table.specs.Ring.{current_of}
+use Rattle.drm_state.specs.Outcomes.{next_packet}
+use Rattle.drm_state.specs.Ring.{current_of}
 use Rattle.drm_table.specs.Tables.{state_of, NextIsIn}
-use Rattle.drm_table.proofs.Pending.{place_of}
+use Rattle.drm_state.proofs.Pending.{place_of}
 use Rattle.drm_table.proofs.Stored.{next_there, same_count}
 use Rattle.drm_sched.proofs.MarksKept.{is_out_at}
 

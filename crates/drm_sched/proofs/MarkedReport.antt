@@ -6,8 +6,8 @@ use Rattle.std.proofs.lemmas.List.{map-set, length-map}
 use Rattle.std.proofs.lemmas.Option.{slice_get-get_or}
 use Rattle.drm_buffer.specs.Memory.{bytes_of}
 use Rattle.drm_packet.specs.Parts.{target_of, part_effect}
-use Rattle.drm_table.specs.declared.answer.Answer.TheVariants as answer
-use Rattle.drm_table.specs.declared.journal.JobRecord.{JobRecord}
+use Rattle.drm_state.specs.declared.answer.Answer.TheVariants as answer
+use Rattle.drm_state.specs.declared.journal.JobRecord.{JobRecord}
 use Rattle.drm_table.specs.declared.table.Table.{Table}
 use Rattle.drm_sched.specs.declared.marked.OutMark.{OutMark}
 use Rattle.drm_sched.specs.declared.marked.MarkedTable.{MarkedTable}
@@ -15,10 +15,10 @@ use Rattle.drm_sched.specs.Begun.{IsReport, HasReported}
 use Rattle.drm_sched.specs.Marks.{Mark, MarkedDevice, mark_of, packet_at, reported_device, IsOut}
 use Rattle.drm_sched.specs.MarkedTables.{mark_of_row, marked_of, IsWholeMarked}
 use Rattle.drm_table.specs.Outside.{ComesBack, IsBack}
-use Rattle.drm_table.specs.Outcomes.{next_packet, ran_device}
-use Rattle.drm_table.specs.State.{DeviceState}
+use Rattle.drm_state.specs.Outcomes.{next_packet, ran_device}
+use Rattle.drm_state.specs.State.{DeviceState}
 use Rattle.drm_table.specs.Tables.{state_of}
-use Rattle.drm_table.proofs.Records.{to_map}
+use Rattle.drm_state.proofs.Records.{to_map}
 use Rattle.drm_sched.proofs.Marks.{report_is_step}
 use Rattle.drm_sched.proofs.MarksKept.{touches_out}
 use Rattle.drm_sched.proofs.MarksOther.{mark_there}

@@ -7,18 +7,18 @@ use Rattle.std.proofs.lemmas.Bool.{both_ways, eqb-true, eq-eqb, cases_eq}
 use Rattle.std.proofs.lemmas.List.{map-set}
 use Rattle.drm_job.proofs.Apart.{any_from}
 use Rattle.drm_packet.specs.Touches.{touches}
-use Rattle.drm_table.specs.declared.journal.JobRecord.{JobRecord}
+use Rattle.drm_state.specs.declared.journal.JobRecord.{JobRecord}
 use Rattle.drm_table.specs.declared.table.Table.{Table}
 use Rattle.drm_sched.specs.declared.marked.OutMark.{OutMark}
 use Rattle.drm_sched.specs.declared.marked.MarkedTable.{MarkedTable}
 use Rattle.drm_sched.specs.Marks.{Mark, MarkedDevice, mark_of, packet_at, out_by, reported_device, IsOut, IsSteadyMarked}
 use Rattle.drm_sched.specs.MarkedTables.{mark_of_row, marked_of, HasOut, IsWholeMarked}
 use Rattle.drm_table.specs.Outside.{IsBack}
-use Rattle.drm_table.specs.Outcomes.{next_packet, ran_device}
+use Rattle.drm_state.specs.Outcomes.{next_packet, ran_device}
 use Rattle.drm_table.specs.Tables.{state_of, IsWhole}
-use Rattle.drm_table.proofs.Records.{changed_is, stands_within}
-use Rattle.drm_table.proofs.Pairs.{get_set_other, get_set_same}
-use Rattle.drm_table.proofs.RanLawful.{one_more_ran}
+use Rattle.drm_state.proofs.Records.{changed_is, stands_within}
+use Rattle.drm_state.proofs.Pairs.{get_set_other, get_set_same}
+use Rattle.drm_state.proofs.RanLawful.{one_more_ran}
 use Rattle.drm_sched.proofs.MarksKept.{touches_out, same_packet, reported_steady}
 use Rattle.drm_sched.proofs.MarksOther.{mark_there}
 use Rattle.drm_sched.proofs.MarkedBuffers.{set_both, set_touched, set_untouched}

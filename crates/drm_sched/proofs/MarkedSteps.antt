@@ -5,26 +5,26 @@ use Rattle.std.specs.Prelude.{IfOk, IfErr, Contains}
 use Rattle.drm_types.specs.declared.spec.DeviceSpec.{DeviceSpec}
 use Rattle.drm_packet.specs.declared.Packet.{Packet}
 use Rattle.drm_packet.specs.Touches.{touches}
-use Rattle.drm_table.specs.declared.answer.Stepped.{Stepped}
-use Rattle.drm_table.specs.declared.answer.Answer.{Answer}
-use Rattle.drm_table.specs.declared.answer.Answer.TheVariants as answer
-use Rattle.drm_table.specs.declared.errors.StepError.{StepError}
-use Rattle.drm_table.specs.Errors.{refusal_of_step}
-use Rattle.drm_table.specs.declared.journal.JobRecord.{JobRecord}
+use Rattle.drm_state.specs.declared.answer.Stepped.{Stepped}
+use Rattle.drm_state.specs.declared.answer.Answer.{Answer}
+use Rattle.drm_state.specs.declared.answer.Answer.TheVariants as answer
+use Rattle.drm_state.specs.declared.errors.StepError.{StepError}
+use Rattle.drm_state.specs.Errors.{refusal_of_step}
+use Rattle.drm_state.specs.declared.journal.JobRecord.{JobRecord}
 use Rattle.drm_table.specs.declared.table.Table.{Table}
 use Rattle.drm_sched.specs.declared.marked.MarkedTable.{MarkedTable}
-use Rattle.drm_table.specs.Answers.{stepped}
-use Rattle.drm_table.specs.Journal.{is_at}
+use Rattle.drm_state.specs.Answers.{stepped}
+use Rattle.drm_state.specs.Journal.{is_at}
 use Rattle.drm_sched.specs.Marks.{Mark, mark_of, packet_at, out_by, ring_out, buffer_out, is_in_way, IsOut}
 use Rattle.drm_sched.specs.MarkedTables.{marked_of, IsWholeMarked}
-use Rattle.drm_table.specs.Outcomes.{must_stall, at_record, stepped_by, ran_device, step_outcome}
-use Rattle.drm_table.specs.Refusals.{step_refusal}
-use Rattle.drm_table.specs.Ring.{current_of}
-use Rattle.drm_table.specs.State.{DeviceState}
+use Rattle.drm_state.specs.Outcomes.{must_stall, at_record, stepped_by, ran_device, step_outcome}
+use Rattle.drm_state.specs.Refusals.{step_refusal}
+use Rattle.drm_state.specs.Ring.{current_of}
+use Rattle.drm_state.specs.State.{DeviceState}
 use Rattle.drm_table.specs.Tables.{state_of, IsWhole}
-use Rattle.drm_table.proofs.Records.{changed_is}
-use Rattle.drm_table.proofs.RanLawful.{current_is, one_more_ran}
-use Rattle.drm_table.proofs.DeviceSteps.{at_record_is}
+use Rattle.drm_state.proofs.Records.{changed_is}
+use Rattle.drm_state.proofs.RanLawful.{current_is, one_more_ran}
+use Rattle.drm_state.proofs.DeviceSteps.{at_record_is}
 use Rattle.drm_sched.proofs.DeviceGrows.{step_grown}
 use Rattle.drm_table.proofs.TableFacts.{neither}
 use Rattle.drm_sched.proofs.Marks.{ran_leaves_out}

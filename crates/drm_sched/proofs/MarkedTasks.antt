@@ -3,20 +3,20 @@
 use Rattle.std.proofs.Common.{◌≡◌, ℕ, ◌<◌, ◌∙◌, length, set, Some, None, Option, Result, Ok, Err, sym, ap, subst, slice_get}
 use Rattle.std.specs.Option.{option_map_or}
 use Rattle.std.specs.Prelude.{IfOk, IfErr, option_map}
-use Rattle.drm_table.specs.declared.errors.StepError.{StepError}
-use Rattle.drm_table.specs.Errors.{refusal_of_step}
+use Rattle.drm_state.specs.declared.errors.StepError.{StepError}
+use Rattle.drm_state.specs.Errors.{refusal_of_step}
 use Rattle.drm_sched.specs.declared.marked.Begun.{Begun}
 use Rattle.drm_sched.specs.declared.marked.Begun.TheVariants.{Work, Stalled}
 use Rattle.drm_sched.specs.declared.marked.MarkedTable.{MarkedTable}
-use Rattle.drm_table.specs.declared.journal.JobRecord.{JobRecord}
+use Rattle.drm_state.specs.declared.journal.JobRecord.{JobRecord}
 use Rattle.drm_sched.specs.Begun.{HasBegun, HasReported, KeepsTasks, MayComeBack, out_or}
 use Rattle.drm_packet.specs.Parts.{part_effect}
 use Rattle.drm_sched.specs.Marks.{Mark, MarkedDevice, IsBusy, is_in_way, mark_for, mark_of, packet_at}
 use Rattle.drm_sched.specs.MarkedTables.{marked_of, IsWholeMarked}
-use Rattle.drm_table.specs.Refusals.{step_refusal}
+use Rattle.drm_state.specs.Refusals.{step_refusal}
 use Rattle.drm_table.specs.Tables.{state_of}
-use Rattle.drm_table.proofs.Records.{stands_within}
-use Rattle.drm_table.proofs.Pairs.{get_set_same, get_set_other}
+use Rattle.drm_state.proofs.Records.{stands_within}
+use Rattle.drm_state.proofs.Pairs.{get_set_same, get_set_other}
 
 -- whatever the mark of the ring becomes
 still_busy : (d new : MarkedDevice) (ring : ℕ) (change : Option Mark) → new.marks ≡ set d.marks ring change → KeepsTasks d ring new

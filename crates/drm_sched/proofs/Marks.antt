@@ -11,21 +11,21 @@ use Rattle.drm_packet.specs.Effect.{effect}
 use Rattle.drm_packet.specs.Touches.{touches}
 use Rattle.drm_packet.specs.Parts.{target_of, other_bytes}
 use Rattle.drm_packet.proofs.Commute.{cases_packet}
-use Rattle.drm_table.specs.declared.answer.Answer.{Answer}
-use Rattle.drm_table.specs.declared.answer.Answer.TheVariants as answer
-use Rattle.drm_table.specs.declared.answer.Refusal.TheVariants.{Idle}
-use Rattle.drm_table.specs.declared.journal.JobRecord.{JobRecord}
-use Rattle.drm_table.specs.State.{DeviceState}
-use Rattle.drm_table.specs.Journal.{is_complete}
-use Rattle.drm_table.specs.Ring.{pending_of, current_of}
-use Rattle.drm_table.specs.Refusals.{step_refusal}
-use Rattle.drm_table.specs.Outcomes.{must_stall, ran_device, stepped_by, step_outcome, at_record}
-use Rattle.drm_table.specs.Steady.{IsSteady}
+use Rattle.drm_state.specs.declared.answer.Answer.{Answer}
+use Rattle.drm_state.specs.declared.answer.Answer.TheVariants as answer
+use Rattle.drm_state.specs.declared.answer.Refusal.TheVariants.{Idle}
+use Rattle.drm_state.specs.declared.journal.JobRecord.{JobRecord}
+use Rattle.drm_state.specs.State.{DeviceState}
+use Rattle.drm_state.specs.Journal.{is_complete}
+use Rattle.drm_state.specs.Ring.{pending_of, current_of}
+use Rattle.drm_state.specs.Refusals.{step_refusal}
+use Rattle.drm_state.specs.Outcomes.{must_stall, ran_device, stepped_by, step_outcome, at_record}
+use Rattle.drm_state.specs.Steady.{IsSteady}
 use Rattle.drm_sched.specs.Marks.{Mark, mark_for, IsOut}
-use Rattle.drm_table.proofs.Records.{at_test, changed_is}
-use Rattle.drm_table.proofs.Pairs.{get_set_other}
-use Rattle.drm_table.proofs.Pending.{contains_at}
-use Rattle.drm_table.proofs.RanLawful.{IsCurrent, current_is, ran_steady, one_more_ran, is_going}
+use Rattle.drm_state.proofs.Records.{at_test, changed_is}
+use Rattle.drm_state.proofs.Pairs.{get_set_other}
+use Rattle.drm_state.proofs.Pending.{contains_at}
+use Rattle.drm_state.proofs.RanLawful.{IsCurrent, current_is, ran_steady, one_more_ran, is_going}
 
 -- the device's answer and the state that it leaves
 abbrev pub Left : Type 0

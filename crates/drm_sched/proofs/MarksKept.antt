@@ -9,15 +9,15 @@ use Rattle.std.proofs.lemmas.Option.{slice_get_within}
 use Rattle.drm_job.proofs.Apart.{any_from}
 use Rattle.drm_packet.specs.declared.Packet.{Packet}
 use Rattle.drm_packet.specs.Touches.{touches}
-use Rattle.drm_table.specs.declared.journal.JobRecord.{JobRecord}
-use Rattle.drm_table.specs.State.{DeviceState}
-use Rattle.drm_table.specs.Ring.{current_of}
-use Rattle.drm_table.specs.Outcomes.{must_stall, next_packet}
+use Rattle.drm_state.specs.declared.journal.JobRecord.{JobRecord}
+use Rattle.drm_state.specs.State.{DeviceState}
+use Rattle.drm_state.specs.Ring.{current_of}
+use Rattle.drm_state.specs.Outcomes.{must_stall, next_packet}
 use Rattle.drm_sched.specs.Marks.{Mark, MarkedDevice, mark_of, packet_at, out_by, is_out, buffer_out, mark_for, begun_device, reported_device, IsOut, IsSteadyMarked}
-use Rattle.drm_table.proofs.Pairs.{get_set_other, get_set_same}
-use Rattle.drm_table.proofs.Pending.{contains_at}
-use Rattle.drm_table.proofs.Records.{stands_within, changed_is}
-use Rattle.drm_table.proofs.RanLawful.{current_is, one_more_ran}
+use Rattle.drm_state.proofs.Pairs.{get_set_other, get_set_same}
+use Rattle.drm_state.proofs.Pending.{contains_at}
+use Rattle.drm_state.proofs.Records.{stands_within, changed_is}
+use Rattle.drm_state.proofs.RanLawful.{current_is, one_more_ran}
 use Rattle.drm_sched.proofs.Marks.{begun_is_out, report_steady, ran_leaves_out}
 
 -- the mark of a ring stands in the list

@@ -13,28 +13,28 @@ use Rattle.drm_fence.specs.Phases.{is_scheduled}
 use Rattle.drm_types.proofs.Firsts.{none_first}
 use Rattle.drm_packet.specs.Touches.{touches}
 use Rattle.drm_packet.specs.Parts.{target_of, other_bytes}
-use Rattle.drm_table.specs.declared.answer.Answer.{Answer}
-use Rattle.drm_table.specs.declared.answer.Answer.TheVariants as answer
-use Rattle.drm_table.specs.declared.answer.Refusal.TheVariants.{Nothing, Waits}
-use Rattle.drm_table.specs.declared.journal.JobRecord.{JobRecord}
-use Rattle.drm_table.specs.State.{DeviceState}
-use Rattle.drm_table.specs.Journal.{is_complete}
-use Rattle.drm_table.specs.Choice.{queue_of, choice}
-use Rattle.drm_table.specs.Ring.{limit_of, head_of, pending_of, age_of, is_guilty, is_stopped}
-use Rattle.drm_table.specs.Refusals.{reap_refusal, must_still_wait}
-use Rattle.drm_table.specs.Outcomes.{hung as hung_record, condemned, at_record, picked_device, finished_device, final_outcome, hung_device, condemned_device, is_too_much, hang_outcome, timeout_at, pick_outcome, finish_outcome, timeout_outcome, reap_outcome, cancelled_device, ended_at}
-use Rattle.drm_table.specs.Steady.{IsSteady}
+use Rattle.drm_state.specs.declared.answer.Answer.{Answer}
+use Rattle.drm_state.specs.declared.answer.Answer.TheVariants as answer
+use Rattle.drm_state.specs.declared.answer.Refusal.TheVariants.{Nothing, Waits}
+use Rattle.drm_state.specs.declared.journal.JobRecord.{JobRecord}
+use Rattle.drm_state.specs.State.{DeviceState}
+use Rattle.drm_state.specs.Journal.{is_complete}
+use Rattle.drm_state.specs.Choice.{queue_of, choice}
+use Rattle.drm_state.specs.Ring.{limit_of, head_of, pending_of, age_of, is_guilty, is_stopped}
+use Rattle.drm_state.specs.Refusals.{reap_refusal, must_still_wait}
+use Rattle.drm_state.specs.Outcomes.{hung as hung_record, condemned, at_record, picked_device, finished_device, final_outcome, hung_device, condemned_device, is_too_much, hang_outcome, timeout_at, pick_outcome, finish_outcome, timeout_outcome, reap_outcome, cancelled_device, ended_at}
+use Rattle.drm_state.specs.Steady.{IsSteady}
 use Rattle.drm_sched.specs.Marks.{Mark, MarkedDevice, mark_of, out_by, IsOut, IsSteadyMarked}
-use Rattle.drm_table.proofs.Records.{changed_is, to_map}
-use Rattle.drm_table.proofs.Pairs.{get_set_other}
-use Rattle.drm_table.proofs.Pending.{contains_at}
-use Rattle.drm_table.proofs.RanLawful.{current_is, is_going}
-use Rattle.drm_table.proofs.FinishLawful.{IsHead, head_is, finish_is, ended}
-use Rattle.drm_table.proofs.ChoiceIs.{choice_is}
-use Rattle.drm_table.proofs.PickLawful.{pick_is, not_scheduled, given}
-use Rattle.drm_table.proofs.HangLawful.{pending_after_hang}
-use Rattle.drm_table.proofs.ReapLawful.{reapable}
-use Rattle.drm_table.proofs.DeviceSteps.{at_record_is, not_when}
+use Rattle.drm_state.proofs.Records.{changed_is, to_map}
+use Rattle.drm_state.proofs.Pairs.{get_set_other}
+use Rattle.drm_state.proofs.Pending.{contains_at}
+use Rattle.drm_state.proofs.RanLawful.{current_is, is_going}
+use Rattle.drm_state.proofs.FinishLawful.{IsHead, head_is, finish_is, ended}
+use Rattle.drm_state.proofs.ChoiceIs.{choice_is}
+use Rattle.drm_state.proofs.PickLawful.{pick_is, not_scheduled, given}
+use Rattle.drm_state.proofs.HangLawful.{pending_after_hang}
+use Rattle.drm_state.proofs.ReapLawful.{reapable}
+use Rattle.drm_state.proofs.DeviceSteps.{at_record_is, not_when}
 use Rattle.drm_sched.proofs.Marks.{find_agree}
 
 -- the ring's pending jobs stay as they are, and so does the memory; more may be pending behind them

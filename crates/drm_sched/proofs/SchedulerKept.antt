@@ -6,44 +6,44 @@ use Rattle.drm_types.specs.declared.spec.DeviceSpec.{DeviceSpec}
 use Rattle.drm_types.specs.Firsts.{first, is_nil, when}
 use Rattle.drm_fence.specs.declared.pair.Pair.{Pair}
 use Rattle.drm_fence.specs.Waiting.{Waiting}
-use Rattle.drm_table.specs.declared.answer.Refusal.TheVariants.{AlreadyStopped}
+use Rattle.drm_state.specs.declared.answer.Refusal.TheVariants.{AlreadyStopped}
 use Rattle.drm_sched.specs.Marks.{unmarked}
-use Rattle.drm_table.specs.Ring.{is_stopped}
+use Rattle.drm_state.specs.Ring.{is_stopped}
 use Rattle.drm_entity.specs.Rows.{queue_at}
 use Rattle.drm_job.specs.declared.Draft.{Draft}
 use Rattle.drm_job.specs.Fault.{IsJob}
-use Rattle.drm_table.specs.Arming.{armed_device}
-use Rattle.drm_table.specs.Choice.{queue_of}
+use Rattle.drm_state.specs.Arming.{armed_device}
+use Rattle.drm_state.specs.Choice.{queue_of}
 use Rattle.drm_table.proofs.ArmDone.{few_entities}
 use Rattle.drm_sched.proofs.HeadsArmed.{cancel_stand, arm_stand, arm_stand_but}
 use Rattle.drm_sched.proofs.HeadsKept.{empty_key, empty_watched, no_front, front_found}
 use Rattle.std.proofs.lemmas.List.{length-map, length-replicate}
 use Rattle.drm_fence.specs.declared.phase.Phase.TheVariants.{Scheduled}
-use Rattle.drm_table.specs.declared.answer.Answer.TheVariants as answer
-use Rattle.drm_table.specs.declared.answer.Picked.{Picked}
-use Rattle.drm_table.specs.declared.journal.JobRecord.{JobRecord}
+use Rattle.drm_state.specs.declared.answer.Answer.TheVariants as answer
+use Rattle.drm_state.specs.declared.answer.Picked.{Picked}
+use Rattle.drm_state.specs.declared.journal.JobRecord.{JobRecord}
 use Rattle.drm_table.specs.Plain.{marks_of}
-use Rattle.drm_table.proofs.Pairs.{get_set_same}
+use Rattle.drm_state.proofs.Pairs.{get_set_same}
 use Rattle.drm_table.proofs.TableFacts.{entity_there}
-use Rattle.drm_table.specs.declared.answer.Expired.{Expired}
-use Rattle.drm_table.specs.declared.answer.Refusal.{Refusal}
-use Rattle.drm_table.specs.declared.errors.CancelError.{CancelError}
-use Rattle.drm_table.specs.declared.errors.StepError.{StepError}
-use Rattle.drm_table.specs.declared.errors.TimeoutError.{TimeoutError}
-use Rattle.drm_table.specs.Errors.{refusal_of_cancel, refusal_of_step, refusal_of_timeout}
-use Rattle.drm_table.specs.declared.answer.Stepped.{Stepped}
+use Rattle.drm_state.specs.declared.answer.Expired.{Expired}
+use Rattle.drm_state.specs.declared.answer.Refusal.{Refusal}
+use Rattle.drm_state.specs.declared.errors.CancelError.{CancelError}
+use Rattle.drm_state.specs.declared.errors.StepError.{StepError}
+use Rattle.drm_state.specs.declared.errors.TimeoutError.{TimeoutError}
+use Rattle.drm_state.specs.Errors.{refusal_of_cancel, refusal_of_step, refusal_of_timeout}
+use Rattle.drm_state.specs.declared.answer.Stepped.{Stepped}
 use Rattle.drm_sched.specs.declared.heads.Heads.{Heads}
 use Rattle.drm_sched.specs.declared.marked.Begun.{Begun}
 use Rattle.drm_sched.specs.declared.marked.Begun.TheVariants.{Work, Stalled}
 use Rattle.drm_sched.specs.declared.marked.MarkedTable.{MarkedTable}
-use Rattle.drm_table.specs.Answers.{picked, stepped, timed_out}
+use Rattle.drm_state.specs.Answers.{picked, stepped, timed_out}
 use Rattle.drm_sched.specs.Begun.{HasBegun, HasReported, out_or}
 use Rattle.drm_sched.specs.Heads.{HeadsStand, HeadsStandBut}
 use Rattle.drm_sched.specs.Marks.{MarkedDevice, ring_out, is_in_way}
 use Rattle.drm_sched.specs.MarkedTables.{marked_of, IsWholeMarked}
-use Rattle.drm_table.specs.Outcomes.{cancelled_device, pick_outcome, step_outcome, timeout_outcome}
-use Rattle.drm_table.specs.Refusals.{cancel_refusal, pick_refusal, step_refusal}
-use Rattle.drm_table.specs.State.{DeviceState, opened_device}
+use Rattle.drm_state.specs.Outcomes.{cancelled_device, pick_outcome, step_outcome, timeout_outcome}
+use Rattle.drm_state.specs.Refusals.{cancel_refusal, pick_refusal, step_refusal}
+use Rattle.drm_state.specs.State.{DeviceState, opened_device}
 use Rattle.drm_table.specs.Tables.{state_of}
 use Rattle.drm_sched.proofs.HeadEvents.{stand_after, all_by, step_all, timeout_all, PicksJob, pick_picks}
 use Rattle.drm_sched.proofs.MarkedDone.{ring_is_there}

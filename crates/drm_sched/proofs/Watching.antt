@@ -14,14 +14,14 @@ use Rattle.std.proofs.lemmas.Option.{slice_get_within, slice_get-get_or}
 use Rattle.drm_resv.specs.Latest.{IsPerEntity}
 use Rattle.drm_fence.specs.declared.pair.Pair.{Pair}
 use Rattle.drm_fence.specs.Waiting.{unmet_in, HasNoPair, Waiting, without_entity}
-use Rattle.drm_table.specs.declared.journal.JobRecord.{JobRecord}
+use Rattle.drm_state.specs.declared.journal.JobRecord.{JobRecord}
 use Rattle.drm_sched.specs.Heads.{AreWatched}
-use Rattle.drm_table.specs.Journal.{is_at}
-use Rattle.drm_table.specs.Order.{is_met}
+use Rattle.drm_state.specs.Journal.{is_at}
+use Rattle.drm_state.specs.Order.{is_met}
 use Rattle.drm_sched.specs.Watching.{pair_of, unmet_pairs}
-use Rattle.drm_table.proofs.ChoiceIs.{get_take}
-use Rattle.drm_table.proofs.Pairs.{sum_by_agree}
-use Rattle.drm_table.proofs.Records.{to_map}
+use Rattle.drm_state.proofs.ChoiceIs.{get_take}
+use Rattle.drm_state.proofs.Pairs.{sum_by_agree}
+use Rattle.drm_state.proofs.Records.{to_map}
 
 -- tests that agree count alike
 pub count_agree : {X : Type 0} (p q : X → Bool) (xs : List X) → ((x : X) → p x ≡ q x) → count_by p xs ≡ count_by q xs

@@ -12,44 +12,44 @@ use Rattle.drm_fence.specs.declared.phase.Phase.{Phase}
 use Rattle.drm_fence.specs.declared.phase.Phase.TheVariants.{Queued, Scheduled, Ended}
 use Rattle.drm_fence.specs.Phases.{is_queued}
 use Rattle.drm_resv.specs.Reservation.{Reservation}
-use Rattle.drm_table.specs.declared.answer.Expired.{Expired}
-use Rattle.drm_table.specs.declared.answer.Finished.{Finished}
-use Rattle.drm_table.specs.declared.answer.Picked.{Picked}
-use Rattle.drm_table.specs.declared.answer.Stepped.{Stepped}
-use Rattle.drm_table.specs.declared.answer.Answer.{Answer}
-use Rattle.drm_table.specs.declared.answer.Answer.TheVariants as answer
-use Rattle.drm_table.specs.declared.errors.CancelError.{CancelError}
-use Rattle.drm_table.specs.declared.errors.FinishError.{FinishError}
-use Rattle.drm_table.specs.declared.errors.PickError.{PickError}
-use Rattle.drm_table.specs.declared.errors.ReapError.{ReapError}
-use Rattle.drm_table.specs.declared.errors.StepError.{StepError}
-use Rattle.drm_table.specs.Errors.{refusal_of_cancel, refusal_of_finish, refusal_of_pick, refusal_of_reap, refusal_of_step}
-use Rattle.drm_table.specs.declared.answer.Refusal.TheVariants.{Nothing, Waits}
-use Rattle.drm_table.specs.declared.journal.JobRecord.{JobRecord}
+use Rattle.drm_state.specs.declared.answer.Expired.{Expired}
+use Rattle.drm_state.specs.declared.answer.Finished.{Finished}
+use Rattle.drm_state.specs.declared.answer.Picked.{Picked}
+use Rattle.drm_state.specs.declared.answer.Stepped.{Stepped}
+use Rattle.drm_state.specs.declared.answer.Answer.{Answer}
+use Rattle.drm_state.specs.declared.answer.Answer.TheVariants as answer
+use Rattle.drm_state.specs.declared.errors.CancelError.{CancelError}
+use Rattle.drm_state.specs.declared.errors.FinishError.{FinishError}
+use Rattle.drm_state.specs.declared.errors.PickError.{PickError}
+use Rattle.drm_state.specs.declared.errors.ReapError.{ReapError}
+use Rattle.drm_state.specs.declared.errors.StepError.{StepError}
+use Rattle.drm_state.specs.Errors.{refusal_of_cancel, refusal_of_finish, refusal_of_pick, refusal_of_reap, refusal_of_step}
+use Rattle.drm_state.specs.declared.answer.Refusal.TheVariants.{Nothing, Waits}
+use Rattle.drm_state.specs.declared.journal.JobRecord.{JobRecord}
 use Rattle.drm_table.specs.declared.table.Table.{Table}
-use Rattle.drm_table.specs.Answers.{picked, stepped, finished, timed_out}
-use Rattle.drm_table.specs.Arming.{armed_device, new_record}
-use Rattle.drm_table.specs.Choice.{choice, queue_of}
-use Rattle.drm_table.specs.Grows.{GoesOn, Grows}
-use Rattle.drm_table.specs.Journal.{is_at, is_complete, changed_at}
-use Rattle.drm_table.specs.Keeps.{word_of, word_at, Keeps, KeepsBut, KeepsArmed}
-use Rattle.drm_table.specs.Outcomes.{at_record, picked_device, must_stall, ran_device, stepped_by, finished_device, final_outcome, hung, hung_device, condemned, condemned_device, is_too_much, hang_outcome, timeout_at, pick_outcome, step_outcome, finish_outcome, timeout_outcome, reap_outcome, cancelled_device, ended_at}
-use Rattle.drm_table.specs.Refusals.{arm_refusal, pick_refusal, step_refusal, finish_refusal, cancel_refusal, reap_refusal, must_still_wait}
-use Rattle.drm_table.specs.Reservation.{Fits}
-use Rattle.drm_table.specs.Ring.{limit_of, head_of, current_of, age_of, is_guilty, is_stopped}
-use Rattle.drm_table.specs.State.{DeviceState}
+use Rattle.drm_state.specs.Answers.{picked, stepped, finished, timed_out}
+use Rattle.drm_state.specs.Arming.{armed_device, new_record}
+use Rattle.drm_state.specs.Choice.{choice, queue_of}
+use Rattle.drm_state.specs.Grows.{GoesOn, Grows}
+use Rattle.drm_state.specs.Journal.{is_at, is_complete, changed_at}
+use Rattle.drm_state.specs.Keeps.{word_of, word_at, Keeps, KeepsBut, KeepsArmed}
+use Rattle.drm_state.specs.Outcomes.{at_record, picked_device, must_stall, ran_device, stepped_by, finished_device, final_outcome, hung, hung_device, condemned, condemned_device, is_too_much, hang_outcome, timeout_at, pick_outcome, step_outcome, finish_outcome, timeout_outcome, reap_outcome, cancelled_device, ended_at}
+use Rattle.drm_state.specs.Refusals.{arm_refusal, pick_refusal, step_refusal, finish_refusal, cancel_refusal, reap_refusal, must_still_wait}
+use Rattle.drm_state.specs.Reservation.{Fits}
+use Rattle.drm_state.specs.Ring.{limit_of, head_of, current_of, age_of, is_guilty, is_stopped}
+use Rattle.drm_state.specs.State.{DeviceState}
 use Rattle.drm_table.specs.Tables.{state_of, IsWhole}
 use Rattle.std.proofs.lemmas.Option.{slice_get_within}
 use Rattle.drm_table.proofs.ArmDone.{may_arm}
-use Rattle.drm_table.proofs.ChoiceIs.{choice_is}
-use Rattle.drm_table.proofs.Covering.{not_declared}
-use Rattle.drm_table.specs.Events.{IsKept}
-use Rattle.drm_table.proofs.DeviceSteps.{not_when, pick_kept, step_kept, finish_kept, timeout_kept, cancel_kept, reap_kept}
-use Rattle.drm_table.proofs.FitsKept.{fits_kept, unused_fits, get_at_push}
-use Rattle.drm_table.proofs.Pairs.{get_set_same, get_set_other}
-use Rattle.drm_table.proofs.PickLawful.{given}
-use Rattle.drm_table.proofs.ReapLawful.{reapable}
-use Rattle.drm_table.proofs.Records.{changed_is}
+use Rattle.drm_state.proofs.ChoiceIs.{choice_is}
+use Rattle.drm_state.proofs.Covering.{not_declared}
+use Rattle.drm_state.specs.Events.{IsKept}
+use Rattle.drm_state.proofs.DeviceSteps.{not_when, pick_kept, step_kept, finish_kept, timeout_kept, cancel_kept, reap_kept}
+use Rattle.drm_state.proofs.FitsKept.{fits_kept, unused_fits, get_at_push}
+use Rattle.drm_state.proofs.Pairs.{get_set_same, get_set_other}
+use Rattle.drm_state.proofs.PickLawful.{given}
+use Rattle.drm_state.proofs.ReapLawful.{reapable}
+use Rattle.drm_state.proofs.Records.{changed_is}
 
 -- ---- one record
 

@@ -2,16 +2,16 @@
 use Rattle.std.specs.Prelude.{◌≡◌, ℕ, IsTrue, Bool, false, if◌then◌else◌, List, Option, Some, None, option_map, slice_get}
 use Rattle.drm_packet.specs.declared.Packet.{Packet}
 use Rattle.drm_packet.specs.Parts.{part_effect, fits_parts}
-use Rattle.drm_table.specs.declared.answer.Answer.TheVariants as answer
-use Rattle.drm_table.specs.declared.answer.Refusal.{Refusal}
-use Rattle.drm_table.specs.declared.answer.Refusal.TheVariants.{PacketOut}
-use Rattle.drm_table.specs.declared.journal.JobRecord.{JobRecord}
+use Rattle.drm_state.specs.declared.answer.Answer.TheVariants as answer
+use Rattle.drm_state.specs.declared.answer.Refusal.{Refusal}
+use Rattle.drm_state.specs.declared.answer.Refusal.TheVariants.{PacketOut}
+use Rattle.drm_state.specs.declared.journal.JobRecord.{JobRecord}
 use Rattle.drm_sched.specs.declared.marked.Begun.{Begun}
 use Rattle.drm_sched.specs.declared.marked.Begun.TheVariants.{Work, Stalled}
 use Rattle.drm_sched.specs.Marks.{Mark, MarkedDevice, Task, IsBusy, mark_of, mark_for, packet_at, begun_device, reported_device}
-use Rattle.drm_table.specs.Outcomes.{must_stall, step_outcome}
-use Rattle.drm_table.specs.Refusals.{step_refusal}
-use Rattle.drm_table.specs.Ring.{current_of}
+use Rattle.drm_state.specs.Outcomes.{must_stall, step_outcome}
+use Rattle.drm_state.specs.Refusals.{step_refusal}
+use Rattle.drm_state.specs.Ring.{current_of}
 
 -- the refusal of a call that a packet which is out comes before
 abbrev pub out_or : Bool → Option Refusal → Option Refusal

@@ -1,10 +1,10 @@
 -- Which head goes first at a pick.
 use Rattle.std.specs.Prelude.{◌≡◌, ℕ, Bool, ◌&&◌, ◌||◌, ◌==◌, nat_lt, IsTrue, Some, slice_get}
 use Rattle.drm_types.specs.Priorities.{rank_of}
-use Rattle.drm_table.specs.declared.journal.JobRecord.{JobRecord}
+use Rattle.drm_state.specs.declared.journal.JobRecord.{JobRecord}
 use Rattle.drm_runq.specs.declared.key.Key.{Key}
-use Rattle.drm_table.specs.State.{DeviceState}
-use Rattle.drm_table.specs.Choice.{is_head_of, may_begin}
+use Rattle.drm_state.specs.State.{DeviceState}
+use Rattle.drm_state.specs.Choice.{is_head_of, may_begin}
 
 -- whether a candidate goes first: of a higher priority, or of the same and with a lower number
 abbrev pub goes_first : Key → Key → Bool

@@ -7,9 +7,9 @@ use Rattle.drm_types.specs.Firsts.{first}
 use Rattle.drm_fence.specs.declared.pair.Pair.{Pair}
 use Rattle.drm_runq.specs.declared.key.Key.{Key}
 use Rattle.drm_sched.specs.declared.heads.Heads.{Heads}
-use Rattle.drm_table.specs.State.{DeviceState}
-use Rattle.drm_table.specs.Choice.{queue_of}
-use Rattle.drm_table.specs.Ring.{is_stopped}
+use Rattle.drm_state.specs.State.{DeviceState}
+use Rattle.drm_state.specs.Choice.{queue_of}
+use Rattle.drm_state.specs.Ring.{is_stopped}
 use Rattle.drm_sched.specs.Watching.{watched_of}
 
 -- the keys of a ring, and the run queues with one key changed

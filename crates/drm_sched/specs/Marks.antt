@@ -6,11 +6,11 @@ use Rattle.drm_buffer.specs.Memory.{bytes_of}
 use Rattle.drm_packet.specs.declared.Packet.{Packet}
 use Rattle.drm_packet.specs.Touches.{touches}
 use Rattle.drm_packet.specs.Parts.{target_of, other_bytes}
-use Rattle.drm_table.specs.declared.journal.JobRecord.{JobRecord}
-use Rattle.drm_table.specs.State.{DeviceState}
-use Rattle.drm_table.specs.Ring.{current_of}
-use Rattle.drm_table.specs.Outcomes.{must_stall, next_packet, ran_device}
-use Rattle.drm_table.specs.Steady.{IsSteady}
+use Rattle.drm_state.specs.declared.journal.JobRecord.{JobRecord}
+use Rattle.drm_state.specs.State.{DeviceState}
+use Rattle.drm_state.specs.Ring.{current_of}
+use Rattle.drm_state.specs.Outcomes.{must_stall, next_packet, ran_device}
+use Rattle.drm_state.specs.Steady.{IsSteady}
 
 -- what a ring has out: the job and the number of its packet, and the bytes of the packet's buffers as they went out
 pub record Mark : Type 0 where

@@ -4,12 +4,12 @@ use Rattle.std.specs.Option.{option_map_or}
 use Rattle.std.specs.List.{filter, count_by}
 use Rattle.drm_types.specs.Firsts.{first}
 use Rattle.drm_fence.specs.declared.pair.Pair.{Pair}
-use Rattle.drm_table.specs.declared.journal.JobRecord.{JobRecord}
-use Rattle.drm_table.specs.State.{DeviceState}
-use Rattle.drm_table.specs.Journal.{is_at}
-use Rattle.drm_table.specs.Order.{is_met}
-use Rattle.drm_table.specs.Choice.{queue_of}
-use Rattle.drm_table.specs.Ring.{is_stopped}
+use Rattle.drm_state.specs.declared.journal.JobRecord.{JobRecord}
+use Rattle.drm_state.specs.State.{DeviceState}
+use Rattle.drm_state.specs.Journal.{is_at}
+use Rattle.drm_state.specs.Order.{is_met}
+use Rattle.drm_state.specs.Choice.{queue_of}
+use Rattle.drm_state.specs.Ring.{is_stopped}
 
 -- a dependency of an entity's head as a pair: it is met early where its job is on the head's ring
 abbrev pub pair_of : List JobRecord → ℕ → ℕ → ℕ × ℕ → Pair

@@ -5,27 +5,27 @@ ghost use Rattle.drm_buffer.specs.Memory.{bytes_of, sizes_of};
 ghost use Rattle.drm_buffer.specs.Stored.{is_out_of};
 ghost use Rattle.drm_fence.specs.declared.phase.Phase.TheVariants.{Ended};
 ghost use Rattle.drm_fence.specs.Phases.{has_ended, status_of};
-ghost use Rattle.drm_table.specs.declared.answer.Answer.TheVariants as answer;
-ghost use Rattle.drm_table.specs.Answers.{picked, stepped, finished, timed_out};
-ghost use Rattle.drm_table.specs.Arming.{armed_device, load as load_of};
+ghost use Rattle.drm_state.specs.declared.answer.Answer.TheVariants as answer;
+ghost use Rattle.drm_state.specs.Answers.{picked, stepped, finished, timed_out};
+ghost use Rattle.drm_state.specs.Arming.{armed_device, load as load_of};
 ghost use Rattle.drm_table.specs.Building.{RefusesToBuild};
-ghost use Rattle.drm_table.specs.Plans.{DepsCover, all_named};
-ghost use Rattle.drm_table.specs.Grows.{Grows};
-ghost use Rattle.drm_table.specs.Lawful.{IsLawfulDevice};
-ghost use Rattle.drm_table.specs.Held.{HaveRoom, buffers_of, kept_of, armed_held, AllFit};
-ghost use Rattle.drm_table.specs.Keeps.{Keeps, KeepsBut, KeepsArmed, word_of};
-ghost use Rattle.drm_table.specs.Writers.{HaveEnded};
-ghost use Rattle.drm_table.specs.Reservation.{Fits};
-ghost use Rattle.drm_table.specs.declared.answer.Refusal.TheVariants as refusal;
+ghost use Rattle.drm_state.specs.Plans.{DepsCover, all_named};
+ghost use Rattle.drm_state.specs.Grows.{Grows};
+ghost use Rattle.drm_state.specs.Lawful.{IsLawfulDevice};
+ghost use Rattle.drm_state.specs.Held.{HaveRoom, buffers_of, kept_of, armed_held, AllFit};
+ghost use Rattle.drm_state.specs.Keeps.{Keeps, KeepsBut, KeepsArmed, word_of};
+ghost use Rattle.drm_state.specs.Writers.{HaveEnded};
+ghost use Rattle.drm_state.specs.Reservation.{Fits};
+ghost use Rattle.drm_state.specs.declared.answer.Refusal.TheVariants as refusal;
 ghost use Rattle.drm_job.specs.Fault.{IsJob};
-ghost use Rattle.drm_table.specs.Outcomes.{pick_outcome, step_outcome, finish_outcome, timeout_outcome, cancelled_device, reap_outcome};
-ghost use Rattle.drm_table.specs.Refusals.{arm_refusal, busy_fence, pick_refusal, step_refusal, finish_refusal, cancel_refusal, reap_refusal};
-ghost use Rattle.drm_table.specs.State.{opened_device};
+ghost use Rattle.drm_state.specs.Outcomes.{pick_outcome, step_outcome, finish_outcome, timeout_outcome, cancelled_device, reap_outcome};
+ghost use Rattle.drm_state.specs.Refusals.{arm_refusal, busy_fence, pick_refusal, step_refusal, finish_refusal, cancel_refusal, reap_refusal};
+ghost use Rattle.drm_state.specs.State.{opened_device};
 ghost use Rattle.drm_sched.specs.Begun.{HasBegun, IsReport, HasReported, KeepsTasks, MayRun, out_or, MayComeBack};
 ghost use Rattle.drm_sched.specs.Marks.{is_in_way, is_out, ring_out, unmarked, IsSteadyMarked};
-ghost use Rattle.drm_table.specs.Steady.{IsSteady};
-ghost use Rattle.drm_table.specs.Tables.{fence_state_of};
-ghost use Rattle.drm_table.specs.Errors.{refusal_of_arm, refusal_of_cancel, refusal_of_finish, refusal_of_pick, refusal_of_read, refusal_of_reap, refusal_of_step, refusal_of_timeout};
+ghost use Rattle.drm_state.specs.Steady.{IsSteady};
+ghost use Rattle.drm_state.specs.Records.{fence_state_of};
+ghost use Rattle.drm_state.specs.Errors.{refusal_of_arm, refusal_of_cancel, refusal_of_finish, refusal_of_pick, refusal_of_read, refusal_of_reap, refusal_of_step, refusal_of_timeout};
 
 use crate::marked::{Begun, MarkedTable};
 use crate::scheduler::Scheduler;
@@ -33,11 +33,11 @@ use drm_buffer::Buffer;
 use drm_fence::Timeline;
 use drm_job::Job;
 use drm_resv::{Deps, Resv};
-use drm_table::{
-    ArmError, BuildError, CancelError, Closed, Expired, FinishError, Finished, Held, JobRecord,
-    PickError, Picked, Plan, ReadError, ReapError, StepError, Stepped, Table, TimeoutError,
-    add_held_uses,
+use drm_state::{
+    ArmError, CancelError, Expired, FinishError, Finished, Held, JobRecord, PickError, Picked,
+    Plan, ReadError, ReapError, StepError, Stepped, TimeoutError, add_held_uses,
 };
+use drm_table::{BuildError, Closed, Table};
 use drm_types::{BufferId, DeviceSpec, EntityId, FenceId, Moment, RingId, Sequence};
 use std::alloc::{AllocError, Global};
 use std::marker::Model;

@@ -3,15 +3,16 @@ ghost use Rattle.drm_fence.specs.declared.pair.Pair.{Pair};
 ghost use Rattle.drm_fence.specs.Waiting.{unmet_in, without_early, without_entity, without_fence};
 ghost use Rattle.drm_resv.specs.Latest.{IsPerEntity};
 ghost use Rattle.drm_runq.specs.Keys.{IsFirstReady, NoneReady};
-ghost use Rattle.drm_table.specs.Choice.{choice};
+ghost use Rattle.drm_state.specs.Choice.{choice};
 ghost use Rattle.drm_sched.specs.Heads.{AreWatched, HeadsStand, HeadsStandBut, keys_at, with_key};
-ghost use Rattle.drm_table.specs.Journal.{is_at};
+ghost use Rattle.drm_state.specs.Journal.{is_at};
 ghost use Rattle.drm_table.specs.Tables.{state_of, IsWhole};
 ghost use Rattle.drm_sched.specs.Watching.{unmet_pairs};
 
 use drm_fence::Waiters;
 use drm_runq::RunQueue;
-use drm_table::{JobRecord, Table, is_met};
+use drm_state::{JobRecord, is_met};
+use drm_table::Table;
 use drm_types::{DeviceSpec, EntityId, FenceId, Priority, RingId};
 use std::alloc::{AllocError, Global};
 

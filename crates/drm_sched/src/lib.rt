@@ -2,8 +2,8 @@
 //! a ring takes next.
 //!
 //! Contracts see a `Device` as its state, with the mark of each packet that is out of it. Each call promises what its
-//! definition says (`drm_table/specs/Refusals`, `Outcomes`), and that the state which it leads to is lawful
-//! (`drm_table/specs/Lawful`): memory is that of the machine that runs the armed jobs one after another. No call but
+//! definition says (`drm_state/specs/Refusals`, `Outcomes`), and that the state which it leads to is lawful
+//! (`drm_state/specs/Lawful`): memory is that of the machine that runs the armed jobs one after another. No call but
 //! `build` takes memory.
 #![tactic(auto)]
 
@@ -13,10 +13,11 @@ mod marked;
 mod scheduler;
 
 pub use device_calls::Device;
-pub use drm_table::{
-    Answer, ArmError, BuildError, CancelError, Closed, Expired, FinishError, Finished, Held,
-    JobRecord, Phase, PickError, Picked, Plan, ReadError, ReapError, Refusal, StepError, Stepped,
-    TimeoutError, add_dependencies, add_use, bytes_stay, choice_is_least, collected_covers,
-    devices_stay_steady, reads_wait_for_writers,
+pub use drm_state::{
+    Answer, ArmError, CancelError, Expired, FinishError, Finished, Held, JobRecord, Phase,
+    PickError, Picked, Plan, ReadError, ReapError, Refusal, StepError, Stepped, TimeoutError,
+    add_dependencies, add_use, bytes_stay, choice_is_least, collected_covers, devices_stay_steady,
+    reads_wait_for_writers,
 };
+pub use drm_table::{BuildError, Closed};
 pub use marked::Begun;

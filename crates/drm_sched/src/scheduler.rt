@@ -1,26 +1,26 @@
 ghost use Rattle.std.specs.Prelude.{◌≡◌, ◌<◌, length, Some, None, IfOk, IfErr, OnOk};
 ghost use Rattle.drm_types.specs.Limits.{spec_fault};
 ghost use Rattle.drm_job.specs.Fault.{IsJob};
-ghost use Rattle.drm_table.specs.declared.answer.Answer.TheVariants as answer;
-ghost use Rattle.drm_table.specs.Answers.{picked, stepped, finished, timed_out};
-ghost use Rattle.drm_table.specs.Arming.{armed_device};
+ghost use Rattle.drm_state.specs.declared.answer.Answer.TheVariants as answer;
+ghost use Rattle.drm_state.specs.Answers.{picked, stepped, finished, timed_out};
+ghost use Rattle.drm_state.specs.Arming.{armed_device};
 ghost use Rattle.drm_sched.specs.Begun.{HasBegun, IsReport, HasReported, MayRun, out_or};
 ghost use Rattle.drm_sched.specs.Marks.{ring_out, is_in_way, unmarked};
 ghost use Rattle.drm_sched.specs.MarkedTables.{marked_of, IsWholeMarked};
-ghost use Rattle.drm_table.specs.Outcomes.{step_outcome, finish_outcome, timeout_outcome, pick_outcome, cancelled_device, reap_outcome};
-ghost use Rattle.drm_table.specs.Plans.{DepsCover, all_named};
-ghost use Rattle.drm_table.specs.Refusals.{step_refusal, finish_refusal, pick_refusal, cancel_refusal, reap_refusal, arm_refusal};
+ghost use Rattle.drm_state.specs.Outcomes.{step_outcome, finish_outcome, timeout_outcome, pick_outcome, cancelled_device, reap_outcome};
+ghost use Rattle.drm_state.specs.Plans.{DepsCover, all_named};
+ghost use Rattle.drm_state.specs.Refusals.{step_refusal, finish_refusal, pick_refusal, cancel_refusal, reap_refusal, arm_refusal};
 ghost use Rattle.drm_sched.specs.Schedulers.{HasHeads};
-ghost use Rattle.drm_table.specs.State.{opened_device};
+ghost use Rattle.drm_state.specs.State.{opened_device};
 ghost use Rattle.drm_table.specs.Tables.{state_of};
-ghost use Rattle.drm_table.specs.Errors.{refusal_of_cancel, refusal_of_finish, refusal_of_pick, refusal_of_reap, refusal_of_step, refusal_of_timeout};
+ghost use Rattle.drm_state.specs.Errors.{refusal_of_cancel, refusal_of_finish, refusal_of_pick, refusal_of_reap, refusal_of_step, refusal_of_timeout};
 
 use crate::heads::Heads;
 use crate::marked::{Begun, MarkedTable};
 use drm_buffer::Buffer;
 use drm_job::Job;
 use drm_resv::Deps;
-use drm_table::{
+use drm_state::{
     CancelError, Expired, FinishError, Finished, PickError, Picked, ReapError, StepError, Stepped,
     TimeoutError,
 };

@@ -1,6 +1,6 @@
 -- Events as a script keeps them: those that bring a job stand without it, and the jobs beside.
 use Rattle.std.specs.Prelude.{◌≡◌, Bool, List, [], ◌∷◌, Option, Some, None, count_by, is_none, length}
-use Rattle.drm_table.specs.declared.answer.Answer.{Answer}
+use Rattle.drm_state.specs.declared.answer.Answer.{Answer}
 use Rattle.drm_core.specs.State.{CoreState}
 use Rattle.drm_core.specs.Step.{Step}
 use Rattle.drm_core.specs.declared.event.Event.{Event}

@@ -21,35 +21,36 @@ use Rattle.drm_fence.specs.declared.phase.Phase.TheVariants.{Queued}
 use Rattle.drm_fence.specs.Fences.{Fences}
 use Rattle.drm_resv.specs.Stored.{ListsWithPlaces}
 use Rattle.drm_entity.specs.Rows.{EntityRows, pushed}
-use Rattle.drm_table.specs.declared.journal.JobRecord.{JobRecord}
-use Rattle.drm_table.specs.declared.loads.Loads.{Loads}
+use Rattle.drm_state.specs.declared.journal.JobRecord.{JobRecord}
+use Rattle.drm_state.specs.declared.loads.Loads.{Loads}
 use Rattle.drm_table.specs.declared.table.Table.{Table}
-use Rattle.drm_table.specs.declared.answer.Refusal.TheVariants.{Stopped, Full, NoFence}
-use Rattle.drm_table.specs.State.{DeviceState}
-use Rattle.drm_table.specs.Arming.{arming_ring, new_record, armed_device, rings_of}
-use Rattle.drm_table.specs.Refusals.{arm_refusal}
-use Rattle.drm_table.specs.Ring.{is_stopped}
-use Rattle.drm_table.specs.Steady.{IsSteady, IsRingOf}
-use Rattle.drm_table.specs.Waits.{IsDependency, DepsStand}
+use Rattle.drm_state.specs.declared.answer.Refusal.TheVariants.{Stopped, Full, NoFence}
+use Rattle.drm_state.specs.State.{DeviceState}
+use Rattle.drm_state.specs.Arming.{arming_ring, new_record, armed_device, rings_of}
+use Rattle.drm_state.specs.Refusals.{arm_refusal}
+use Rattle.drm_state.specs.Ring.{is_stopped}
+use Rattle.drm_state.specs.Steady.{IsSteady, IsRingOf}
+use Rattle.drm_state.specs.Waits.{IsDependency, DepsStand}
 use Rattle.drm_table.specs.Plain.{marks, WaitsStand, QueuesStand}
-use Rattle.drm_table.specs.Loads.{LoadsOf}
-use Rattle.drm_table.specs.Tables.{state_of, fence_state_of, IsWhole}
-use Rattle.drm_table.specs.Plans.{MeetsPlan, DepsCover, all_named, entity_at}
-use Rattle.drm_table.proofs.PickLawful.{get_push_cases}
+use Rattle.drm_state.specs.Loads.{LoadsOf}
+use Rattle.drm_state.specs.Records.{fence_state_of}
+use Rattle.drm_table.specs.Tables.{state_of, IsWhole}
+use Rattle.drm_state.specs.Plans.{MeetsPlan, DepsCover, all_named, entity_at}
+use Rattle.drm_state.proofs.PickLawful.{get_push_cases}
 use Rattle.drm_table.proofs.PickDone.{rings_there}
-use Rattle.drm_table.proofs.Homes.{arming_listed, listed_there}
-use Rattle.drm_table.proofs.LoadsKept.{loads_armed}
-use Rattle.drm_table.proofs.ArmLawful.{arm_steady, get_before_push}
-use Rattle.drm_table.proofs.DeviceSteps.{not_when}
+use Rattle.drm_state.proofs.Homes.{arming_listed, listed_there}
+use Rattle.drm_state.proofs.LoadsKept.{loads_armed}
+use Rattle.drm_state.proofs.ArmLawful.{arm_steady, get_before_push}
+use Rattle.drm_state.proofs.DeviceSteps.{not_when}
 use Rattle.drm_table.proofs.TableFacts.{entity_row_there}
 use Rattle.drm_table.proofs.Queues.{marks_pushed, stands_pushed}
-use Rattle.drm_table.proofs.Records.{stands_within, at_test}
-use Rattle.drm_table.proofs.Notes.{Reaches, each_keeps, each_reaches, each_all}
-use Rattle.drm_table.specs.Rows.{is_open}
+use Rattle.drm_state.proofs.Records.{stands_within, at_test}
+use Rattle.drm_state.proofs.Notes.{Reaches, each_keeps, each_reaches, each_all}
+use Rattle.drm_state.specs.Rows.{is_open}
 use Rattle.drm_table.proofs.RowsKept.{rows_same}
-use Rattle.drm_table.specs.Journal.{is_complete}
-use Rattle.drm_table.proofs.Growth.{arm_grows}
-use Rattle.drm_table.specs.Grows.{Grows}
+use Rattle.drm_state.specs.Journal.{is_complete}
+use Rattle.drm_state.proofs.Growth.{arm_grows}
+use Rattle.drm_state.specs.Grows.{Grows}
 
 -- an entity of a job is below 64
 pub few_entities : (spec : DeviceSpec) (job : Draft) → spec_fault spec ≡ None → IsJob spec job → (job.entity < length spec.entities) × (job.entity < 64)

@@ -8,17 +8,17 @@ use Rattle.drm_types.specs.declared.spec.DeviceSpec.{DeviceSpec}
 use Rattle.drm_types.specs.Limits.{spec_fault, spec_tests, whole, is_between}
 use Rattle.drm_types.proofs.Firsts.{none_at, none_when}
 use Rattle.drm_fence.specs.Phases.{has_ended}
-use Rattle.drm_table.specs.declared.journal.JobRecord.{JobRecord}
+use Rattle.drm_state.specs.declared.journal.JobRecord.{JobRecord}
 use Rattle.drm_table.specs.declared.table.Table.{Table}
-use Rattle.drm_table.specs.Arming.{load, is_live, less_loaded, live_ring, rings_of}
-use Rattle.drm_table.specs.Loads.{owner_of}
+use Rattle.drm_state.specs.Arming.{load, is_live, less_loaded, live_ring, rings_of}
+use Rattle.drm_state.specs.Loads.{owner_of}
 use Rattle.drm_table.specs.Tables.{state_of, IsWhole}
-use Rattle.drm_table.proofs.Records.{to_map, stands_within}
-use Rattle.drm_table.proofs.Pairs.{find_first}
-use Rattle.drm_table.proofs.Pending.{contains_at}
+use Rattle.drm_state.proofs.Records.{to_map, stands_within}
+use Rattle.drm_state.proofs.Pairs.{find_first}
+use Rattle.drm_state.proofs.Pending.{contains_at}
 use Rattle.drm_table.proofs.ArmDone.{ring_of_entity_there}
-use Rattle.drm_table.proofs.Homes.{one_ring, none_passes}
-use Rattle.drm_table.proofs.LoadsKept.{load_is, few_live, few_ended}
+use Rattle.drm_state.proofs.Homes.{one_ring, none_passes}
+use Rattle.drm_state.proofs.LoadsKept.{load_is, few_live, few_ended}
 
 -- the jobs of a device can be counted in 16 bits
 few_jobs : (spec : DeviceSpec) → spec_fault spec ≡ None → spec.max_jobs ≤ 65535

@@ -9,22 +9,23 @@ use Rattle.drm_types.specs.declared.spec.DeviceSpec.{DeviceSpec}
 use Rattle.drm_entity.specs.Rows.{EntityRow, EntityRows}
 use Rattle.drm_buffer.specs.Memory.{sizes_of}
 use Rattle.drm_buffer.specs.Stored.{Stored, all_in}
-use Rattle.drm_table.specs.declared.journal.JobRecord.{JobRecord}
-use Rattle.drm_table.specs.declared.table.RingJobs.{RingJobs}
+use Rattle.drm_state.specs.declared.journal.JobRecord.{JobRecord}
+use Rattle.drm_state.specs.declared.rows.RingJobs.{RingJobs}
 use Rattle.drm_table.specs.declared.table.Table.{Table}
-use Rattle.drm_table.specs.State.{DeviceState, opened_device}
-use Rattle.drm_table.specs.Steady.{IsSteady}
+use Rattle.drm_state.specs.State.{DeviceState, opened_device}
+use Rattle.drm_state.specs.Steady.{IsSteady}
 use Rattle.drm_table.specs.Plain.{marks_of, marks, WaitsStand, QueuesStand}
-use Rattle.drm_table.specs.Loads.{LoadsOf}
-use Rattle.drm_table.specs.Rows.{is_open, passed_of, RowsStand}
-use Rattle.drm_table.specs.Tables.{state_of, ring_state_of, fence_state_of, HasRooms, IsWhole}
+use Rattle.drm_state.specs.Loads.{LoadsOf}
+use Rattle.drm_state.specs.Rows.{is_open, passed_of, RowsStand, ring_state_of}
+use Rattle.drm_state.specs.Records.{fence_state_of}
+use Rattle.drm_table.specs.Tables.{state_of, HasRooms, IsWhole}
 use Rattle.drm_table.specs.Building.{HaveRoomFor, AreBlank}
-use Rattle.drm_table.proofs.LoadsKept.{loads_blank}
-use Rattle.drm_table.proofs.Opening.{opened_steady}
-use Rattle.drm_table.proofs.PickLawful.{get_push_cases}
+use Rattle.drm_state.proofs.LoadsKept.{loads_blank}
+use Rattle.drm_state.proofs.Opening.{opened_steady}
+use Rattle.drm_state.proofs.PickLawful.{get_push_cases}
 use Rattle.std.specs.VecDeque.{deque_capacity}
 use Rattle.drm_ring.specs.Counted.{Counted}
-use Rattle.drm_table.specs.Ring.{credit_limit_of, credits_of}
+use Rattle.drm_state.specs.Ring.{credit_limit_of, credits_of}
 
 -- the same for each element
 pub map_to_same : {X Y : Type 0} (y : Y) (xs : List X) → map (λ x. y) xs ≡ replicate (length xs) y

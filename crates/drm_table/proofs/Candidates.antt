@@ -8,16 +8,16 @@ use Rattle.drm_types.specs.Firsts.{first}
 use Rattle.drm_fence.specs.declared.phase.Phase.{Phase}
 use Rattle.drm_fence.specs.declared.phase.Phase.TheVariants.{Queued, Scheduled, Ended}
 use Rattle.drm_fence.specs.Phases.{is_queued, has_ended}
-use Rattle.drm_table.specs.declared.journal.JobRecord.{JobRecord}
-use Rattle.drm_table.specs.State.{DeviceState}
-use Rattle.drm_table.specs.Journal.{numbered, is_at}
-use Rattle.drm_table.specs.Order.{is_met, is_ready}
-use Rattle.drm_table.specs.Choice.{queue_of, is_head_of}
-use Rattle.drm_table.specs.Steady.{IsSteady}
+use Rattle.drm_state.specs.declared.journal.JobRecord.{JobRecord}
+use Rattle.drm_state.specs.State.{DeviceState}
+use Rattle.drm_state.specs.Journal.{numbered, is_at}
+use Rattle.drm_state.specs.Order.{is_met, is_ready}
+use Rattle.drm_state.specs.Choice.{queue_of, is_head_of}
+use Rattle.drm_state.specs.Steady.{IsSteady}
 use Rattle.drm_table.specs.Plain.{WaitsStand}
-use Rattle.drm_table.proofs.ChoiceIs.{first-filter, numbered_get, is_queued_of}
-use Rattle.drm_table.proofs.Pairs.{find_first}
-use Rattle.drm_table.proofs.LatestStands.{latest_stand, met_goes_down, GoesDown}
+use Rattle.drm_state.proofs.ChoiceIs.{first-filter, numbered_get, is_queued_of}
+use Rattle.drm_state.proofs.Pairs.{find_first}
+use Rattle.drm_state.proofs.LatestStands.{latest_stand, met_goes_down, GoesDown}
 
 -- the number of the head of an entity's queue
 abbrev pub head_number : List JobRecord → ℕ → Option ℕ

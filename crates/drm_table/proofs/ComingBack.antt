@@ -4,17 +4,18 @@ use Rattle.drm_buffer.specs.Stored.{Stored}
 use Rattle.drm_fence.specs.Fences.{Fences}
 use Rattle.drm_packet.specs.declared.Packet.{Packet}
 use Rattle.drm_packet.specs.Effect.{effect}
-use Rattle.drm_table.specs.declared.journal.JobRecord.{JobRecord}
+use Rattle.drm_state.specs.declared.journal.JobRecord.{JobRecord}
 use Rattle.drm_table.specs.declared.table.Table.{Table}
-use Rattle.drm_table.specs.State.{DeviceState}
+use Rattle.drm_state.specs.State.{DeviceState}
 use Rattle.drm_table.specs.Outside.{ComesBack}
-use Rattle.drm_table.specs.Outcomes.{must_stall, ran_device}
-use Rattle.drm_table.specs.Tables.{state_of, ring_state_of}
-use Rattle.drm_table.proofs.Records.{changed_is}
-use Rattle.drm_table.proofs.RanLawful.{one_more_ran}
+use Rattle.drm_state.specs.Outcomes.{must_stall, ran_device}
+use Rattle.drm_state.specs.Rows.{ring_state_of}
+use Rattle.drm_table.specs.Tables.{state_of}
+use Rattle.drm_state.proofs.Records.{changed_is}
+use Rattle.drm_state.proofs.RanLawful.{one_more_ran}
 use Rattle.drm_table.proofs.StepDone.{ran_tables}
-use Rattle.drm_table.specs.declared.table.RingJobs.{RingJobs}
-use Rattle.drm_table.proofs.LoadsKept.{map_set_same}
+use Rattle.drm_state.specs.declared.rows.RingJobs.{RingJobs}
+use Rattle.drm_state.proofs.LoadsKept.{map_set_same}
 
 -- the job of what comes back, and its packet
 pub job_back : (t : Table) (ring number : ℕ) (write read : Option (List ℕ)) (back : ComesBack t ring number write read) (y : JobRecord) → slice_get t.journal.items number ≡ Some y → y ≡ back.job

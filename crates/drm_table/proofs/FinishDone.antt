@@ -10,30 +10,31 @@ use Rattle.drm_types.specs.declared.outcome.Outcome.{Outcome}
 use Rattle.drm_fence.specs.Fences.{Fences}
 use Rattle.drm_fence.specs.declared.phase.Phase.TheVariants.{Ended}
 use Rattle.drm_fence.specs.Phases.{is_queued, has_ended}
-use Rattle.drm_table.specs.declared.journal.JobRecord.{JobRecord}
-use Rattle.drm_table.specs.declared.loads.Loads.{Loads}
-use Rattle.drm_table.specs.declared.table.RingJobs.{RingJobs}
+use Rattle.drm_state.specs.declared.journal.JobRecord.{JobRecord}
+use Rattle.drm_state.specs.declared.loads.Loads.{Loads}
+use Rattle.drm_state.specs.declared.rows.RingJobs.{RingJobs}
 use Rattle.drm_table.specs.declared.table.Table.{Table}
-use Rattle.drm_table.specs.declared.answer.Answer.TheVariants as answer
-use Rattle.drm_table.specs.Journal.{is_at, is_complete}
-use Rattle.drm_table.specs.Ring.{head_of, ring_changed}
-use Rattle.drm_table.specs.Refusals.{finish_refusal}
-use Rattle.drm_table.specs.Outcomes.{final_outcome, ended_at, finish_outcome, finished_device}
+use Rattle.drm_state.specs.declared.answer.Answer.TheVariants as answer
+use Rattle.drm_state.specs.Journal.{is_at, is_complete}
+use Rattle.drm_state.specs.Ring.{head_of, ring_changed}
+use Rattle.drm_state.specs.Refusals.{finish_refusal}
+use Rattle.drm_state.specs.Outcomes.{final_outcome, ended_at, finish_outcome, finished_device}
 use Rattle.drm_table.specs.Plain.{QueuesStand}
-use Rattle.drm_table.specs.Loads.{LoadsOf}
-use Rattle.drm_table.specs.Tables.{state_of, fence_state_of, ring_state_of, popped_at, ending, IsWhole}
-use Rattle.drm_table.proofs.Records.{at_test, changed_is}
+use Rattle.drm_state.specs.Loads.{LoadsOf}
+use Rattle.drm_state.specs.Records.{fence_state_of, ending}
+use Rattle.drm_table.specs.Tables.{state_of, IsWhole}
+use Rattle.drm_state.proofs.Records.{at_test, changed_is}
 use Rattle.drm_table.proofs.Queues.{stands_set}
-use Rattle.drm_table.proofs.FinishLawful.{IsHead, head_is}
-use Rattle.drm_table.specs.Events.{IsKept}
-use Rattle.drm_table.proofs.DeviceSteps.{finish_kept}
-use Rattle.drm_table.proofs.LoadsKept.{loads_ended}
+use Rattle.drm_state.proofs.FinishLawful.{IsHead, head_is}
+use Rattle.drm_state.specs.Events.{IsKept}
+use Rattle.drm_state.proofs.DeviceSteps.{finish_kept}
+use Rattle.drm_state.proofs.LoadsKept.{loads_ended}
 use Rattle.drm_table.proofs.TableFacts.{rings_tie, rooms_kept, row_pending, whole_kept}
-use Rattle.drm_table.proofs.CallsAre.{Left, finish_may, finish_ends}
-use Rattle.drm_table.specs.Rows.{is_open, passed_of}
+use Rattle.drm_state.proofs.CallsAre.{Left, finish_may, finish_ends}
+use Rattle.drm_state.specs.Rows.{is_open, passed_of, ring_state_of, popped_at}
 use Rattle.drm_table.proofs.RowsKept.{open_set, rows_changed, credits_popped}
-use Rattle.drm_table.proofs.Passing.{passed_rest, passed_same}
-use Rattle.drm_table.specs.State.{RingState}
+use Rattle.drm_state.proofs.Passing.{passed_rest, passed_same}
+use Rattle.drm_state.specs.State.{RingState}
 use Rattle.std.specs.VecDeque.{deque_capacity, deque_len}
 use Rattle.drm_ring.specs.Counted.{need_of}
 

@@ -13,33 +13,34 @@ use Rattle.drm_reset.specs.Blame.{blamed}
 use Rattle.drm_entity.specs.Rows.{EntityRow, EntityRows, row_changed}
 use Rattle.drm_reset.specs.declared.verdict.Verdict.{Verdict}
 use Rattle.drm_reset.specs.declared.verdict.Verdict.TheVariants as verdict
-use Rattle.drm_table.specs.declared.answer.Answer.TheVariants as answer
-use Rattle.drm_table.specs.declared.journal.JobRecord.{JobRecord}
-use Rattle.drm_table.specs.declared.table.RingJobs.{RingJobs}
+use Rattle.drm_state.specs.declared.answer.Answer.TheVariants as answer
+use Rattle.drm_state.specs.declared.journal.JobRecord.{JobRecord}
+use Rattle.drm_state.specs.declared.rows.RingJobs.{RingJobs}
 use Rattle.drm_table.specs.declared.table.Table.{Table}
-use Rattle.drm_table.specs.Journal.{is_at, is_complete, changed_at}
-use Rattle.drm_table.specs.Outcomes.{hung, hung_device, condemned, condemned_device, is_too_much, hang_outcome, timeout_at, timeout_outcome}
-use Rattle.drm_table.specs.Recovery.{verdict_at, blamed_by, all_skipped}
+use Rattle.drm_state.specs.Journal.{is_at, is_complete, changed_at}
+use Rattle.drm_state.specs.Outcomes.{hung, hung_device, condemned, condemned_device, is_too_much, hang_outcome, timeout_at, timeout_outcome}
+use Rattle.drm_state.specs.Recovery.{verdict_at, blamed_by, all_skipped}
 use Rattle.drm_table.specs.Plain.{marks, QueuesStand}
-use Rattle.drm_table.specs.Lawful.{IsPendingList}
-use Rattle.drm_table.specs.Ring.{pending_of, head_of, limit_of, age_of, entity_changed}
-use Rattle.drm_table.specs.State.{EntityState, RingState, DeviceState}
-use Rattle.drm_table.specs.Loads.{standing_of, owner_of, LoadsOf}
-use Rattle.drm_table.specs.Tables.{state_of, fence_state_of, ring_state_of, IsWhole}
-use Rattle.drm_table.proofs.CallsAre.{Left, at_record_there}
-use Rattle.drm_table.specs.Events.{IsKept}
-use Rattle.drm_table.proofs.DeviceSteps.{timeout_kept}
-use Rattle.drm_table.proofs.FinishLawful.{IsHead, head_is, set_same}
-use Rattle.drm_table.proofs.Records.{stands_within, at_test, changed_is, to_map, at_index}
-use Rattle.drm_table.proofs.Pairs.{get_set_same, get_set_other}
-use Rattle.drm_table.proofs.Pending.{pending_kept}
-use Rattle.drm_table.proofs.Condemning.{condemned_among}
-use Rattle.drm_table.proofs.LoadsKept.{loads_same, loads_set}
+use Rattle.drm_state.specs.Lawful.{IsPendingList}
+use Rattle.drm_state.specs.Ring.{pending_of, head_of, limit_of, age_of, entity_changed}
+use Rattle.drm_state.specs.State.{EntityState, RingState, DeviceState}
+use Rattle.drm_state.specs.Loads.{standing_of, owner_of, LoadsOf}
+use Rattle.drm_state.specs.Records.{fence_state_of}
+use Rattle.drm_table.specs.Tables.{state_of, IsWhole}
+use Rattle.drm_state.proofs.CallsAre.{Left, at_record_there}
+use Rattle.drm_state.specs.Events.{IsKept}
+use Rattle.drm_state.proofs.DeviceSteps.{timeout_kept}
+use Rattle.drm_state.proofs.FinishLawful.{IsHead, head_is, set_same}
+use Rattle.drm_state.proofs.Records.{stands_within, at_test, changed_is, to_map, at_index}
+use Rattle.drm_state.proofs.Pairs.{get_set_same, get_set_other}
+use Rattle.drm_state.proofs.Pending.{pending_kept}
+use Rattle.drm_state.proofs.Condemning.{condemned_among}
+use Rattle.drm_state.proofs.LoadsKept.{loads_same, loads_set}
 use Rattle.drm_table.proofs.TableFacts.{rings_tie, rooms_kept, row_found, row_pending, entity_there, whole_kept}
 use Rattle.drm_table.proofs.Queues.{marks_changed, stands_set, stands_map, stands_marked}
-use Rattle.drm_table.specs.Rows.{is_open, passed_of, RowStands}
+use Rattle.drm_state.specs.Rows.{is_open, passed_of, RowStands, ring_state_of}
 use Rattle.drm_table.proofs.RowsKept.{open_set, rows_changed, passed_row, passed_alike, credits_alike}
-use Rattle.drm_table.proofs.Passing.{passed_grows}
+use Rattle.drm_state.proofs.Passing.{passed_grows}
 use Rattle.std.proofs.lemmas.Bool.{cases_eq, ne_eqb}
 use Rattle.drm_fence.specs.Phases.{is_scheduled}
 use Rattle.std.specs.VecDeque.{deque_capacity}

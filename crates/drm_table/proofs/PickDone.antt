@@ -20,32 +20,33 @@ use Rattle.drm_fence.specs.declared.phase.Phase.TheVariants.{Scheduled}
 use Rattle.drm_fence.specs.Fences.{Fences}
 use Rattle.drm_fence.specs.Phases.{is_queued}
 use Rattle.drm_entity.specs.Rows.{EntityRows, queue_at, popped}
-use Rattle.drm_table.specs.declared.journal.JobRecord.{JobRecord}
-use Rattle.drm_table.specs.declared.table.RingJobs.{RingJobs}
+use Rattle.drm_state.specs.declared.journal.JobRecord.{JobRecord}
+use Rattle.drm_state.specs.declared.rows.RingJobs.{RingJobs}
 use Rattle.drm_table.specs.declared.table.Table.{Table}
-use Rattle.drm_table.specs.declared.answer.Answer.TheVariants as answer
-use Rattle.drm_table.specs.Journal.{changed_at, is_complete}
-use Rattle.drm_table.specs.Choice.{choice}
-use Rattle.drm_table.specs.Ring.{credits_of, free_credits, credit_limit_of, pending_of, is_guilty, ring_changed}
-use Rattle.drm_table.specs.Refusals.{pick_refusal}
-use Rattle.drm_table.specs.Outcomes.{pick_outcome, picked_device}
-use Rattle.drm_table.specs.Loads.{Standing, LoadsOf}
-use Rattle.drm_table.specs.Tables.{state_of, fence_state_of, ring_state_of, put_in, IsWhole}
-use Rattle.drm_table.proofs.Records.{changed_is, at_index}
-use Rattle.drm_table.proofs.Pending.{contains_at}
-use Rattle.drm_table.specs.Events.{IsKept}
-use Rattle.drm_table.proofs.DeviceSteps.{pick_kept, not_when}
-use Rattle.drm_table.proofs.ChoiceIs.{IsChosen, choice_is}
+use Rattle.drm_state.specs.declared.answer.Answer.TheVariants as answer
+use Rattle.drm_state.specs.Journal.{changed_at, is_complete}
+use Rattle.drm_state.specs.Choice.{choice}
+use Rattle.drm_state.specs.Ring.{credits_of, free_credits, credit_limit_of, pending_of, is_guilty, ring_changed}
+use Rattle.drm_state.specs.Refusals.{pick_refusal}
+use Rattle.drm_state.specs.Outcomes.{pick_outcome, picked_device}
+use Rattle.drm_state.specs.Loads.{Standing, LoadsOf}
+use Rattle.drm_state.specs.Records.{fence_state_of}
+use Rattle.drm_table.specs.Tables.{state_of, IsWhole}
+use Rattle.drm_state.proofs.Records.{changed_is, at_index}
+use Rattle.drm_state.proofs.Pending.{contains_at}
+use Rattle.drm_state.specs.Events.{IsKept}
+use Rattle.drm_state.proofs.DeviceSteps.{pick_kept, not_when}
+use Rattle.drm_state.proofs.ChoiceIs.{IsChosen, choice_is}
 use Rattle.drm_table.proofs.Candidates.{head_number, queued_goes_on}
-use Rattle.drm_table.proofs.LoadsKept.{loads_set}
+use Rattle.drm_state.proofs.LoadsKept.{loads_set}
 use Rattle.drm_table.proofs.TableFacts.{entity_there, rings_tie, rooms_kept, row_pending, whole_kept}
-use Rattle.drm_table.proofs.CallsAre.{Left, pick_may, pick_takes}
+use Rattle.drm_state.proofs.CallsAre.{Left, pick_may, pick_takes}
 use Rattle.drm_table.proofs.Queues.{head_numbered, stands_popped, IsPopped}
-use Rattle.drm_table.specs.Rows.{is_open, passed_of}
+use Rattle.drm_state.specs.Rows.{is_open, passed_of, ring_state_of, put_in}
 use Rattle.drm_table.proofs.RowsKept.{rows_changed, row_job, credits_put}
-use Rattle.drm_table.proofs.Passing.{passed_same, passed_longer}
-use Rattle.drm_table.proofs.Pairs.{get_set_other}
-use Rattle.drm_table.specs.State.{RingState}
+use Rattle.drm_state.proofs.Passing.{passed_same, passed_longer}
+use Rattle.drm_state.proofs.Pairs.{get_set_other}
+use Rattle.drm_state.specs.State.{RingState}
 use Rattle.std.specs.VecDeque.{deque_capacity, deque_len}
 use Rattle.drm_ring.specs.Counted.{need_of}
 

@@ -9,18 +9,18 @@ use Rattle.std.proofs.lemmas.Option.{slice_get_within}
 use Rattle.drm_types.specs.Firsts.{first}
 use Rattle.drm_fence.specs.Phases.{is_queued}
 use Rattle.drm_entity.specs.Rows.{EntityRow, EntityRows, queue_at, row_changed, pushed, popped, IsFresh}
-use Rattle.drm_table.specs.declared.journal.JobRecord.{JobRecord}
-use Rattle.drm_table.specs.State.{EntityState}
-use Rattle.drm_table.specs.Ring.{entity_changed}
-use Rattle.drm_table.specs.Journal.{numbered}
-use Rattle.drm_table.specs.Choice.{queue_of, is_head_of}
+use Rattle.drm_state.specs.declared.journal.JobRecord.{JobRecord}
+use Rattle.drm_state.specs.State.{EntityState}
+use Rattle.drm_state.specs.Ring.{entity_changed}
+use Rattle.drm_state.specs.Journal.{numbered}
+use Rattle.drm_state.specs.Choice.{queue_of, is_head_of}
 use Rattle.drm_table.specs.Plain.{marks_of, marks, queued_of, QueuesStand}
-use Rattle.drm_table.proofs.ChoiceIs.{first-filter, numbered_get, is_queued_of}
-use Rattle.drm_table.proofs.Records.{to_map, stands_within}
-use Rattle.drm_table.proofs.Pairs.{find_first, get_set_same, get_set_other}
-use Rattle.drm_table.proofs.Pending.{place_of}
+use Rattle.drm_state.proofs.ChoiceIs.{first-filter, numbered_get, is_queued_of}
+use Rattle.drm_state.proofs.Records.{to_map, stands_within}
+use Rattle.drm_state.proofs.Pairs.{find_first, get_set_same, get_set_other}
+use Rattle.drm_state.proofs.Pending.{place_of}
 use Rattle.drm_table.proofs.Candidates.{head_number}
-use Rattle.drm_table.proofs.FinishLawful.{set_same}
+use Rattle.drm_state.proofs.FinishLawful.{set_same}
 
 -- ---- the numbers of a queue
 

@@ -14,38 +14,39 @@ use Rattle.drm_fence.specs.declared.phase.Phase.{Phase}
 use Rattle.drm_fence.specs.declared.phase.Phase.TheVariants.{Queued, Scheduled, Ended}
 use Rattle.drm_fence.specs.Phases.{is_queued, has_ended}
 use Rattle.drm_entity.specs.Rows.{EntityRow, EntityRows, queue_at, row_changed, popped}
-use Rattle.drm_table.specs.declared.answer.Answer.TheVariants as answer
-use Rattle.drm_table.specs.declared.answer.Refusal.TheVariants.{Nothing, Waits}
-use Rattle.drm_table.specs.declared.journal.JobRecord.{JobRecord}
-use Rattle.drm_table.specs.declared.table.RingJobs.{RingJobs}
-use Rattle.drm_table.specs.declared.loads.Loads.{Loads}
+use Rattle.drm_state.specs.declared.answer.Answer.TheVariants as answer
+use Rattle.drm_state.specs.declared.answer.Refusal.TheVariants.{Nothing, Waits}
+use Rattle.drm_state.specs.declared.journal.JobRecord.{JobRecord}
+use Rattle.drm_state.specs.declared.rows.RingJobs.{RingJobs}
+use Rattle.drm_state.specs.declared.loads.Loads.{Loads}
 use Rattle.drm_table.specs.declared.table.Table.{Table}
-use Rattle.drm_table.specs.State.{EntityState}
-use Rattle.drm_table.specs.Choice.{queue_of}
-use Rattle.drm_table.specs.Journal.{numbered, is_at}
-use Rattle.drm_table.specs.Order.{dependencies}
-use Rattle.drm_table.specs.Outcomes.{ended_at, cancelled_device, reap_outcome}
-use Rattle.drm_table.specs.Refusals.{must_still_wait, reap_refusal}
+use Rattle.drm_state.specs.State.{EntityState}
+use Rattle.drm_state.specs.Choice.{queue_of}
+use Rattle.drm_state.specs.Journal.{numbered, is_at}
+use Rattle.drm_state.specs.Order.{dependencies}
+use Rattle.drm_state.specs.Outcomes.{ended_at, cancelled_device, reap_outcome}
+use Rattle.drm_state.specs.Refusals.{must_still_wait, reap_refusal}
 use Rattle.drm_table.specs.Plain.{marks, QueuesStand}
-use Rattle.drm_table.specs.Ring.{is_stopped, pending_of}
-use Rattle.drm_table.specs.Lawful.{IsPendingList}
-use Rattle.drm_table.specs.Stopping.{may_end_after}
-use Rattle.drm_table.specs.Loads.{LoadsOf}
-use Rattle.drm_table.specs.Tables.{state_of, fence_state_of, IsWhole}
-use Rattle.drm_table.proofs.CallsAre.{Left}
+use Rattle.drm_state.specs.Ring.{is_stopped, pending_of}
+use Rattle.drm_state.specs.Lawful.{IsPendingList}
+use Rattle.drm_state.specs.Stopping.{may_end_after}
+use Rattle.drm_state.specs.Loads.{LoadsOf}
+use Rattle.drm_state.specs.Records.{fence_state_of}
+use Rattle.drm_table.specs.Tables.{state_of, IsWhole}
+use Rattle.drm_state.proofs.CallsAre.{Left}
 use Rattle.drm_table.proofs.Candidates.{head_number, head_found, queued_goes_on}
-use Rattle.drm_table.proofs.ChoiceIs.{get_numbered, get_take, all_of_filter, in_filter, head_of_queue}
-use Rattle.drm_table.specs.Events.{IsKept}
-use Rattle.drm_table.proofs.DeviceSteps.{cancel_kept, reap_kept}
-use Rattle.drm_table.proofs.LatestStands.{all_at, all_from, same_test, in_front, latest_stand, ended_goes_down}
-use Rattle.drm_table.proofs.Pending.{contains_at, place_of}
-use Rattle.drm_table.proofs.Records.{stands_within, at_test, changed_is, at_index}
+use Rattle.drm_state.proofs.ChoiceIs.{get_numbered, get_take, all_of_filter, in_filter, head_of_queue}
+use Rattle.drm_state.specs.Events.{IsKept}
+use Rattle.drm_state.proofs.DeviceSteps.{cancel_kept, reap_kept}
+use Rattle.drm_state.proofs.LatestStands.{all_at, all_from, same_test, in_front, latest_stand, ended_goes_down}
+use Rattle.drm_state.proofs.Pending.{contains_at, place_of}
+use Rattle.drm_state.proofs.Records.{stands_within, at_test, changed_is, at_index}
 use Rattle.drm_table.proofs.ArmDone.{few_entities, ring_of_entity_there}
-use Rattle.drm_table.proofs.Homes.{one_ring}
-use Rattle.drm_table.proofs.LoadsKept.{loads_ended}
+use Rattle.drm_state.proofs.Homes.{one_ring}
+use Rattle.drm_state.proofs.LoadsKept.{loads_ended}
 use Rattle.drm_table.proofs.TableFacts.{entity_row_there, row_found, row_pending, whole_kept}
 use Rattle.drm_table.proofs.Queues.{IsFront, front_is, marks_changed, stands_marked, stands_popped, IsPopped}
-use Rattle.drm_table.specs.Rows.{is_open}
+use Rattle.drm_state.specs.Rows.{is_open}
 use Rattle.drm_table.proofs.RowsKept.{rows_same, open_set}
 
 -- tables of which an entity was stopped stay whole

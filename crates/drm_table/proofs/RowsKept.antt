@@ -5,26 +5,26 @@ use Rattle.std.proofs.lemmas.Bool.{cases_eq, ltb-false}
 use Rattle.std.proofs.lemmas.Option.{slice_get_within}
 use Rattle.std.proofs.lemmas.List.{length-map}
 use Rattle.drm_fence.specs.declared.phase.Phase.TheVariants.{Scheduled}
-use Rattle.drm_table.specs.declared.journal.JobRecord.{JobRecord}
-use Rattle.drm_table.specs.declared.table.RingJobs.{RingJobs}
+use Rattle.drm_state.specs.declared.journal.JobRecord.{JobRecord}
+use Rattle.drm_state.specs.declared.rows.RingJobs.{RingJobs}
 use Rattle.drm_table.specs.declared.table.Table.{Table}
-use Rattle.drm_table.specs.State.{RingState, DeviceState}
-use Rattle.drm_table.specs.Journal.{is_complete}
-use Rattle.drm_table.specs.Ring.{pending_of, credits_of, credit_limit_of, free_credits}
-use Rattle.drm_table.specs.Rows.{is_open, RowStands, RowsStand, passed_of}
-use Rattle.drm_table.specs.Tables.{state_of, ring_state_of, IsWhole}
-use Rattle.drm_table.proofs.Records.{at_test, to_map, at_index}
-use Rattle.drm_table.proofs.Pairs.{get_set_same, get_set_other, get_set_cases}
-use Rattle.drm_table.proofs.Pending.{contains_at}
-use Rattle.drm_table.proofs.Passing.{passed_same}
+use Rattle.drm_state.specs.State.{RingState, DeviceState}
+use Rattle.drm_state.specs.Journal.{is_complete}
+use Rattle.drm_state.specs.Ring.{pending_of, credits_of, credit_limit_of, free_credits}
+use Rattle.drm_state.specs.Rows.{is_open, RowStands, RowsStand, passed_of, ring_state_of}
+use Rattle.drm_table.specs.Tables.{state_of, IsWhole}
+use Rattle.drm_state.proofs.Records.{at_test, to_map, at_index}
+use Rattle.drm_state.proofs.Pairs.{get_set_same, get_set_other, get_set_cases}
+use Rattle.drm_state.proofs.Pending.{contains_at}
+use Rattle.drm_state.proofs.Passing.{passed_same}
 use Rattle.std.specs.Prelude.{sum_by, nat_lt}
 use Rattle.std.proofs.lemmas.List.Sums.{sum_by-cons, sum_by_push}
 use Rattle.drm_ring.specs.Counted.{Counted, need_of, free_of}
 use Rattle.drm_types.specs.declared.spec.DeviceSpec.{DeviceSpec}
 use Rattle.drm_types.specs.declared.spec.RingSpec.{RingSpec}
 use Rattle.drm_job.specs.declared.Draft.{Draft}
-use Rattle.drm_table.specs.Grows.{Grows}
-use Rattle.drm_table.proofs.ArmLawful.{sum_by_agree_in}
+use Rattle.drm_state.specs.Grows.{Grows}
+use Rattle.drm_state.proofs.ArmLawful.{sum_by_agree_in}
 
 -- what is open is as it was where one record changed that is as complete as it was
 pub open_set : (js : List JobRecord) (f : ℕ) (r new : JobRecord) → slice_get js f ≡ Some r → is_complete new ≡ is_complete r → (g : ℕ) → is_open (set js f new) g ≡ is_open js g

@@ -6,29 +6,31 @@ use Rattle.drm_buffer.specs.Stored.{Stored}
 use Rattle.drm_packet.specs.declared.Packet.{Packet}
 use Rattle.drm_packet.specs.Effect.{effect}
 use Rattle.drm_fence.specs.Fences.{Fences, with_one_packet_more}
-use Rattle.drm_table.specs.declared.journal.JobRecord.{JobRecord}
+use Rattle.drm_state.specs.declared.journal.JobRecord.{JobRecord}
 use Rattle.drm_table.specs.declared.table.Table.{Table}
-use Rattle.drm_table.specs.declared.answer.Answer.TheVariants as answer
-use Rattle.drm_table.specs.Ring.{current_of}
-use Rattle.drm_table.specs.Outcomes.{must_stall, step_outcome}
-use Rattle.drm_table.specs.Tables.{state_of, fence_state_of, IsWhole, ring_state_of}
-use Rattle.drm_table.proofs.Records.{at_index}
-use Rattle.drm_table.specs.Events.{IsKept}
-use Rattle.drm_table.proofs.DeviceSteps.{step_kept}
-use Rattle.drm_table.proofs.TableFacts.{IsRunning, fence_tie, whole_kept, rooms_kept}
-use Rattle.drm_table.proofs.LoadsKept.{loads_set, map_set_same}
-use Rattle.drm_table.proofs.CallsAre.{Left, step_runs}
+use Rattle.drm_state.specs.declared.answer.Answer.TheVariants as answer
+use Rattle.drm_state.specs.Ring.{current_of}
+use Rattle.drm_state.specs.Outcomes.{must_stall, step_outcome}
+use Rattle.drm_state.specs.Records.{fence_state_of}
+use Rattle.drm_table.specs.Tables.{state_of, IsWhole}
+use Rattle.drm_state.proofs.Records.{at_index}
+use Rattle.drm_state.specs.Events.{IsKept}
+use Rattle.drm_state.proofs.DeviceSteps.{step_kept}
+use Rattle.drm_state.proofs.Alike.{fence_tie}
+use Rattle.drm_table.proofs.TableFacts.{IsRunning, whole_kept, rooms_kept}
+use Rattle.drm_state.proofs.LoadsKept.{loads_set, map_set_same}
+use Rattle.drm_state.proofs.CallsAre.{Left, step_runs}
 use Rattle.drm_table.proofs.Queues.{stands_set}
 use Rattle.std.proofs.lemmas.Option.{slice_get_within}
-use Rattle.drm_table.specs.declared.table.RingJobs.{RingJobs}
-use Rattle.drm_table.specs.Rows.{is_open, passed_of, RowStands}
+use Rattle.drm_state.specs.declared.rows.RingJobs.{RingJobs}
+use Rattle.drm_state.specs.Rows.{is_open, passed_of, RowStands, ring_state_of}
 use Rattle.drm_table.proofs.RowsKept.{done_set, rows_changed, passed_row, credits_alike}
-use Rattle.drm_table.proofs.Passing.{passed_grows}
+use Rattle.drm_state.proofs.Passing.{passed_grows}
 use Rattle.std.proofs.lemmas.Bool.{or_cases, or_left, or_right, leb-true, le-leb}
 use Rattle.std.specs.Prelude.{nat_le}
 use Rattle.std.specs.Option.{option_map_or}
-use Rattle.drm_table.specs.Journal.{is_complete}
-use Rattle.drm_table.proofs.Pairs.{get_set_other}
+use Rattle.drm_state.specs.Journal.{is_complete}
+use Rattle.drm_state.proofs.Pairs.{get_set_other}
 use Rattle.std.specs.VecDeque.{deque_capacity}
 
 -- the tables after the step

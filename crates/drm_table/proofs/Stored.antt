@@ -10,10 +10,10 @@ use Rattle.drm_packet.specs.declared.Packet.{Packet}
 use Rattle.drm_packet.specs.declared.Packet.TheVariants.{Fill, Copy, Add, Stall}
 use Rattle.drm_packet.specs.Touches.{touches, is_within, is_in_range}
 use Rattle.drm_packet.specs.Parts.{target_of, source_of}
-use Rattle.drm_table.specs.declared.journal.JobRecord.{JobRecord}
+use Rattle.drm_state.specs.declared.journal.JobRecord.{JobRecord}
 use Rattle.drm_table.specs.declared.table.Table.{Table}
-use Rattle.drm_table.specs.Ring.{current_of}
-use Rattle.drm_table.specs.Outcomes.{next_packet}
+use Rattle.drm_state.specs.Ring.{current_of}
+use Rattle.drm_state.specs.Outcomes.{next_packet}
 use Rattle.drm_table.specs.Tables.{state_of, IsWhole}
 use Rattle.drm_table.proofs.TableFacts.{running_at, next_in_range}
 

@@ -1,5 +1,5 @@
 -- What is known of the jobs in a device's tables, and how the tables stay whole when they change.
-use Rattle.std.proofs.Common.{◌≡◌, ℕ, ◌<◌, ◌≤◌, Bool, true, false, not, ◌||◌, List, [], length, get_or, set, map, Some, None, Option, refl, sym, ap, subst, ◌∙◌, inl, inr, arith, slice_get}
+use Rattle.std.proofs.Common.{◌≡◌, ℕ, ◌<◌, ◌≤◌, Bool, true, false, not, ◌||◌, List, [], length, get_or, set, map, Some, refl, sym, ap, subst, ◌∙◌, inl, inr, arith, slice_get}
 use Rattle.std.specs.Prelude.{IsTrue, nat_le, nat_lt, vec_capacity, vec_len, Contains, Vec}
 use Rattle.std.specs.Option.{option_map_or}
 use Rattle.std.proofs.lemmas.Bool.{leb-false, ltb-false, ltb-true}
@@ -19,31 +19,29 @@ use Rattle.drm_job.specs.declared.JobFault.TheVariants.{NoEntity, TooMany}
 use Rattle.drm_job.specs.Fault.{job_tests, IsJob}
 use Rattle.drm_types.proofs.Firsts.{none_at, none_when}
 use Rattle.drm_job.proofs.InRange.{runs_in}
-use Rattle.drm_fence.specs.declared.timeline.FenceState.{FenceState}
 use Rattle.drm_fence.specs.declared.phase.Phase.{Phase}
 use Rattle.drm_fence.specs.declared.phase.Phase.TheVariants.{Queued, Scheduled, Ended}
-use Rattle.drm_fence.specs.Fences.{fence_changed}
 use Rattle.drm_fence.specs.Phases.{has_ended}
-use Rattle.drm_table.specs.declared.journal.JobRecord.{JobRecord}
+use Rattle.drm_state.specs.declared.journal.JobRecord.{JobRecord}
 use Rattle.drm_table.specs.declared.table.Table.{Table}
-use Rattle.drm_table.specs.declared.table.RingJobs.{RingJobs}
-use Rattle.drm_table.specs.State.{RingState, DeviceState}
-use Rattle.drm_table.specs.Journal.{is_at}
-use Rattle.drm_table.specs.Ring.{current_of, pending_of, credit_limit_of, ring_changed}
-use Rattle.drm_table.specs.Grows.{Grows, RecordGrows, GoesOn, EachInPlace}
-use Rattle.drm_table.specs.Order.{comes_after}
-use Rattle.drm_table.specs.Waits.{DepsStand, IsDependency}
+use Rattle.drm_state.specs.declared.rows.RingJobs.{RingJobs}
+use Rattle.drm_state.specs.State.{RingState, DeviceState}
+use Rattle.drm_state.specs.Ring.{current_of, pending_of, credit_limit_of, ring_changed}
+use Rattle.drm_state.specs.Grows.{Grows, RecordGrows, GoesOn, EachInPlace}
+use Rattle.drm_state.specs.Order.{comes_after}
+use Rattle.drm_state.specs.Waits.{DepsStand, IsDependency}
 use Rattle.drm_table.specs.Plain.{marks_of, WaitsStand, QueuesStand}
-use Rattle.drm_table.specs.Loads.{LoadsOf}
-use Rattle.drm_table.specs.Rows.{RowsStand}
-use Rattle.drm_table.specs.Tables.{state_of, fence_state_of, ring_state_of, IsWhole, HasRooms}
-use Rattle.drm_table.proofs.Records.{to_map, at_index}
-use Rattle.drm_table.proofs.Pairs.{get_set_cases}
-use Rattle.drm_table.proofs.RingChange.{ring_changed_is}
-use Rattle.drm_table.proofs.Pending.{contains_at}
-use Rattle.drm_table.proofs.RanLawful.{IsCurrent, current_is}
-use Rattle.drm_table.specs.Events.{IsKept}
-use Rattle.drm_table.proofs.DeviceSteps.{not_when}
+use Rattle.drm_state.specs.Loads.{LoadsOf}
+use Rattle.drm_state.specs.Rows.{RowsStand, ring_state_of}
+use Rattle.drm_state.specs.Records.{fence_state_of}
+use Rattle.drm_table.specs.Tables.{state_of, IsWhole, HasRooms}
+use Rattle.drm_state.proofs.Records.{to_map, at_index}
+use Rattle.drm_state.proofs.Pairs.{get_set_cases}
+use Rattle.drm_state.proofs.RingChange.{ring_changed_is}
+use Rattle.drm_state.proofs.Pending.{contains_at}
+use Rattle.drm_state.proofs.RanLawful.{IsCurrent, current_is}
+use Rattle.drm_state.specs.Events.{IsKept}
+use Rattle.drm_state.proofs.DeviceSteps.{not_when}
 use Rattle.std.specs.VecDeque.{deque_capacity}
 
 -- neither part of a choice that fails holds
@@ -114,13 +112,6 @@ pub next_in_range : (t : Table) (ring f : ℕ) (r : JobRecord) (p : Packet) → 
 next_in_range t ring f r p w run at =
     All-contains (λ q. IsTrue (is_in_range q t.memory.bytes)) r.job.packets p (runs_in t.spec r.job t.memory.bytes run.job w.sizes) (contains_at r.job.packets r.ran p at)
 
--- the fences stay those of the jobs when a job and its fence change alike
-pub fence_tie : (js : List JobRecord) (fs : List FenceState) (f : ℕ) (r new : JobRecord) (change : FenceState → FenceState) → fs ≡ map fence_state_of js
-    → slice_get js f ≡ Some r → change (fence_state_of r) ≡ fence_state_of new → fence_changed fs f change ≡ map fence_state_of (set js f new)
-fence_tie js fs f r new change tie at same =
-    ap (λ o. option_map_or (λ x. set fs f (change x)) o fs) (ap (λ fs. slice_get fs f) tie ∙ to_map fence_state_of js f r at)
-    ∙ (ap (λ x. set fs f x) same ∙ (ap (λ fs. set fs f (fence_state_of new)) tie ∙ sym (map-set fence_state_of js f new)))
-
 -- what stands in the new journal stood in the old one
 pub grew_from : (old new : List JobRecord) (i : ℕ) (x : JobRecord) → EachInPlace RecordGrows old new → length new ≡ length old → slice_get new i ≡ Some x
     → (o : JobRecord) × (slice_get old i ≡ Some o) × RecordGrows o x
@@ -181,18 +172,6 @@ whole_kept t u w kept fences waits queues loads rows sizes rooms =
 -- an index of a list that has something there is an index of its vector
 pub vec_holds : {X Z : Type 0} (v : Vec X Z) (i : ℕ) (x : X) → slice_get v.items i ≡ Some x → i < vec_len v
 vec_holds v i x at = subst (λ n. i < n) (sym v.ok.0) (slice_get_within v.items i x at)
-
--- a test that is passed at a number finds a record there
-pub passes_at : (js : List JobRecord) (f : ℕ) (test : JobRecord → Bool) → is_at js f test ≡ true → (r : JobRecord) × (slice_get js f ≡ Some r) × (test r ≡ true)
-passes_at js f test is = by_record (slice_get js f) refl is
-  where
-    by_record : (o : Option JobRecord) → slice_get js f ≡ o → option_map_or test o false ≡ true → (r : JobRecord) × (slice_get js f ≡ Some r) × (test r ≡ true)
-    by_record None at none = absurd (let never : false ≡ true = none in cc (never))
-    by_record (Some r) at some = (r, at, some)
-
--- and an index finds that record
-pub found_by_test : (js : List JobRecord) (f : ℕ) (test : JobRecord → Bool) (x : JobRecord) → is_at js f test ≡ true → x ≡ get_or js f x → slice_get js f ≡ Some x
-found_by_test js f test x is x_is = let there = passes_at js f test is in at_index js f x x_is (slice_get_within js f there.0 there.1)
 
 -- the ring states after one row changed
 pub rings_tie : (rows : List RingJobs) (ring : ℕ) (row new : RingJobs) (change : RingState → RingState) → slice_get rows ring ≡ Some row

@@ -4,7 +4,7 @@ use Rattle.std.specs.Option.{option_map_or}
 use Rattle.drm_types.specs.declared.spec.RingSpec.{RingSpec}
 use Rattle.drm_types.specs.declared.spec.DeviceSpec.{DeviceSpec}
 use Rattle.drm_types.specs.Limits.{spec_fault}
-use Rattle.drm_table.specs.declared.table.RingJobs.{RingJobs}
+use Rattle.drm_state.specs.declared.rows.RingJobs.{RingJobs}
 use Rattle.drm_table.specs.declared.life.BuildError.{BuildError}
 use Rattle.drm_table.specs.declared.life.BuildError.TheVariants.{Spec, Memory}
 use Rattle.std.specs.VecDeque.{deque_capacity}

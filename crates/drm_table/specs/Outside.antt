@@ -7,10 +7,10 @@ use Rattle.drm_buffer.specs.Stored.{is_out_of, set_out}
 use Rattle.drm_packet.specs.declared.Packet.{Packet}
 use Rattle.drm_packet.specs.Touches.{touches}
 use Rattle.drm_packet.specs.Parts.{target_of, source_of, part_effect, other_bytes}
-use Rattle.drm_table.specs.declared.journal.JobRecord.{JobRecord}
+use Rattle.drm_state.specs.declared.journal.JobRecord.{JobRecord}
 use Rattle.drm_table.specs.declared.table.Table.{Table}
-use Rattle.drm_table.specs.Outcomes.{must_stall, next_packet, ran_device}
-use Rattle.drm_table.specs.Ring.{current_of}
+use Rattle.drm_state.specs.Outcomes.{must_stall, next_packet, ran_device}
+use Rattle.drm_state.specs.Ring.{current_of}
 use Rattle.drm_table.specs.Tables.{state_of}
 
 -- whether a buffer of the ring's next packet is marked out in the memory

@@ -2,10 +2,10 @@
 use Rattle.std.specs.Prelude.{◌≡◌, ℕ, ◌<◌, List, length, map, Some, slice_get, IsFalse}
 use Rattle.drm_fence.specs.Phases.{has_ended}
 use Rattle.drm_entity.specs.Rows.{EntityRow, EntityRows, queue_at}
-use Rattle.drm_table.specs.declared.journal.JobRecord.{JobRecord}
-use Rattle.drm_table.specs.State.{EntityState}
-use Rattle.drm_table.specs.Choice.{queue_of}
-use Rattle.drm_table.specs.Waits.{DepsStand}
+use Rattle.drm_state.specs.declared.journal.JobRecord.{JobRecord}
+use Rattle.drm_state.specs.State.{EntityState}
+use Rattle.drm_state.specs.Choice.{queue_of}
+use Rattle.drm_state.specs.Waits.{DepsStand}
 
 -- what is kept of the entities beside their queues
 abbrev pub marks_of : EntityRow → EntityState

@@ -1,31 +1,21 @@
 -- The state that a device's tables stand for, and what they keep.
-use Rattle.std.specs.Prelude.{◌≡◌, ℕ, ◌≤◌, false, Contains, ◌==◌, if◌then◌else◌, [], ◌∷◌, ◌++◌, drop, length, map, Option, Some, None, slice_get, vec_capacity}
+use Rattle.std.specs.Prelude.{◌≡◌, ℕ, ◌≤◌, false, Contains, length, map, Some, None, slice_get, vec_capacity}
 use Rattle.drm_types.specs.Limits.{spec_fault}
 use Rattle.drm_buffer.specs.Memory.{sizes_of}
 use Rattle.drm_buffer.specs.Stored.{AreIn}
 use Rattle.drm_packet.specs.declared.Packet.{Packet}
 use Rattle.drm_packet.specs.Touches.{touches}
-use Rattle.drm_fence.specs.declared.timeline.FenceState.{FenceState}
-use Rattle.drm_table.specs.declared.journal.JobRecord.{JobRecord}
-use Rattle.drm_table.specs.declared.table.RingJobs.{RingJobs}
+use Rattle.drm_state.specs.declared.rows.RingJobs.{RingJobs}
 use Rattle.drm_table.specs.declared.table.Table.{Table}
-use Rattle.drm_table.specs.State.{RingState, DeviceState}
-use Rattle.drm_table.specs.Journal.{is_complete}
-use Rattle.drm_table.specs.Outcomes.{final_outcome, next_packet}
-use Rattle.drm_types.specs.declared.outcome.Outcome.{Outcome}
-use Rattle.drm_table.specs.Ring.{credit_limit_of, current_of}
-use Rattle.drm_table.specs.Steady.{IsSteady}
+use Rattle.drm_state.specs.State.{DeviceState}
+use Rattle.drm_state.specs.Outcomes.{next_packet}
+use Rattle.drm_state.specs.Ring.{credit_limit_of, current_of}
+use Rattle.drm_state.specs.Steady.{IsSteady}
 use Rattle.drm_table.specs.Plain.{marks, WaitsStand, QueuesStand}
-use Rattle.drm_table.specs.Loads.{LoadsOf}
-use Rattle.drm_table.specs.Rows.{RowsStand}
+use Rattle.drm_state.specs.Loads.{LoadsOf}
+use Rattle.drm_state.specs.Rows.{ring_state_of, RowsStand}
+use Rattle.drm_state.specs.Records.{fence_state_of}
 use Rattle.std.specs.VecDeque.{deque_capacity}
-
-abbrev pub ring_state_of : RingJobs → RingState
-ring_state_of row = record { pending = row.pending.items; since = row.since }
-
--- the fence of a job
-abbrev pub fence_state_of : JobRecord → FenceState
-fence_state_of r = record { phase = r.phase; ran = r.ran }
 
 abbrev pub state_of : Table → DeviceState
 state_of t = record {
@@ -35,21 +25,6 @@ state_of t = record {
   rings = map ring_state_of t.rings.items;
   entities = marks t.entities;
 }
-
--- the ring with one more pending job, from now on where it is the first
-abbrev pub put_in : ℕ → ℕ → RingState → RingState
-put_in number now s = record {
-  pending = s.pending ++ number ∷ [];
-  since = if length s.pending == 0 then now else s.since;
-}
-
--- the ring without its head. The next job's age counts from now
-abbrev pub popped_at : ℕ → RingState → RingState
-popped_at now s = record { pending = drop 1 s.pending; since = if length s.pending == 1 then s.since else now }
-
--- how a job ends, where the ring is done with it
-abbrev pub ending : JobRecord → Option Outcome
-ending r = if is_complete r then Some (final_outcome r) else None
 
 -- the room that was taken when the device was opened: for all jobs, in their queues too, and for the pending jobs of each
 -- ring

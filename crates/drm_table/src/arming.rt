@@ -1,46 +1,18 @@
-ghost use Rattle.std.specs.Prelude.{◌≡◌, ℕ, ◌<◌, [], ◌∷◌, ◌++◌, length, Some, None, Option, find, option_map, nat_le, slice_get};
+ghost use Rattle.std.specs.Prelude.{◌≡◌, ◌<◌, [], ◌∷◌, ◌++◌, length, None, option_map};
 ghost use Rattle.drm_job.specs.Fault.{IsJob};
-ghost use Rattle.drm_table.specs.Arming.{armed_device, arming_ring, first_ring, least_loaded, less_loaded, load as load_of, live_ring as live_ring_of, rings_of};
-ghost use Rattle.drm_table.specs.Refusals.{arm_refusal as arm_refusal_of};
+ghost use Rattle.drm_state.specs.Arming.{armed_device, arming_ring, first_ring, least_loaded, less_loaded, load as load_of, live_ring as live_ring_of, rings_of};
+ghost use Rattle.drm_state.specs.Refusals.{arm_refusal as arm_refusal_of};
 ghost use Rattle.drm_table.specs.Tables.{state_of, IsWhole};
-ghost use Rattle.drm_table.specs.Plans.{DepsCover, all_named, entity_at};
-ghost use Rattle.drm_table.specs.Errors.{refusal_of_arm};
+ghost use Rattle.drm_state.specs.Plans.{DepsCover, all_named};
+ghost use Rattle.drm_state.specs.Errors.{refusal_of_arm};
 
-use crate::errors::ArmError;
-use crate::journal::JobRecord;
 use crate::table::Table;
 use drm_fence::Phase;
 use drm_job::Job;
 use drm_reset::Karma;
 use drm_resv::Deps;
+use drm_state::{ArmError, JobRecord, first_unarmed, note_named};
 use drm_types::{EntityId, FenceId, RingId};
-
-// The first of these fences that was not armed yet.
-fn first_unarmed(after: &[FenceId], armed: u32) -> Option<FenceId>
-    ensures { result ≡ find (λ f. nat_le armed f) after.now }
-{
-    after.iter().copied().find(|fence| armed <= *fence)
-}
-
-// The entity of the job of this number.
-fn entity_of(journal: &[JobRecord], fence: FenceId) -> EntityId
-    ensures { result ≡ entity_at journal.now fence }
-{
-    match journal.get(fence as usize) {
-        Some(record) => record.job.entity(),
-        None => 0,
-    }
-}
-
-// The fences that the job names are noted beside those that its reservations ask to wait for.
-fn note_named(journal: &[JobRecord], after: &[FenceId], deps: &mut Deps)
-    requires { (r : JobRecord) (f : ℕ) → slice_get journal.now f ≡ Some r → r.job.entity < 64 }
-    ensures { deps.new ≡ all_named journal.now deps.old after.now }
-{
-    for fence in after {
-        deps.note(entity_of(journal, *fence), *fence);
-    }
-}
 
 impl Table {
     /// How many jobs are queued for the ring or pending on it (`drm_gpu_scheduler.score`).

@@ -1,16 +1,17 @@
 ghost use Rattle.std.specs.Prelude.{◌≡◌, [], None, IfOk, map};
 ghost use Rattle.drm_types.specs.Limits.{spec_fault};
-ghost use Rattle.drm_table.specs.State.{opened_device};
-ghost use Rattle.drm_table.specs.Tables.{ring_state_of, state_of, IsWhole, AllIn};
+ghost use Rattle.drm_state.specs.State.{opened_device};
+ghost use Rattle.drm_table.specs.Tables.{state_of, IsWhole, AllIn};
+ghost use Rattle.drm_state.specs.Rows.{ring_state_of};
 ghost use Rattle.drm_table.specs.Building.{HaveRoomFor, AreBlank};
 
-use crate::loads::Loads;
-use crate::table::{RingJobs, Table};
+use crate::table::Table;
 use drm_buffer::Store;
 use drm_entity::Entities;
 use drm_fence::Timeline;
 use drm_resv::StoredDeps;
 use drm_ring::Credits;
+use drm_state::{Loads, RingJobs};
 use drm_types::{DeviceSpec, RingSpec};
 use std::alloc::{AllocError, Global};
 use std::collections::VecDeque;

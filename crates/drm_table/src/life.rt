@@ -1,5 +1,5 @@
-use crate::journal::JobRecord;
 use drm_buffer::Store;
+use drm_state::JobRecord;
 use drm_types::{BadSpec, DeviceSpec, Sequence};
 
 /// Why a device was not built.

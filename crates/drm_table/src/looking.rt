@@ -1,6 +1,6 @@
 ghost use Rattle.std.specs.Prelude.{◌≡◌, map};
-ghost use Rattle.drm_table.specs.Refusals.{busy_fence};
-ghost use Rattle.drm_table.specs.Tables.{fence_state_of};
+ghost use Rattle.drm_state.specs.Refusals.{busy_fence};
+ghost use Rattle.drm_state.specs.Records.{fence_state_of};
 
 use crate::table::Table;
 use drm_resv::Resv;

@@ -1,50 +1,15 @@
-ghost use Rattle.std.specs.Prelude.{◌≡◌, ℕ, ◌<◌, length, nat_lt, option_map, Some, slice_get, vec_len, vec_capacity};
+ghost use Rattle.std.specs.Prelude.{◌≡◌, ◌<◌, length, option_map, Some, slice_get};
 ghost use Rattle.drm_reset.specs.declared.verdict.Verdict.TheVariants.{Hang};
-ghost use Rattle.drm_table.specs.Answers.{timed_out};
-ghost use Rattle.drm_table.specs.Journal.{changed_at, is_at};
-ghost use Rattle.drm_table.specs.Outcomes.{timeout_outcome};
-ghost use Rattle.drm_table.specs.Recovery.{blamed_by, skipped_of, all_skipped, verdict_at};
-ghost use Rattle.drm_table.specs.Ring.{head_of};
+ghost use Rattle.drm_state.specs.Answers.{timed_out};
+ghost use Rattle.drm_state.specs.Outcomes.{timeout_outcome};
+ghost use Rattle.drm_state.specs.Recovery.{verdict_at};
+ghost use Rattle.drm_state.specs.Ring.{head_of};
 ghost use Rattle.drm_table.specs.Tables.{state_of, IsWhole};
 
-use crate::answer::Expired;
-use crate::journal::JobRecord;
-use crate::table::{self, Table};
+use crate::table::Table;
 use drm_reset::{HeadView, Verdict, judge};
+use drm_state::{Expired, blame, condemn, is_complete};
 use drm_types::{EntityId, FenceId, Moment, Priority, RingId};
-use std::collections::VecDeque;
-
-// The job is skipped if it is of the entity.
-fn skip(journal: &mut Vec<JobRecord>, number: FenceId, entity: EntityId)
-    requires { number < vec_len journal.old }
-    ensures journal { journal.new.items ≡ changed_at journal.old.items number (skipped_of entity) }
-    ensures room { vec_capacity journal.new ≡ vec_capacity journal.old }
-{
-    let record = &mut journal[number as usize];
-    record.is_skipped = record.job.entity() == entity || record.is_skipped;
-}
-
-// The entity's jobs among these are skipped.
-fn condemn(journal: &mut Vec<JobRecord>, pending: &VecDeque<FenceId>, entity: EntityId)
-    requires { (k f : ℕ) → slice_get pending.now.items k ≡ Some f → f < vec_len journal.old }
-    ensures journal { journal.new.items ≡ all_skipped entity journal.old.items pending.now.items }
-    ensures room { vec_capacity journal.new ≡ vec_capacity journal.old }
-{
-    for place in 0..pending.len() {
-        skip(journal, pending[place], entity);
-    }
-}
-
-// The job met one more hang, which its entity of this priority is blamed for (`drm_sched_increase_karma`). Answers
-// whether that makes the entity guilty.
-fn blame(journal: &mut Vec<JobRecord>, number: FenceId, priority: Priority, hang_limit: u32) -> bool
-    requires { number < vec_len journal.old }
-    ensures journal { journal.new.items ≡ changed_at journal.old.items number (blamed_by priority) }
-    ensures too_much { result ≡ is_at journal.new.items number (λ r. nat_lt hang_limit r.karma.karma) }
-    ensures room { vec_capacity journal.new ≡ vec_capacity journal.old }
-{
-    journal[number as usize].karma.blame(priority, hang_limit)
-}
 
 impl Table {
     /// The entity's priority.
@@ -64,7 +29,7 @@ impl Table {
     {
         let head = HeadView {
             since: self.rings[ring as usize].since,
-            is_complete: table::is_complete(&self.journal[number as usize]),
+            is_complete: is_complete(&self.journal[number as usize]),
         };
         judge(Some(head), self.ring_spec(ring).timeout, now)
     }

@@ -1,81 +1,17 @@
-ghost use Rattle.std.specs.Prelude.{◌≡◌, ◌<◌, ◌||◌, not, length, map, Some, None, Ok, Err, IfOk, IfErr, IsTrue, slice_get, vec_capacity};
-ghost use Rattle.std.specs.Option.{option_map_or};
-ghost use Rattle.drm_fence.specs.Phases.{is_queued, has_ended};
-ghost use Rattle.drm_table.specs.Choice.{choice};
-ghost use Rattle.drm_table.specs.Journal.{is_at, changed_at};
-ghost use Rattle.drm_table.specs.Outcomes.{must_stall as must_stall_at, pick_outcome, step_outcome, finish_outcome, ended_at};
-ghost use Rattle.drm_table.specs.Refusals.{pick_refusal, step_refusal, finish_refusal};
-ghost use Rattle.drm_table.specs.Answers.{picked, stepped, finished};
-ghost use Rattle.drm_table.specs.Tables.{state_of, fence_state_of, ending, IsWhole, NextIsIn};
-ghost use Rattle.drm_table.specs.Errors.{refusal_of_finish, refusal_of_pick, refusal_of_step};
+ghost use Rattle.std.specs.Prelude.{◌≡◌, ◌<◌, length, None, Some, Ok, Err, IfOk, IfErr};
+ghost use Rattle.drm_state.specs.Choice.{choice};
+ghost use Rattle.drm_state.specs.Outcomes.{pick_outcome, step_outcome, finish_outcome};
+ghost use Rattle.drm_state.specs.Refusals.{pick_refusal, step_refusal, finish_refusal};
+ghost use Rattle.drm_state.specs.Answers.{picked, stepped, finished};
+ghost use Rattle.drm_table.specs.Tables.{state_of, IsWhole, NextIsIn};
+ghost use Rattle.drm_state.specs.Errors.{refusal_of_finish, refusal_of_pick, refusal_of_step};
 
-use crate::answer::{Finished, Picked, Stepped};
-use crate::errors::{FinishError, PickError, StepError};
-use crate::journal::JobRecord;
-use crate::table::{self, Table};
-use drm_fence::{Phase, Timeline};
-use drm_packet::Packet;
-use drm_types::{FenceId, Moment, Outcome, RingId};
-
-/// Whether the packet waits for more resets of its job.
-pub fn must_stall(packet: Packet, resets: u16) -> bool
-    ensures { result ≡ must_stall_at packet resets }
-{
-    match packet {
-        Packet::Stall { resets: wanted } => resets < wanted,
-        Packet::Fill { .. } => false,
-        Packet::Copy { .. } => false,
-        Packet::Add { .. } => false,
-    }
-}
-
-// How the job ends, if the ring is done with it.
-fn final_outcome(journal: &[JobRecord], fence: FenceId) -> Option<Outcome>
-    ensures { result ≡ option_map_or ending (slice_get journal.now fence) None }
-{
-    let record = journal.get(fence as usize)?;
-    if !table::is_complete(record) {
-        return None;
-    }
-    if record.is_skipped {
-        Some(Outcome::Cancelled)
-    } else {
-        Some(Outcome::Good)
-    }
-}
-
-// The job was given to its ring.
-fn schedule_job(journal: &mut Vec<JobRecord>, fences: &mut Timeline, number: FenceId, skipped: bool)
-    requires queued { IsTrue (is_at journal.old.items number (λ r. is_queued r.phase)) }
-    requires tied { fences.old.list ≡ map fence_state_of journal.old.items }
-    ensures journal { journal.new.items ≡ changed_at journal.old.items number (λ r. record r { phase = Phase.Scheduled; is_skipped = skipped || r.is_skipped }) }
-    ensures tied { fences.new.list ≡ map fence_state_of journal.new.items }
-    ensures room { vec_capacity journal.new ≡ vec_capacity journal.old }
-    ensures places { fences.new.places ≡ fences.old.places }
-{
-    let record = &mut journal[number as usize];
-    record.phase = Phase::Scheduled;
-    record.is_skipped = skipped || record.is_skipped;
-    fences.schedule(number);
-}
-
-/// The job has its outcome.
-pub(crate) fn end_job(
-    journal: &mut Vec<JobRecord>,
-    fences: &mut Timeline,
-    number: FenceId,
-    outcome: Outcome,
-)
-    requires going { IsTrue (is_at journal.old.items number (λ r. not (has_ended r.phase))) }
-    requires tied { fences.old.list ≡ map fence_state_of journal.old.items }
-    ensures journal { journal.new.items ≡ ended_at journal.old.items number outcome }
-    ensures tied { fences.new.list ≡ map fence_state_of journal.new.items }
-    ensures room { vec_capacity journal.new ≡ vec_capacity journal.old }
-    ensures places { fences.new.places ≡ fences.old.places }
-{
-    journal[number as usize].phase = Phase::Ended(outcome);
-    fences.finish(number, outcome);
-}
+use crate::table::Table;
+use drm_state::{
+    FinishError, Finished, PickError, Picked, StepError, Stepped, end_job, final_outcome,
+    must_stall, schedule_job,
+};
+use drm_types::{FenceId, Moment, RingId};
 
 impl Table {
     /// Gives the ring this job, which it takes next, if it fits.

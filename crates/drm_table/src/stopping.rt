@@ -1,67 +1,14 @@
-ghost use Rattle.std.specs.Prelude.{◌≡◌, ◌<◌, ◌==◌, not, length, OnOk, IfOk, IfErr, Some, None};
-ghost use Rattle.std.specs.List.{list_all};
-ghost use Rattle.drm_fence.specs.Phases.{has_ended};
-ghost use Rattle.drm_table.specs.declared.answer.Answer.TheVariants as answer;
-ghost use Rattle.drm_table.specs.Journal.{is_at};
-ghost use Rattle.drm_table.specs.Ring.{is_stopped};
-ghost use Rattle.drm_table.specs.Outcomes.{cancelled_device, reap_outcome};
-ghost use Rattle.drm_table.specs.Refusals.{cancel_refusal, reap_refusal};
-ghost use Rattle.drm_table.specs.Stopping.{may_end_after};
+ghost use Rattle.std.specs.Prelude.{◌≡◌, ◌<◌, length, OnOk, IfOk, IfErr, Some, None};
+ghost use Rattle.drm_state.specs.declared.answer.Answer.TheVariants as answer;
+ghost use Rattle.drm_state.specs.Ring.{is_stopped};
+ghost use Rattle.drm_state.specs.Outcomes.{cancelled_device, reap_outcome};
+ghost use Rattle.drm_state.specs.Refusals.{cancel_refusal, reap_refusal};
 ghost use Rattle.drm_table.specs.Tables.{state_of, IsWhole};
-ghost use Rattle.drm_table.specs.Errors.{refusal_of_cancel, refusal_of_reap};
+ghost use Rattle.drm_state.specs.Errors.{refusal_of_cancel, refusal_of_reap};
 
-use crate::errors::{CancelError, ReapError};
-use crate::journal::JobRecord;
-use crate::running;
 use crate::table::Table;
+use drm_state::{CancelError, ReapError, end_job, may_end};
 use drm_types::{EntityId, FenceId, Outcome};
-use std::collections::VecDeque;
-
-// Whether the job is there and has its outcome.
-fn has_outcome(journal: &[JobRecord], fence: FenceId) -> bool
-    ensures { result ≡ is_at journal.now fence (λ r. has_ended r.phase) }
-{
-    match journal.get(fence as usize) {
-        Some(record) => record.phase.is_ended(),
-        None => false,
-    }
-}
-
-// Whether all these dependencies have outcomes.
-fn have_outcomes(journal: &[JobRecord], deps: &[(EntityId, FenceId)]) -> bool
-    ensures { result ≡ list_all (λ d. is_at journal.now d.1 (λ r. has_ended r.phase)) deps.now }
-{
-    deps.iter().all(|dep| has_outcome(journal, dep.1))
-}
-
-// Whether the job is there and of the entity.
-fn is_of(journal: &[JobRecord], fence: FenceId, entity: EntityId) -> bool
-    ensures { result ≡ is_at journal.now fence (λ r. r.job.entity == entity) }
-{
-    match journal.get(fence as usize) {
-        Some(record) => record.job.entity() == entity,
-        None => false,
-    }
-}
-
-// Whether none of these jobs is of the entity.
-fn none_is_of(journal: &[JobRecord], pending: &VecDeque<FenceId>, entity: EntityId) -> bool
-    ensures { result ≡ list_all (λ f. not (is_at journal.now f (λ r. r.job.entity == entity))) pending.now.items }
-{
-    pending.iter().all(|fence| !is_of(journal, *fence, entity))
-}
-
-// Whether the jobs that the entity's first queued one waits for all have outcomes, and none of the entity is pending.
-fn may_end(
-    journal: &[JobRecord],
-    deps: &[(EntityId, FenceId)],
-    pending: &VecDeque<FenceId>,
-    entity: EntityId,
-) -> bool
-    ensures { result ≡ may_end_after journal.now deps.now pending.now.items entity }
-{
-    have_outcomes(journal, deps) && none_is_of(journal, pending, entity)
-}
 
 impl Table {
     /// Whether the entity takes no jobs any more.
@@ -115,7 +62,7 @@ impl Table {
         ) {
             return Err(ReapError::Waits);
         }
-        running::end_job(
+        end_job(
             &mut self.journal,
             &mut self.fences,
             number,

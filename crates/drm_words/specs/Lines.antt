@@ -1,7 +1,7 @@
 -- The lines of answers with words beside them.
 use Rattle.std.specs.Prelude.{ℕ, List, [], ◌∷◌, ◌++◌, codes, flat_map, zip}
 use Rattle.drm_core.specs.declared.event.Event.{Event}
-use Rattle.drm_table.specs.declared.answer.Answer.{Answer}
+use Rattle.drm_state.specs.declared.answer.Answer.{Answer}
 use Rattle.drm_answer.specs.Answers.{words_of}
 use Rattle.drm_words.specs.declared.subject.Subject.{Subject}
 use Rattle.drm_words.specs.Sentences.{sentence_of}

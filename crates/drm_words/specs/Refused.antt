@@ -4,8 +4,8 @@ use Rattle.drm_job.specs.declared.DraftList.{DraftList}
 use Rattle.drm_job.specs.declared.DraftList.TheVariants as list
 use Rattle.drm_job.specs.declared.JobFault.{JobFault}
 use Rattle.drm_job.specs.declared.JobFault.TheVariants as job
-use Rattle.drm_table.specs.declared.answer.Refusal.{Refusal}
-use Rattle.drm_table.specs.declared.answer.Refusal.TheVariants as refusal
+use Rattle.drm_state.specs.declared.answer.Refusal.{Refusal}
+use Rattle.drm_state.specs.declared.answer.Refusal.TheVariants as refusal
 use Rattle.drm_text.specs.declared.keywords.Command.{Command}
 use Rattle.drm_text.specs.declared.keywords.Command.TheVariants as command
 use Rattle.drm_words.specs.declared.subject.Subject.{Subject}

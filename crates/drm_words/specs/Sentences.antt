@@ -1,8 +1,8 @@
 -- What is said of an answer: a sentence that the command and its answer tell together.
 use Rattle.std.specs.Prelude.{ℕ, ℤ, pos, negsuc, Bool, true, false, List, [], ◌∷◌, codes, if◌then◌else◌}
 use Rattle.std.specs.Ordering.{int_eq}
-use Rattle.drm_table.specs.declared.answer.Answer.{Answer}
-use Rattle.drm_table.specs.declared.answer.Answer.TheVariants as answer
+use Rattle.drm_state.specs.declared.answer.Answer.{Answer}
+use Rattle.drm_state.specs.declared.answer.Answer.TheVariants as answer
 use Rattle.drm_text.specs.declared.keywords.Command.{Command}
 use Rattle.drm_text.specs.declared.keywords.Command.TheVariants as command
 use Rattle.drm_types.specs.declared.outcome.Outcome.{Outcome}

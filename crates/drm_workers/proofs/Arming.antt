@@ -2,14 +2,14 @@
 use Rattle.std.proofs.Common.{◌≡◌, ℕ, true, List, [], ◌∷◌, ◌++◌, Result, sym, ap, ◌∙◌, subst}
 use Rattle.drm_job.specs.declared.Draft.{Draft}
 use Rattle.drm_resv.specs.Reservation.{Reservation}
-use Rattle.drm_table.specs.declared.errors.ArmError.{ArmError}
-use Rattle.drm_table.specs.declared.errors.FinishError.{FinishError}
-use Rattle.drm_table.specs.declared.errors.PickError.{PickError}
-use Rattle.drm_table.specs.declared.errors.StepError.{StepError}
-use Rattle.drm_table.specs.declared.answer.Picked.{Picked}
-use Rattle.drm_table.specs.declared.answer.Stepped.{Stepped}
-use Rattle.drm_table.specs.declared.answer.Finished.{Finished}
-use Rattle.drm_table.specs.declared.answer.Expired.{Expired}
+use Rattle.drm_state.specs.declared.errors.ArmError.{ArmError}
+use Rattle.drm_state.specs.declared.errors.FinishError.{FinishError}
+use Rattle.drm_state.specs.declared.errors.PickError.{PickError}
+use Rattle.drm_state.specs.declared.errors.StepError.{StepError}
+use Rattle.drm_state.specs.declared.answer.Picked.{Picked}
+use Rattle.drm_state.specs.declared.answer.Stepped.{Stepped}
+use Rattle.drm_state.specs.declared.answer.Finished.{Finished}
+use Rattle.drm_state.specs.declared.answer.Expired.{Expired}
 use Rattle.drm_sched.specs.Marks.{MarkedDevice}
 use Rattle.drm_gpu.specs.Answers.{CountsAre, FinishIs, PickIs, StepIs, TimeoutIs}
 use Rattle.drm_gpu.specs.Laws.{reflexive, transitive}

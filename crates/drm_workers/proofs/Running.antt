@@ -6,7 +6,7 @@ use Rattle.ww_lock.specs.Rule.{In}
 use Rattle.drm_types.specs.declared.spec.DeviceSpec.{DeviceSpec}
 use Rattle.drm_job.specs.declared.Draft.{Draft}
 use Rattle.drm_job.specs.declared.job.Job.{Job}
-use Rattle.drm_table.specs.declared.journal.JobRecord.{JobRecord}
+use Rattle.drm_state.specs.declared.journal.JobRecord.{JobRecord}
 use Rattle.drm_sched.specs.Marks.{MarkedDevice}
 use Rattle.drm_gpu.specs.declared.gpu.Closed.{Closed}
 use Rattle.drm_gpu.specs.Closing.{Leaves}

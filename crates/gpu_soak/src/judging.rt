@@ -2,7 +2,7 @@
 //! each readback has seen.
 ghost use Rattle.std.specs.Prelude.{◌≡◌, ◌<◌, ℕ, All, IfOk, Some, false, length, map, slice_get};
 ghost use Rattle.drm_job.specs.Fault.{IsJob};
-ghost use Rattle.drm_table.specs.Journal.{turns as turns_of};
+ghost use Rattle.drm_state.specs.Journal.{turns as turns_of};
 
 use crate::reading::Seen;
 use crate::tally::{Tally, count};

@@ -1,7 +1,7 @@
 use Rattle.std.proofs.Common.{◌≡◌, ◌<◌, ◌≤◌, ◌∙◌, sym, subst, length, get_or, Some, slice_get, arith}
 use Rattle.std.proofs.lemmas.Option.{slice_get-get_or}
 use Rattle.drm_fence.specs.Fences.{has_ended_at}
-use Rattle.drm_table.specs.Uses.{HasUse}
+use Rattle.drm_state.specs.Uses.{HasUse}
 use Rattle.drm_core.proofs.RoomFacts.{drop_next}
 use Rattle.drm_core.proofs.UsesAdded.{next_is_untouched, uses_of_next, uses_of_all}
 use Rattle.drm_core.proofs.planning.add_uses.Goals as goal

@@ -1,6 +1,6 @@
 use Rattle.std.proofs.Common.{◌≡◌, ◌∙◌, sym, subst, take, Some, slice_get}
 use Rattle.std.proofs.lemmas.List.{take_all}
-use Rattle.drm_table.specs.Collected.{IsCollected}
+use Rattle.drm_state.specs.Collected.{IsCollected}
 use Rattle.drm_core.specs.Planning.{declared_kept}
 use Rattle.drm_core.proofs.Collecting.{kept_next}
 use Rattle.drm_core.proofs.Lists.{contains_at}

@@ -1,7 +1,7 @@
 use Rattle.std.proofs.Common.{take}
 use Rattle.drm_types.specs.declared.spec.DeviceSpec.{DeviceSpec}
 use Rattle.drm_job.specs.Fault.{IsJob}
-use Rattle.drm_table.specs.Collected.{IsCollected}
+use Rattle.drm_state.specs.Collected.{IsCollected}
 use Rattle.drm_core.specs.Planning.{declared_kept}
 use Rattle.drm_core.proofs.planning.collect.Given as goal
 

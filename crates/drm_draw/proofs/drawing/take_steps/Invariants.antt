@@ -1,5 +1,5 @@
 use Rattle.std.proofs.Common.{◌≡◌, List, length, map}
-use Rattle.drm_table.specs.declared.answer.Answer.{Answer}
+use Rattle.drm_state.specs.declared.answer.Answer.{Answer}
 use Rattle.drm_core.specs.Run.{AllNamesExist}
 use Rattle.drm_engine.proofs.Pieces.{GoesOn}
 use Rattle.drm_draw.proofs.Steps.{CommandsSoFar}

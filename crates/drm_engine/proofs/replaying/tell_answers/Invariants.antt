@@ -1,5 +1,5 @@
 use Rattle.std.proofs.Common.{List, length}
-use Rattle.drm_table.specs.declared.answer.Answer.{Answer}
+use Rattle.drm_state.specs.declared.answer.Answer.{Answer}
 use Rattle.drm_answer.specs.Answers.{text_of_answers}
 use Rattle.drm_core.specs.Run.{AllNamesExist}
 use Rattle.drm_script.specs.Chunks.{all_of}

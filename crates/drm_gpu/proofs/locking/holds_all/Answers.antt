@@ -4,7 +4,7 @@ use mathlib.Core.Logic.{dite}
 use native.Mathlib.Decide.{ℕ_discrete}
 use Rattle.ww_lock.specs.Rule.{In}
 use Rattle.drm_types.specs.declared.access.Access.{Access}
-use Rattle.drm_table.specs.Held.{kept_of}
+use Rattle.drm_state.specs.Held.{kept_of}
 use Rattle.drm_gpu.proofs.Holders.{in_kept, in_kept_of}
 use Rattle.drm_gpu.proofs.Lists.{in_contains, contained_in}
 use Rattle.drm_gpu.proofs.locking.holds_all.Goals as goal

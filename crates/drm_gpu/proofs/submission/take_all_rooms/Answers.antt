@@ -1,7 +1,7 @@
 use Rattle.std.proofs.Common.{◌≡◌, ◌++◌, sym, subst, length, take, drop, rules, arith}
 use Rattle.std.specs.Prelude.{OnOk}
 use Rattle.std.proofs.lemmas.Grind.{common_steps}
-use Rattle.drm_table.specs.Held.{HaveRoom}
+use Rattle.drm_state.specs.Held.{HaveRoom}
 use Rattle.drm_gpu.proofs.submission.take_all_rooms.Goals as goal
 
 pub returns-clause-room : goal.returns-clause-room

@@ -1,6 +1,6 @@
 use Rattle.std.proofs.Common.{◌<◌, ℕ, slice_index_or, IsTrue}
 use Rattle.drm_fence.specs.Phases.{has_ended}
-use Rattle.drm_table.specs.declared.journal.JobRecord.{JobRecord}
+use Rattle.drm_state.specs.declared.journal.JobRecord.{JobRecord}
 use Rattle.drm_report.proofs.counting.have_ended.Given as goal
 
 -- those so far have ended

@@ -3,9 +3,9 @@ use Rattle.std.specs.Option.{option_map_or}
 use Rattle.std.proofs.lemmas.List.{length-map, length-replicate}
 use Rattle.std.proofs.lemmas.Option.{slice_get-get_or}
 use Rattle.drm_types.specs.declared.spec.RingSpec.{RingSpec}
-use Rattle.drm_table.specs.declared.table.RingJobs.{RingJobs}
-use Rattle.drm_table.specs.State.{RingState}
-use Rattle.drm_table.specs.Tables.{ring_state_of}
+use Rattle.drm_state.specs.declared.rows.RingJobs.{RingJobs}
+use Rattle.drm_state.specs.State.{RingState}
+use Rattle.drm_state.specs.Rows.{ring_state_of}
 use Rattle.drm_table.specs.Building.{HaveRoomFor, AreBlank}
 use Rattle.drm_table.proofs.Blanks.{map_to_same, map_push_same, room_push, blank_push}
 use Rattle.drm_table.proofs.blank.blank_rings.Goals as goal

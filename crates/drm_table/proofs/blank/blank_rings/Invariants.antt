@@ -1,5 +1,5 @@
 use Rattle.std.proofs.Common.{◌≡◌, map, replicate, []}
-use Rattle.drm_table.specs.Tables.{ring_state_of}
+use Rattle.drm_state.specs.Rows.{ring_state_of}
 use Rattle.drm_table.specs.Building.{HaveRoomFor, AreBlank}
 use Rattle.drm_table.proofs.blank.blank_rings.Given as goal
 

@@ -1,6 +1,6 @@
 use Rattle.std.proofs.Common.{subst, Ok, Err}
-use Rattle.drm_table.specs.declared.answer.Stepped.TheVariants.{Stalled}
-use Rattle.drm_table.specs.declared.errors.StepError.TheVariants.{Idle}
+use Rattle.drm_state.specs.declared.answer.Stepped.TheVariants.{Stalled}
+use Rattle.drm_state.specs.declared.errors.StepError.TheVariants.{Idle}
 use Rattle.drm_gpu.specs.Running.{RunsNothing}
 use Rattle.drm_workers.proofs.Arming.{packet_arms, step_arms}
 use Rattle.drm_workers.proofs.rings.run_packet.Goals as goal

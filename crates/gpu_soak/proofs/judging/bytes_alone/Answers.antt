@@ -4,8 +4,8 @@ use Rattle.drm_types.specs.declared.spec.DeviceSpec.{DeviceSpec}
 use Rattle.drm_job.specs.Fault.{IsJob}
 use Rattle.drm_job.specs.Laws.{JobsRunInTheirDevice}
 use Rattle.drm_job.specs.Ranges.{RunsIn}
-use Rattle.drm_table.specs.declared.journal.JobRecord.{JobRecord}
-use Rattle.drm_table.specs.Journal.{turns}
+use Rattle.drm_state.specs.declared.journal.JobRecord.{JobRecord}
+use Rattle.drm_state.specs.Journal.{turns}
 use Rattle.gpu_soak.proofs.judging.bytes_alone.Goals as goal
 
 turns_fit : (spec : DeviceSpec) (records : List JobRecord) → JobsRunInTheirDevice → All (λ r. IsJob spec r.job) records → All (λ t. RunsIn spec.buffers t.job) (turns records)

@@ -1,5 +1,5 @@
 use Rattle.std.proofs.Common.{◌≡◌, take}
-use Rattle.drm_table.specs.Journal.{turns}
+use Rattle.drm_state.specs.Journal.{turns}
 use Rattle.gpu_soak.proofs.judging.turns.Given as goal
 
 abbrev pub invariant-loop-record : goal.invariant-loop-record

@@ -1,5 +1,5 @@
 use Rattle.std.proofs.Common.{◌∙◌, sym, ap, length}
-use Rattle.drm_table.specs.declared.answer.Answer.TheVariants as answer
+use Rattle.drm_state.specs.declared.answer.Answer.TheVariants as answer
 use Rattle.drm_core.specs.Cores.{core_state}
 use Rattle.drm_core.proofs.Plans.{plan_taken, arm_unplanned}
 use Rattle.drm_core.proofs.cores.CoreTable.arm.Goals as goal

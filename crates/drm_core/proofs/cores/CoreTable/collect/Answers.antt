@@ -1,5 +1,5 @@
 use Rattle.std.proofs.Common.{◌<◌, sym, subst, length}
-use Rattle.drm_table.specs.Collected.{IsCollected}
+use Rattle.drm_state.specs.Collected.{IsCollected}
 use Rattle.drm_core.specs.Planning.{declared_kept}
 use Rattle.drm_core.proofs.Collecting.{declared_below, holds_declared, fit_declared}
 use Rattle.drm_core.proofs.Submitting.{resv_there}

@@ -1,5 +1,5 @@
 use Rattle.std.proofs.Common.{subst, sym}
-use Rattle.drm_table.specs.Events.{IsKept}
+use Rattle.drm_state.specs.Events.{IsKept}
 use Rattle.drm_sched.specs.Marks.{MarkedDevice}
 use Rattle.drm_core.specs.Cores.{IsCore}
 use Rattle.drm_core.proofs.CoreFacts.{device_changed}

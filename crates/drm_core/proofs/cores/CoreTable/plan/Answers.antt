@@ -2,7 +2,7 @@ use Rattle.drm_types.specs.declared.spec.DeviceSpec.{DeviceSpec}
 use Rattle.drm_job.specs.Fault.{job_fault}
 use Rattle.std.proofs.Common.{◌≡◌, None, subst, ◌∙◌, sym, refl, inl, inr, true, false}
 use Rattle.drm_core.specs.declared.event.Event.TheVariants as event
-use Rattle.drm_table.specs.declared.answer.Refusal.TheVariants as refusal
+use Rattle.drm_state.specs.declared.answer.Refusal.TheVariants as refusal
 use Rattle.drm_core.specs.Cores.{core_state}
 use Rattle.drm_core.proofs.Submitting.{reply_early}
 use Rattle.drm_core.proofs.Locks.{begun_is}

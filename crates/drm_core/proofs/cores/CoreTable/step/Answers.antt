@@ -1,7 +1,7 @@
 use Rattle.std.proofs.Common.{◌∙◌, Some, None, ap, subst, sym, refl}
-use Rattle.drm_table.specs.Errors.{refusal_of_step}
-use Rattle.drm_table.specs.Events.{IsKept}
-use Rattle.drm_table.specs.declared.answer.Answer.TheVariants as answer
+use Rattle.drm_state.specs.Errors.{refusal_of_step}
+use Rattle.drm_state.specs.Events.{IsKept}
+use Rattle.drm_state.specs.declared.answer.Answer.TheVariants as answer
 use Rattle.drm_core.specs.declared.event.Event.TheVariants as event
 use Rattle.drm_sched.specs.Marks.{MarkedDevice, is_in_way}
 use Rattle.drm_core.specs.Cores.{core_state, IsCore}

@@ -1,6 +1,6 @@
 use Rattle.std.proofs.Common.{◌≡◌, ◌∙◌, Some, None, ap, subst, sym, refl}
-use Rattle.drm_table.specs.Errors.{refusal_of_timeout}
-use Rattle.drm_table.specs.Events.{IsKept}
+use Rattle.drm_state.specs.Errors.{refusal_of_timeout}
+use Rattle.drm_state.specs.Events.{IsKept}
 use Rattle.drm_core.specs.declared.event.Event.TheVariants as event
 use Rattle.drm_sched.specs.Marks.{MarkedDevice, ring_out}
 use Rattle.drm_core.specs.Cores.{core_state, IsCore}

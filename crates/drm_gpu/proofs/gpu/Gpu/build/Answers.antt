@@ -2,8 +2,8 @@ use Rattle.std.proofs.Common.{◌≡◌, ◌∙◌, ap, sym, subst, arith, lengt
 use Rattle.drm_types.specs.Limits.{spec_fault}
 use Rattle.drm_resv.specs.Reservation.{WithRoom}
 use Rattle.drm_sched.specs.Marks.{MarkedDevice, unmarked}
-use Rattle.drm_table.specs.Reservation.{Fits}
-use Rattle.drm_table.specs.State.{opened_device}
+use Rattle.drm_state.specs.Reservation.{Fits}
+use Rattle.drm_state.specs.State.{opened_device}
 use Rattle.ww_lock.specs.Boards.{first_pivot}
 use Rattle.ww_lock.specs.Lifetime.{AllFit}
 use Rattle.drm_gpu.proofs.Built.{few_buffers, blank_fit, count_of}

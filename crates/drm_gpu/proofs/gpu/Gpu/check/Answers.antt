@@ -2,7 +2,7 @@ use Rattle.std.proofs.Common.{◌≡◌, ◌∙◌, sym, subst, refl, Some}
 use Rattle.std.specs.Prelude.{MatchResult}
 use Rattle.drm_types.specs.declared.spec.DeviceSpec.{DeviceSpec}
 use Rattle.drm_job.specs.Fault.{IsJob, job_fault}
-use Rattle.drm_table.specs.Keeps.{Keeps}
+use Rattle.drm_state.specs.Keeps.{Keeps}
 use Rattle.drm_sched.specs.Marks.{MarkedDevice}
 use Rattle.drm_gpu.specs.Answers.{ChangesNothing}
 use Rattle.drm_gpu.specs.Passes.{GrowsTo}

@@ -1,5 +1,5 @@
 use Rattle.std.proofs.Common.{sym, subst, refl}
-use Rattle.drm_table.specs.Keeps.{Keeps}
+use Rattle.drm_state.specs.Keeps.{Keeps}
 use Rattle.drm_sched.specs.Marks.{MarkedDevice}
 use Rattle.drm_gpu.specs.Answers.{CountsAre}
 use Rattle.drm_gpu.specs.Passes.{GrowsTo}

@@ -1,6 +1,6 @@
 use Rattle.std.proofs.Common.{◌∙◌, subst}
 use Rattle.ww_lock.specs.Acquiring.{view}
-use Rattle.drm_table.specs.Held.{kept_of}
+use Rattle.drm_state.specs.Held.{kept_of}
 use Rattle.drm_gpu.specs.Submissions.{Fitting}
 use Rattle.drm_gpu.proofs.Called.{found_back, same_trans}
 use Rattle.drm_gpu.proofs.gpu.Gpu.enter_for_with.Goals as goal

@@ -1,7 +1,7 @@
 use Rattle.std.proofs.Common.{Ok, Err, Some, None}
-use Rattle.drm_table.specs.Errors.{refusal_of_finish}
+use Rattle.drm_state.specs.Errors.{refusal_of_finish}
 use Rattle.drm_sched.specs.Marks.{ring_out}
-use Rattle.drm_table.specs.Refusals.{finish_refusal}
+use Rattle.drm_state.specs.Refusals.{finish_refusal}
 use Rattle.drm_gpu.specs.Answers.{FinishIs}
 use Rattle.drm_gpu.proofs.Called.{called}
 use Rattle.drm_gpu.proofs.Packets.{not_out}

@@ -2,7 +2,7 @@ use Rattle.std.proofs.Common.{◌≡◌, ◌∙◌, [], true, false, refl, ap, s
 use Rattle.ww_lock.specs.declared.board.TaskChange.TheVariants.{Same}
 use Rattle.ww_lock.specs.Begun.{IsOutside, IsInside, sees}
 use Rattle.drm_sched.specs.Marks.{MarkedDevice, IsBusy}
-use Rattle.drm_table.specs.Reservation.{Fits}
+use Rattle.drm_state.specs.Reservation.{Fits}
 use Rattle.drm_gpu.specs.Passes.{GpuState, GrowsTo, Knows, word_shown}
 use Rattle.drm_gpu.proofs.Chains.{left_quietly}
 use Rattle.drm_gpu.proofs.Grown.{grows_itself}

@@ -3,7 +3,7 @@ use Rattle.ww_lock.specs.declared.board.TaskChange.TheVariants.{Same}
 use Rattle.ww_lock.specs.Acquiring.{HoldsOutside, view}
 use Rattle.drm_resv.specs.Reservation.{WithRoom}
 use Rattle.drm_sched.specs.Marks.{MarkedDevice, IsBusy}
-use Rattle.drm_table.specs.Reservation.{Fits}
+use Rattle.drm_state.specs.Reservation.{Fits}
 use Rattle.drm_gpu.specs.Passes.{GpuState, GrowsTo, Knows, Seeing, word_shown}
 use Rattle.drm_gpu.proofs.Chains.{left_quietly}
 use Rattle.drm_gpu.proofs.Grown.{grows_itself}

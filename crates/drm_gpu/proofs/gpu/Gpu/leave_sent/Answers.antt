@@ -4,10 +4,10 @@ use Rattle.ww_lock.specs.Begun.{IsOutside, IsInside, sees}
 use Rattle.ww_lock.specs.Steps.{Turns}
 use Rattle.ww_lock.specs.declared.board.TaskChange.TheVariants.{Begins}
 use Rattle.drm_sched.specs.Marks.{Task, IsBusy}
-use Rattle.drm_table.specs.Reservation.{Fits}
-use Rattle.drm_table.specs.State.{DeviceState}
-use Rattle.drm_table.specs.Grows.{Grows}
-use Rattle.drm_table.specs.Keeps.{word_at}
+use Rattle.drm_state.specs.Reservation.{Fits}
+use Rattle.drm_state.specs.State.{DeviceState}
+use Rattle.drm_state.specs.Grows.{Grows}
+use Rattle.drm_state.specs.Keeps.{word_at}
 use Rattle.drm_gpu.specs.Passes.{GpuState}
 use Rattle.drm_gpu.proofs.Chains.{left_quietly}
 use Rattle.drm_gpu.proofs.Grown.{grows_itself}

@@ -1,7 +1,7 @@
 use Rattle.std.proofs.Common.{◌≡◌, ◌∙◌, true, false, ap, sym, subst}
 use Rattle.ww_lock.specs.Acquiring.{HoldsOutside, HoldsInside, view}
 use Rattle.drm_resv.specs.Reservation.{WithRoom}
-use Rattle.drm_table.specs.Reservation.{Fits}
+use Rattle.drm_state.specs.Reservation.{Fits}
 use Rattle.drm_sched.specs.Marks.{MarkedDevice}
 use Rattle.drm_gpu.specs.Passes.{GpuState, Seeing}
 use Rattle.drm_gpu.proofs.Chains.{still_busy}

@@ -1,15 +1,15 @@
 use Rattle.std.proofs.Common.{◌≡◌, ap, sym, subst, Err, None, Ok}
 use Rattle.ww_lock.specs.Begun.{sees}
-use Rattle.drm_table.specs.Grows.{Grows}
-use Rattle.drm_table.specs.State.{DeviceState}
-use Rattle.drm_table.specs.declared.answer.Answer.TheVariants as answer
-use Rattle.drm_table.specs.declared.errors.StepError.TheVariants.{Idle}
-use Rattle.drm_table.specs.declared.answer.Stepped.TheVariants.{Stalled}
+use Rattle.drm_state.specs.Grows.{Grows}
+use Rattle.drm_state.specs.State.{DeviceState}
+use Rattle.drm_state.specs.declared.answer.Answer.TheVariants as answer
+use Rattle.drm_state.specs.declared.errors.StepError.TheVariants.{Idle}
+use Rattle.drm_state.specs.declared.answer.Stepped.TheVariants.{Stalled}
 use Rattle.drm_sched.specs.Begun.{HasBegun, MayComeBack, out_or}
-use Rattle.drm_table.specs.Errors.{refusal_of_step}
+use Rattle.drm_state.specs.Errors.{refusal_of_step}
 use Rattle.drm_sched.specs.Marks.{IsBusy, MarkedDevice}
-use Rattle.drm_table.specs.Outcomes.{step_outcome}
-use Rattle.drm_table.specs.Refusals.{step_refusal}
+use Rattle.drm_state.specs.Outcomes.{step_outcome}
+use Rattle.drm_state.specs.Refusals.{step_refusal}
 use Rattle.drm_gpu.specs.Answers.{StepIs}
 use Rattle.drm_gpu.specs.declared.running.OutPacket.{OutPacket}
 use Rattle.drm_gpu.specs.Passes.{GrowsTo}

@@ -2,11 +2,11 @@ use Rattle.std.proofs.Common.{◌<◌, ◌∙◌, ap, sym, subst, refl}
 use Rattle.ww_lock.specs.Acquiring.{HoldsOutside, HoldsInside, view}
 use Rattle.drm_types.specs.declared.spec.DeviceSpec.{DeviceSpec}
 use Rattle.drm_resv.specs.Reservation.{WithRoom}
-use Rattle.drm_table.specs.Reservation.{Fits}
+use Rattle.drm_state.specs.Reservation.{Fits}
 use Rattle.drm_sched.specs.Marks.{MarkedDevice}
 use Rattle.drm_gpu.proofs.Grown.{grows_itself}
 use Rattle.drm_gpu.specs.Passes.{GpuState, Seeing}
-use Rattle.drm_table.specs.Held.{kept_of}
+use Rattle.drm_state.specs.Held.{kept_of}
 use Rattle.drm_gpu.specs.Submissions.{Fitting}
 use Rattle.drm_gpu.proofs.Chains.{still_busy}
 use Rattle.drm_gpu.proofs.Holders.{fits_kept_of, not_held, shown_view, owes_held}

@@ -1,7 +1,7 @@
 use Rattle.std.proofs.Common.{Ok, Err}
 use Rattle.ww_lock.specs.Begun.{sees}
-use Rattle.drm_table.specs.declared.errors.StepError.TheVariants.{Idle}
-use Rattle.drm_table.specs.declared.answer.Stepped.TheVariants.{Stalled}
+use Rattle.drm_state.specs.declared.errors.StepError.TheVariants.{Idle}
+use Rattle.drm_state.specs.declared.answer.Stepped.TheVariants.{Stalled}
 use Rattle.drm_gpu.specs.Answers.{StepIs}
 use Rattle.drm_gpu.proofs.Called.{at_gpu, calls_are, started_of}
 use Rattle.drm_gpu.proofs.gpu.Gpu.start.Goals as goal

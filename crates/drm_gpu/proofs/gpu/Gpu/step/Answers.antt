@@ -1,8 +1,8 @@
 use Rattle.std.proofs.Common.{sym, subst, Ok, Err}
 use Rattle.ww_lock.specs.Begun.{sees}
-use Rattle.drm_table.specs.declared.errors.StepError.TheVariants.{Idle}
-use Rattle.drm_table.specs.declared.answer.Stepped.{Stepped}
-use Rattle.drm_table.specs.declared.answer.Stepped.TheVariants.{Stalled}
+use Rattle.drm_state.specs.declared.errors.StepError.TheVariants.{Idle}
+use Rattle.drm_state.specs.declared.answer.Stepped.{Stepped}
+use Rattle.drm_state.specs.declared.answer.Stepped.TheVariants.{Stalled}
 use Rattle.drm_sched.specs.declared.marked.Begun.TheVariants.{Work}
 use Rattle.drm_sched.specs.Begun.{HasBegun}
 use Rattle.drm_gpu.specs.Answers.{StepIs}

@@ -1,5 +1,5 @@
 use Rattle.std.proofs.Common.{sym, subst}
-use Rattle.drm_table.specs.Held.{kept_of}
+use Rattle.drm_state.specs.Held.{kept_of}
 use Rattle.drm_gpu.specs.Submissions.{Fitting}
 use Rattle.drm_gpu.proofs.gpu.Gpu.try_enter_with.Goals as goal
 

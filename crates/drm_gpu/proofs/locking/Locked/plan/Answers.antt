@@ -1,8 +1,8 @@
 use Rattle.std.proofs.Common.{◌≡◌, ◌∙◌, ap, sym, subst, true, false}
 use Rattle.ww_lock.specs.Acquiring.{view}
 use Rattle.drm_job.specs.Fault.{IsJob}
-use Rattle.drm_table.specs.Collected.{IsCollected, CoverWhereFit}
-use Rattle.drm_table.specs.Held.{HaveRoom, HoldsAll, kept_of}
+use Rattle.drm_state.specs.Collected.{IsCollected, CoverWhereFit}
+use Rattle.drm_state.specs.Held.{HaveRoom, HoldsAll, kept_of}
 use Rattle.drm_gpu.specs.Passes.{Seeing, pass_of}
 use Rattle.drm_gpu.specs.Submissions.{DeviceAcquire, submission_of}
 use Rattle.drm_gpu.proofs.Claims.{parts, room_taken}

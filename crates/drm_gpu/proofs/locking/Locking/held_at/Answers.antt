@@ -2,7 +2,7 @@ use Rattle.std.proofs.Common.{◌≡◌, ◌≤◌, ◌∙◌, ℕ, ap, sym, ari
 use Rattle.std.specs.Prelude.{List, Option, option_map}
 use Rattle.std.proofs.lemmas.Option.{slice_get-get_or, slice_get-map, slice_get_past}
 use Rattle.drm_resv.specs.Reservation.{Reservation, WithRoom}
-use Rattle.drm_table.specs.Held.{kept_of}
+use Rattle.drm_state.specs.Held.{kept_of}
 use Rattle.drm_gpu.specs.Submissions.{Submission}
 use Rattle.drm_gpu.proofs.locking.Locking.held_at.Goals as goal
 

@@ -1,5 +1,5 @@
 use Rattle.std.proofs.Common.{refl, false, ap, sym, subst}
-use Rattle.drm_table.specs.Held.{kept_of, HoldsAll}
+use Rattle.drm_state.specs.Held.{kept_of, HoldsAll}
 use Rattle.drm_gpu.specs.Submissions.{Submission, DeviceAcquire}
 use Rattle.drm_gpu.proofs.Claims.{done_on}
 use Rattle.drm_gpu.proofs.locking.Locking.ready.Goals as goal

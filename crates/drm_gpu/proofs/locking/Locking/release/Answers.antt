@@ -2,7 +2,7 @@ use Rattle.std.proofs.Common.{◌≡◌, ◌∙◌, ap, sym, subst}
 use Rattle.ww_lock.specs.Acquiring.{HoldsOutside, view}
 use Rattle.ww_lock.specs.Rule.{In}
 use Rattle.ww_lock.specs.Steps.{without}
-use Rattle.drm_table.specs.Held.{kept_of}
+use Rattle.drm_state.specs.Held.{kept_of}
 use Rattle.drm_gpu.specs.Passes.{GpuState, Seeing, pass_of}
 use Rattle.drm_gpu.specs.Submissions.{Submission, submission_of}
 use Rattle.drm_gpu.proofs.Claims.{parts}

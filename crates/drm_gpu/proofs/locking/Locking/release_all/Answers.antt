@@ -1,6 +1,6 @@
 use Rattle.std.proofs.Common.{◌≡◌, ◌∙◌, ap, subst, []}
 use Rattle.ww_lock.specs.Acquiring.{view}
-use Rattle.drm_table.specs.Held.{kept_of}
+use Rattle.drm_state.specs.Held.{kept_of}
 use Rattle.drm_gpu.specs.Passes.{pass_of}
 use Rattle.drm_gpu.specs.Submissions.{Submission, submission_of}
 use Rattle.drm_gpu.proofs.Claims.{parts}

@@ -4,10 +4,10 @@ use Rattle.ww_lock.specs.Acquiring.{view}
 use Rattle.ww_lock.specs.Rule.{In}
 use Rattle.drm_types.specs.declared.spec.DeviceSpec.{DeviceSpec}
 use Rattle.drm_buffer.specs.Memory.{bytes_of}
-use Rattle.drm_table.specs.Held.{kept_of}
-use Rattle.drm_table.specs.Keeps.{Keeps}
+use Rattle.drm_state.specs.Held.{kept_of}
+use Rattle.drm_state.specs.Keeps.{Keeps}
 use Rattle.drm_sched.specs.Marks.{MarkedDevice}
-use Rattle.drm_table.specs.Reservation.{Fits}
+use Rattle.drm_state.specs.Reservation.{Fits}
 use Rattle.drm_gpu.specs.Passes.{GrowsTo}
 use Rattle.drm_gpu.specs.Reading.{ReadingState, HoldsFitting, ReadIs}
 use Rattle.drm_gpu.specs.Submissions.{Fitting}

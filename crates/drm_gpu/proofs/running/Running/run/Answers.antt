@@ -1,8 +1,8 @@
 use Rattle.std.proofs.Common.{◌≡◌, ◌∙◌, ap, sym, subst, Ok}
 use Rattle.ww_lock.specs.Begun.{sees}
 use Rattle.drm_types.specs.declared.spec.DeviceSpec.{DeviceSpec}
-use Rattle.drm_table.specs.declared.answer.Stepped.{Stepped}
-use Rattle.drm_table.specs.declared.answer.Stepped.TheVariants.{Ran}
+use Rattle.drm_state.specs.declared.answer.Stepped.{Stepped}
+use Rattle.drm_state.specs.declared.answer.Stepped.TheVariants.{Ran}
 use Rattle.drm_gpu.specs.Answers.{StepIs}
 use Rattle.drm_gpu.specs.Passes.{Calls, PassState, pass_of}
 use Rattle.drm_gpu.specs.Running.{RunningState}

@@ -3,13 +3,13 @@ use Rattle.ww_lock.specs.Acquiring.{view}
 use Rattle.ww_lock.specs.Steps.{number_of}
 use Rattle.drm_types.specs.declared.spec.DeviceSpec.{DeviceSpec}
 use Rattle.drm_job.specs.Fault.{IsJob}
-use Rattle.drm_table.specs.declared.plans.Plan.{Plan}
-use Rattle.drm_table.specs.Collected.{CoverWhereFit}
-use Rattle.drm_table.specs.Held.{HaveRoom, HoldsAll, kept_of, armed_held}
-use Rattle.drm_table.specs.Keeps.{Keeps}
+use Rattle.drm_state.specs.declared.plans.Plan.{Plan}
+use Rattle.drm_state.specs.Collected.{CoverWhereFit}
+use Rattle.drm_state.specs.Held.{HaveRoom, HoldsAll, kept_of, armed_held}
+use Rattle.drm_state.specs.Keeps.{Keeps}
 use Rattle.drm_sched.specs.Marks.{MarkedDevice}
-use Rattle.drm_table.specs.Errors.{refusal_of_arm}
-use Rattle.drm_table.specs.Refusals.{arm_refusal}
+use Rattle.drm_state.specs.Errors.{refusal_of_arm}
+use Rattle.drm_state.specs.Refusals.{arm_refusal}
 use Rattle.drm_gpu.specs.Passes.{IsSameBut, pass_of}
 use Rattle.drm_gpu.specs.Submissions.{PlannedSubmission, DeviceAcquire, EnteredWith, Fitting, KeepsOthers, ArmIs, ArmRefused}
 use Rattle.drm_gpu.proofs.Grown.{keeps_itself}

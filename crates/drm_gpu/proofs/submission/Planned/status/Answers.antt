@@ -1,6 +1,6 @@
 use Rattle.std.proofs.Common.{◌∙◌, sym, subst}
-use Rattle.drm_table.specs.Collected.{CoverWhereFit}
-use Rattle.drm_table.specs.Held.{kept_of, HoldsAll, HaveRoom}
+use Rattle.drm_state.specs.Collected.{CoverWhereFit}
+use Rattle.drm_state.specs.Held.{kept_of, HoldsAll, HaveRoom}
 use Rattle.drm_gpu.proofs.submission.Planned.status.Goals as goal
 
 pub invariant_of-self : goal.invariant_of-self

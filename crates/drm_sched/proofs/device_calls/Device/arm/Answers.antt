@@ -2,17 +2,17 @@ use Rattle.std.proofs.Common.{rules, ◌≡◌, ◌∙◌, ap, sym, subst, lengt
 use Rattle.std.specs.Prelude.{option_map}
 use Rattle.std.specs.Vec.{with_items}
 use Rattle.drm_fence.specs.Fences.{has_ended_at}
-use Rattle.drm_table.specs.Arming.{armed_device}
-use Rattle.drm_table.specs.Errors.{refusal_of_arm}
-use Rattle.drm_table.specs.Grows.{Grows}
-use Rattle.drm_table.specs.Held.{kept_of, armed_held, AllFit}
-use Rattle.drm_table.specs.Keeps.{KeepsArmed}
+use Rattle.drm_state.specs.Arming.{armed_device}
+use Rattle.drm_state.specs.Errors.{refusal_of_arm}
+use Rattle.drm_state.specs.Grows.{Grows}
+use Rattle.drm_state.specs.Held.{kept_of, armed_held, AllFit}
+use Rattle.drm_state.specs.Keeps.{KeepsArmed}
 use Rattle.drm_sched.specs.Marks.{MarkedDevice}
-use Rattle.drm_table.specs.Refusals.{arm_refusal}
-use Rattle.drm_table.specs.State.{DeviceState}
+use Rattle.drm_state.specs.Refusals.{arm_refusal}
+use Rattle.drm_state.specs.State.{DeviceState}
 use Rattle.drm_table.specs.Tables.{state_of}
-use Rattle.drm_table.proofs.Growth.{arm_grows}
-use Rattle.drm_table.proofs.HeldFacts.{held_in_vector, held_after, held_order}
+use Rattle.drm_state.proofs.Growth.{arm_grows}
+use Rattle.drm_state.proofs.HeldFacts.{held_in_vector, held_after, held_order}
 use Rattle.drm_sched.proofs.Words.{arm_keeps}
 use Rattle.drm_sched.proofs.Boxed.{heads_read, view_read, whole_read}
 use Rattle.drm_sched.proofs.device_calls.Device.arm.Goals as goal

@@ -1,11 +1,11 @@
 use Rattle.std.proofs.Common.{◌≡◌, ◌∙◌, ap, sym, subst, length}
-use Rattle.drm_table.specs.Arming.{armed_device}
-use Rattle.drm_table.specs.Grows.{Grows}
-use Rattle.drm_table.specs.Keeps.{KeepsArmed}
+use Rattle.drm_state.specs.Arming.{armed_device}
+use Rattle.drm_state.specs.Grows.{Grows}
+use Rattle.drm_state.specs.Keeps.{KeepsArmed}
 use Rattle.drm_sched.specs.Marks.{MarkedDevice}
-use Rattle.drm_table.specs.State.{DeviceState}
+use Rattle.drm_state.specs.State.{DeviceState}
 use Rattle.drm_table.specs.Tables.{state_of}
-use Rattle.drm_table.proofs.Growth.{arm_grows}
+use Rattle.drm_state.proofs.Growth.{arm_grows}
 use Rattle.drm_sched.proofs.Words.{arm_keeps}
 use Rattle.drm_sched.proofs.Boxed.{view_read}
 use Rattle.drm_sched.proofs.device_calls.Device.arm_job.Goals as goal

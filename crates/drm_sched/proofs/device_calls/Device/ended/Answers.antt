@@ -1,9 +1,9 @@
 use Rattle.std.proofs.Common.{◌≡◌, ◌∙◌, length, sym, subst}
 use Rattle.std.specs.Prelude.{filter}
 use Rattle.drm_fence.specs.Phases.{has_ended}
-use Rattle.drm_table.specs.declared.journal.JobRecord.{JobRecord}
+use Rattle.drm_state.specs.declared.journal.JobRecord.{JobRecord}
 use Rattle.drm_sched.specs.Marks.{MarkedDevice}
-use Rattle.drm_table.proofs.LoadsKept.{ended_is}
+use Rattle.drm_state.proofs.LoadsKept.{ended_is}
 use Rattle.drm_sched.proofs.Boxed.{view_read, whole_read}
 use Rattle.drm_sched.proofs.device_calls.Device.ended.Goals as goal
 

@@ -1,6 +1,6 @@
 use Rattle.std.proofs.Common.{◌≡◌, map, subst}
 use Rattle.drm_sched.specs.Marks.{MarkedDevice}
-use Rattle.drm_table.specs.Tables.{fence_state_of}
+use Rattle.drm_state.specs.Records.{fence_state_of}
 use Rattle.drm_sched.proofs.Boxed.{view_read, whole_read}
 use Rattle.drm_sched.proofs.device_calls.Device.fences.Goals as goal
 

@@ -1,8 +1,8 @@
 use Rattle.std.proofs.Common.{rules, ◌<◌, length, sym, subst}
 use Rattle.std.specs.Prelude.{MatchResult}
 use Rattle.drm_fence.specs.declared.phase.Phase.TheVariants.{Ended}
-use Rattle.drm_table.specs.Grows.{Grows}
-use Rattle.drm_table.specs.Keeps.{word_of, Keeps, KeepsBut}
+use Rattle.drm_state.specs.Grows.{Grows}
+use Rattle.drm_state.specs.Keeps.{word_of, Keeps, KeepsBut}
 use Rattle.drm_sched.specs.Marks.{MarkedDevice}
 use Rattle.drm_table.specs.Tables.{state_of}
 use Rattle.drm_sched.proofs.MarkedGrows.{finish_grows}

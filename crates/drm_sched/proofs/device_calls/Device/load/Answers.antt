@@ -1,5 +1,5 @@
 use Rattle.std.proofs.Common.{◌≡◌, ◌<◌, length, sym, subst}
-use Rattle.drm_table.specs.Arming.{load}
+use Rattle.drm_state.specs.Arming.{load}
 use Rattle.drm_sched.specs.Marks.{MarkedDevice}
 use Rattle.drm_sched.proofs.Boxed.{view_read, whole_read}
 use Rattle.drm_sched.proofs.device_calls.Device.load.Goals as goal

@@ -1,6 +1,6 @@
 use Rattle.std.proofs.Common.{rules, ◌<◌, length, sym, subst}
-use Rattle.drm_table.specs.Grows.{Grows}
-use Rattle.drm_table.specs.Keeps.{Keeps}
+use Rattle.drm_state.specs.Grows.{Grows}
+use Rattle.drm_state.specs.Keeps.{Keeps}
 use Rattle.drm_sched.specs.Marks.{MarkedDevice}
 use Rattle.drm_table.specs.Tables.{state_of}
 use Rattle.drm_sched.proofs.MarkedGrows.{pick_grows}

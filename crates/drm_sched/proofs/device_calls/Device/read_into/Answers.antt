@@ -1,12 +1,12 @@
 use Rattle.std.proofs.Common.{rules, ◌≡◌, ◌∙◌, ◌<◌, true, false, length, refl, ap, sym, subst, Some, None}
 use Rattle.std.specs.Prelude.{option_map}
-use Rattle.drm_table.specs.declared.answer.Refusal.TheVariants as refusal
+use Rattle.drm_state.specs.declared.answer.Refusal.TheVariants as refusal
 use Rattle.drm_sched.specs.Begun.{out_or}
-use Rattle.drm_table.specs.Lawful.{EachTwo, KeepsEntityOrder}
+use Rattle.drm_state.specs.Lawful.{EachTwo, KeepsEntityOrder}
 use Rattle.drm_sched.specs.Marks.{MarkedDevice, is_out}
-use Rattle.drm_table.specs.Refusals.{busy_fence}
+use Rattle.drm_state.specs.Refusals.{busy_fence}
 use Rattle.drm_sched.proofs.MarkedOut.{says_out}
-use Rattle.drm_table.proofs.Readback.{writers_ended, writers_free}
+use Rattle.drm_state.proofs.Readback.{writers_ended, writers_free}
 use Rattle.drm_sched.proofs.Boxed.{view_read, whole_read}
 use Rattle.drm_sched.proofs.device_calls.Device.read_into.Goals as goal
 

@@ -1,7 +1,7 @@
 use Rattle.std.proofs.Common.{rules, subst}
 use Rattle.drm_sched.specs.Begun.{KeepsTasks}
-use Rattle.drm_table.specs.Grows.{Grows}
-use Rattle.drm_table.specs.Keeps.{Keeps}
+use Rattle.drm_state.specs.Grows.{Grows}
+use Rattle.drm_state.specs.Keeps.{Keeps}
 use Rattle.drm_sched.specs.MarkedTables.{marked_of}
 use Rattle.drm_sched.specs.Marks.{MarkedDevice}
 use Rattle.drm_table.specs.Tables.{state_of}

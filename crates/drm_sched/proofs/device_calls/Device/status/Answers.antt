@@ -4,7 +4,7 @@ use Rattle.std.proofs.lemmas.Int.{to_z-of_z}
 use Rattle.std.specs.Prelude.{option_map}
 use Rattle.std.proofs.lemmas.Option.{slice_get-get_or, slice_get_past}
 use Rattle.drm_fence.specs.Phases.{status_of}
-use Rattle.drm_table.specs.declared.journal.JobRecord.{JobRecord}
+use Rattle.drm_state.specs.declared.journal.JobRecord.{JobRecord}
 use Rattle.drm_sched.specs.Marks.{MarkedDevice}
 use Rattle.drm_sched.proofs.Boxed.{view_read}
 use Rattle.drm_sched.proofs.device_calls.Device.status.Goals as goal

@@ -2,7 +2,7 @@ use Rattle.std.proofs.Common.{◌≡◌, ◌<◌, ◌∙◌, ℕ, cond, [], leng
 use Rattle.std.proofs.lemmas.Bool.{eq-eqb}
 use Rattle.std.proofs.lemmas.Option.{slice_get-get_or, slice_get_within}
 use Rattle.drm_types.specs.declared.spec.EntitySpec.{EntitySpec}
-use Rattle.drm_table.specs.declared.journal.JobRecord.{JobRecord}
+use Rattle.drm_state.specs.declared.journal.JobRecord.{JobRecord}
 use Rattle.drm_sched.specs.declared.heads.Heads.{Heads}
 use Rattle.drm_fence.specs.Waiting.{Waiting}
 use Rattle.drm_sched.specs.Watching.{unmet_pairs, watched_of}

@@ -1,5 +1,5 @@
 use Rattle.std.proofs.Common.{◌≡◌, ◌≢◌, ℕ, ◌∙◌, ◌<◌, None, length, sym, subst}
-use Rattle.drm_table.specs.declared.journal.JobRecord.{JobRecord}
+use Rattle.drm_state.specs.declared.journal.JobRecord.{JobRecord}
 use Rattle.drm_sched.specs.Heads.{head_key}
 use Rattle.drm_table.specs.Tables.{state_of}
 use Rattle.drm_sched.specs.Watching.{watched_of}

@@ -1,13 +1,13 @@
 use Rattle.std.proofs.Common.{◌≡◌, ◌∙◌, refl, sym, ap, None, slice_get}
 use Rattle.std.specs.Option.{option_map_or}
-use Rattle.drm_table.specs.declared.journal.JobRecord.{JobRecord}
+use Rattle.drm_state.specs.declared.journal.JobRecord.{JobRecord}
 use Rattle.drm_sched.specs.Begun.{out_or}
 use Rattle.drm_sched.specs.Marks.{Mark, mark_for, ring_out, buffer_out}
 use Rattle.drm_sched.specs.MarkedTables.{mark_of_row, marked_of}
-use Rattle.drm_table.specs.Outcomes.{must_stall}
-use Rattle.drm_table.specs.Refusals.{step_refusal}
+use Rattle.drm_state.specs.Outcomes.{must_stall}
+use Rattle.drm_state.specs.Refusals.{step_refusal}
 use Rattle.drm_table.specs.Tables.{state_of}
-use Rattle.drm_table.proofs.CallsAre.{step_may, step_stalls}
+use Rattle.drm_state.proofs.CallsAre.{step_may, step_stalls}
 use Rattle.drm_table.proofs.TableFacts.{neither, next_in_range, running_at, running_found, vec_holds}
 use Rattle.drm_sched.proofs.MarkedOut.{asks_is, next_is_in}
 use Rattle.drm_sched.proofs.MarkedBegun.{MayGo, sent_is, sent_marked, parts_run}

@@ -1,8 +1,8 @@
 use Rattle.std.proofs.Common.{◌∙◌, sym, ap}
 use Rattle.drm_types.specs.Firsts.{when}
-use Rattle.drm_table.specs.declared.answer.Refusal.TheVariants.{AlreadyStopped}
-use Rattle.drm_table.specs.Errors.{refusal_of_cancel}
-use Rattle.drm_table.specs.Refusals.{cancel_refusal}
+use Rattle.drm_state.specs.declared.answer.Refusal.TheVariants.{AlreadyStopped}
+use Rattle.drm_state.specs.Errors.{refusal_of_cancel}
+use Rattle.drm_state.specs.Refusals.{cancel_refusal}
 use Rattle.drm_table.specs.Tables.{state_of}
 use Rattle.drm_sched.proofs.SchedulerKept.{cancel_beside, never_refused}
 use Rattle.drm_sched.proofs.scheduler.Scheduler.cancel.Goals as goal

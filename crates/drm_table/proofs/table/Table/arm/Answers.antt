@@ -2,9 +2,10 @@ use Rattle.std.proofs.Common.{◌≡◌, ◌∙◌, sym, ap, subst, length, slic
 use Rattle.std.proofs.lemmas.List.{length-map}
 use Rattle.drm_reset.specs.Blame.{Counts}
 use Rattle.drm_entity.specs.Rows.{IsFresh, pushed}
-use Rattle.drm_table.specs.Arming.{arming_ring, new_record}
-use Rattle.drm_table.specs.Tables.{state_of, fence_state_of}
-use Rattle.drm_table.specs.Plans.{all_named}
+use Rattle.drm_state.specs.Arming.{arming_ring, new_record}
+use Rattle.drm_state.specs.Records.{fence_state_of}
+use Rattle.drm_table.specs.Tables.{state_of}
+use Rattle.drm_state.specs.Plans.{all_named}
 use Rattle.drm_table.proofs.ArmDone.{few_entities, arming_ring_there, arm_done}
 use Rattle.drm_table.proofs.Balancing.{load_there, last_there, little_load}
 use Rattle.drm_table.proofs.Queues.{is_fresh}

@@ -1,7 +1,7 @@
 use Rattle.std.proofs.Common.{◌∙◌, ap}
 use Rattle.drm_types.specs.declared.access.Usage.TheVariants as usage
 use Rattle.drm_resv.specs.Active.{least_active}
-use Rattle.drm_table.proofs.Alike.{ended_alike}
+use Rattle.drm_state.proofs.Alike.{ended_alike}
 use Rattle.drm_table.proofs.table.Table.busy_fence.Goals as goal
 
 pub returns : goal.returns

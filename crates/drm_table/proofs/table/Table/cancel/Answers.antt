@@ -1,6 +1,6 @@
 use Rattle.std.proofs.Common.{ap, sym, ◌∙◌, rules}
 use Rattle.drm_types.specs.Firsts.{when}
-use Rattle.drm_table.specs.declared.answer.Refusal.TheVariants.{AlreadyStopped}
+use Rattle.drm_state.specs.declared.answer.Refusal.TheVariants.{AlreadyStopped}
 use Rattle.drm_table.proofs.Reaping.{stopped_done}
 use Rattle.drm_table.proofs.table.Table.cancel.Goals as goal
 

@@ -1,7 +1,7 @@
 use Rattle.std.proofs.Common.{◌∙◌, sym, ap, slice_get}
 use Rattle.std.specs.Prelude.{find}
-use Rattle.drm_table.specs.Rows.{is_open}
-use Rattle.drm_table.proofs.Passing.{passed_finds, lent_is}
+use Rattle.drm_state.specs.Rows.{is_open}
+use Rattle.drm_state.proofs.Passing.{passed_finds, lent_is}
 use Rattle.drm_table.proofs.TableFacts.{row_found, row_pending}
 use Rattle.drm_table.proofs.table.Table.current.Goals as goal
 

@@ -1,9 +1,9 @@
 use Rattle.std.proofs.Common.{arith, ◌∙◌, ◌<◌, sym, ap, subst, None, slice_get, ◌≡◌, ◌-◌, ◌≤◌}
 use Rattle.std.specs.Option.{option_map_or}
 use Rattle.drm_fence.specs.Phases.{has_ended}
-use Rattle.drm_table.specs.Tables.{ending}
+use Rattle.drm_state.specs.Records.{ending}
 use Rattle.drm_table.proofs.FinishDone.{may_end, not_ended_yet, row_has_head, head_passed, finish_done}
-use Rattle.drm_table.proofs.LoadsKept.{some_live}
+use Rattle.drm_state.proofs.LoadsKept.{some_live}
 use Rattle.drm_table.proofs.Balancing.{few_outcomes, load_there}
 use Rattle.drm_table.proofs.TableFacts.{row_found, row_pending}
 use Rattle.drm_table.proofs.table.Table.finish.Goals as goal

@@ -1,15 +1,15 @@
 use Rattle.std.proofs.Common.{◌≡◌, ◌<◌, ◌∙◌, sym, ap, subst, length, ◌≤◌}
 use Rattle.std.proofs.lemmas.Option.{slice_get_within}
-use Rattle.drm_table.specs.declared.journal.JobRecord.{JobRecord}
+use Rattle.drm_state.specs.declared.journal.JobRecord.{JobRecord}
 use Rattle.drm_table.specs.Tables.{state_of}
-use Rattle.drm_table.proofs.Records.{at_index}
+use Rattle.drm_state.proofs.Records.{at_index}
 use Rattle.drm_table.proofs.ArmDone.{few_entities}
-use Rattle.drm_table.proofs.Pending.{contains_at}
-use Rattle.drm_table.proofs.FinishLawful.{head_is}
+use Rattle.drm_state.proofs.Pending.{contains_at}
+use Rattle.drm_state.proofs.FinishLawful.{head_is}
 use Rattle.drm_table.proofs.Hanging.{is_blamed, blamed_pending, resumed_done, guilty_done, guilty_passes}
 use Rattle.drm_table.proofs.TableFacts.{entity_there, vec_holds}
 use Rattle.drm_table.proofs.table.Table.hang.Goals as goal
-use Rattle.drm_table.specs.Rows.{is_open, passed_of}
+use Rattle.drm_state.specs.Rows.{is_open, passed_of}
 use Rattle.drm_table.proofs.RowsKept.{passed_row}
 
 pub index-requires : goal.index-requires

@@ -1,6 +1,6 @@
 use Rattle.std.proofs.Common.{◌+◌, ◌∙◌, refl, sym, ap, drop, inl}
 use Rattle.std.specs.Prelude.{fold}
-use Rattle.drm_table.specs.Arming.{less_loaded}
+use Rattle.drm_state.specs.Arming.{less_loaded}
 use Rattle.drm_table.proofs.ArmDone.{ring_of_entity_there}
 use Rattle.drm_table.proofs.Balancing.{least_step, listed_at}
 use Rattle.drm_table.proofs.table.Table.least_loaded.Goals as goal

@@ -1,6 +1,6 @@
 use Rattle.std.proofs.Common.{◌≡◌, ◌<◌, length, drop}
 use Rattle.std.specs.Prelude.{fold}
-use Rattle.drm_table.specs.Arming.{less_loaded}
+use Rattle.drm_state.specs.Arming.{less_loaded}
 use Rattle.drm_table.proofs.table.Table.least_loaded.Given as goal
 
 abbrev pub invariant-loop-ring : goal.invariant-loop-ring

@@ -3,8 +3,8 @@ use Rattle.std.specs.Option.{option_map_or}
 use Rattle.std.specs.List.{list_any}
 use Rattle.drm_buffer.specs.Stored.{is_out_of}
 use Rattle.drm_packet.specs.Touches.{touches}
-use Rattle.drm_table.specs.declared.journal.JobRecord.{JobRecord}
-use Rattle.drm_table.specs.Outcomes.{next_packet}
+use Rattle.drm_state.specs.declared.journal.JobRecord.{JobRecord}
+use Rattle.drm_state.specs.Outcomes.{next_packet}
 use Rattle.drm_table.proofs.TableFacts.{running_at, running_found, vec_holds}
 use Rattle.drm_table.proofs.table.Table.next_is_out.Goals as goal
 

@@ -1,17 +1,17 @@
 use Rattle.std.proofs.Common.{◌∙◌, sym, ap, ◌≡◌, ◌+◌, ◌≤◌, subst}
 use Rattle.drm_fence.specs.Phases.{is_queued}
-use Rattle.drm_table.specs.Tables.{state_of, ring_state_of}
-use Rattle.drm_table.specs.Ring.{credits_of, free_credits, is_guilty}
-use Rattle.drm_table.proofs.Records.{at_test}
-use Rattle.drm_table.proofs.ChoiceIs.{choice_is}
+use Rattle.drm_table.specs.Tables.{state_of}
+use Rattle.drm_state.specs.Ring.{credits_of, free_credits, is_guilty}
+use Rattle.drm_state.proofs.Records.{at_test}
+use Rattle.drm_state.proofs.ChoiceIs.{choice_is}
 use Rattle.drm_table.proofs.TableFacts.{row_found, vec_holds}
 use Rattle.drm_table.proofs.Queues.{guilty_is}
 use Rattle.drm_table.proofs.PickDone.{is_taken, taken_popped, pick_done, room_for_one, not_less, put_passes}
 use Rattle.drm_table.proofs.table.Table.pick.Goals as goal
 use Rattle.std.specs.VecDeque.{deque_capacity}
 use Rattle.drm_ring.specs.Counted.{Counted, need_of}
-use Rattle.drm_table.specs.Rows.{is_open, passed_of}
-use Rattle.drm_table.specs.declared.table.RingJobs.{RingJobs}
+use Rattle.drm_state.specs.Rows.{is_open, passed_of, ring_state_of}
+use Rattle.drm_state.specs.declared.rows.RingJobs.{RingJobs}
 use Rattle.drm_table.proofs.RowsKept.{credits_told, need_fits}
 
 pub index-requires : goal.index-requires

@@ -1,7 +1,7 @@
 use Rattle.std.proofs.Common.{◌<◌, ◌∙◌, refl, sym, ap, subst}
-use Rattle.drm_table.specs.Stopping.{may_end_after}
+use Rattle.drm_state.specs.Stopping.{may_end_after}
 use Rattle.drm_table.proofs.Reaping.{job_ring_there, job_at, reap_refused, front_goes_on, front_popped, front_going, front_unloaded, reap_done}
-use Rattle.drm_table.proofs.LoadsKept.{some_live}
+use Rattle.drm_state.proofs.LoadsKept.{some_live}
 use Rattle.drm_table.proofs.Balancing.{few_outcomes, load_there}
 use Rattle.drm_table.proofs.Queues.{head_there}
 use Rattle.drm_table.proofs.TableFacts.{row_there, entity_row_there}

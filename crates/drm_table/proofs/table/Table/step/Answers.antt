@@ -4,15 +4,15 @@ use Rattle.std.specs.Option.{option_map_or}
 use Rattle.drm_buffer.specs.Memory.{sizes_of}
 use Rattle.drm_buffer.specs.Stored.{Stored}
 use Rattle.drm_packet.proofs.Sizes.{sizes-effect}
-use Rattle.drm_table.specs.declared.journal.JobRecord.{JobRecord}
+use Rattle.drm_state.specs.declared.journal.JobRecord.{JobRecord}
 use Rattle.drm_table.proofs.Stored.{target_touched, source_touched}
-use Rattle.drm_table.specs.Outcomes.{must_stall}
+use Rattle.drm_state.specs.Outcomes.{must_stall}
 use Rattle.drm_table.specs.Tables.{state_of}
 use Rattle.drm_table.proofs.TableFacts.{running_at, running_found, next_in_range, few_packets, vec_holds, row_found}
-use Rattle.drm_table.proofs.CallsAre.{step_may, step_stalls}
+use Rattle.drm_state.proofs.CallsAre.{step_may, step_stalls}
 use Rattle.drm_table.proofs.StepDone.{step_done, ran_passes}
 use Rattle.drm_table.proofs.table.Table.step.Goals as goal
-use Rattle.drm_table.specs.Rows.{is_open, passed_of}
+use Rattle.drm_state.specs.Rows.{is_open, passed_of}
 use Rattle.drm_table.proofs.RowsKept.{passed_row}
 
 pub index-record-requires : goal.index-record-requires

@@ -7,15 +7,14 @@ use Rattle.drm_buffer.specs.Stored.{Stored}
 use Rattle.drm_packet.proofs.Sizes.{sizes-effect}
 use Rattle.drm_packet.specs.Touches.{touches}
 use Rattle.drm_packet.specs.Parts.{target_of, part_effect, other_bytes}
-use Rattle.drm_table.specs.declared.journal.JobRecord.{JobRecord}
-use Rattle.drm_table.proofs.Records.{at_index}
+use Rattle.drm_state.specs.declared.journal.JobRecord.{JobRecord}
+use Rattle.drm_state.proofs.Records.{at_index}
 use Rattle.drm_table.proofs.TableFacts.{running_found, next_in_range, few_packets, vec_holds, row_found}
 use Rattle.drm_table.proofs.StepDone.{step_done, ran_passes}
 use Rattle.drm_table.proofs.ComingBack.{packet_back, runs_back, back_state}
 use Rattle.drm_table.proofs.table.Table.take_back.Goals as goal
-use Rattle.drm_table.specs.Rows.{is_open, passed_of}
+use Rattle.drm_state.specs.Rows.{is_open, passed_of, ring_state_of}
 use Rattle.drm_table.proofs.RowsKept.{passed_row}
-use Rattle.drm_table.specs.Tables.{ring_state_of}
 
 pub put-requires-clause-out : goal.put-requires-clause-out
 put-requires-clause-out c b touched =

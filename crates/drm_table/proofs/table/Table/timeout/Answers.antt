@@ -2,7 +2,7 @@ use Rattle.std.proofs.Common.{◌∙◌, sym}
 use Rattle.std.proofs.lemmas.Option.{slice_get_within}
 use Rattle.drm_reset.specs.declared.verdict.Verdict.TheVariants as verdict
 use Rattle.drm_table.specs.Tables.{state_of}
-use Rattle.drm_table.proofs.FinishLawful.{head_is}
+use Rattle.drm_state.proofs.FinishLawful.{head_is}
 use Rattle.drm_table.proofs.Hanging.{timeout_by}
 use Rattle.drm_table.proofs.table.Table.timeout.Goals as goal
 

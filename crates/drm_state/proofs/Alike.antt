@@ -1,0 +1,47 @@
+-- Lists that have the same at each place, and the fences of the jobs of a journal.
+use Rattle.std.proofs.Common.{◌≡◌, ℕ, zero, suc, Bool, true, false, ◌||◌, List, [], ◌∷◌, length, map, set, Some, refl, sym, ap, ◌∙◌, inl, inr, arith, slice_get}
+use Rattle.std.specs.List.{list_any}
+use Rattle.std.specs.Option.{option_map_or}
+use Rattle.std.proofs.lemmas.List.{map-set}
+use Rattle.std.proofs.lemmas.Bool.{cases_Bool}
+use Rattle.drm_fence.specs.declared.timeline.FenceState.{FenceState}
+use Rattle.drm_fence.specs.Fences.{has_ended_at, fence_changed}
+use Rattle.drm_state.specs.declared.journal.JobRecord.{JobRecord}
+use Rattle.drm_state.specs.Reservation.{is_signaled}
+use Rattle.drm_state.specs.Records.{fence_state_of}
+use Rattle.drm_state.proofs.Records.{to_map}
+
+-- two lists that have the same at each place are one
+pub list_ext : {X : Type 0} (xs ys : List X) → length xs ≡ length ys → ((k : ℕ) (x : X) → slice_get xs k ≡ Some x → slice_get ys k ≡ Some x) → xs ≡ ys
+list_ext [] [] count each = refl
+list_ext [] (y ∷ ys) count each = absurd (omega (arith, count))
+list_ext (x ∷ xs) [] count each = absurd (omega (arith, count))
+list_ext (x ∷ xs) (y ∷ ys) count each =
+    let first : y ≡ x = (let at = each 0 x refl in cc (at)) in
+    let rest : xs ≡ ys = list_ext xs ys (omega (arith, count)) (λ k z at. each (suc k) z at) in
+    ap (λ z. z ∷ xs) (sym first) ∙ ap (λ zs. y ∷ zs) rest
+
+-- whether a fence has an outcome, by the timeline and by the journal
+pub ended_alike : (js : List JobRecord) (fs : List FenceState) → fs ≡ map fence_state_of js → has_ended_at fs ≡ is_signaled js
+ended_alike js fs tie = ap has_ended_at tie ∙ (λ i f. by_map js f i)
+  where
+    by_map : (js : List JobRecord) (f : ℕ) → has_ended_at (map fence_state_of js) f ≡ is_signaled js f
+    by_map [] f = refl
+    by_map (r ∷ js) zero = refl
+    by_map (r ∷ js) (suc f) = by_map js f
+
+-- the fences stay those of the jobs when a job and its fence change alike
+pub fence_tie : (js : List JobRecord) (fs : List FenceState) (f : ℕ) (r new : JobRecord) (change : FenceState → FenceState) → fs ≡ map fence_state_of js
+    → slice_get js f ≡ Some r → change (fence_state_of r) ≡ fence_state_of new → fence_changed fs f change ≡ map fence_state_of (set js f new)
+fence_tie js fs f r new change tie at same =
+    ap (λ o. option_map_or (λ x. set fs f (change x)) o fs) (ap (λ fs. slice_get fs f) tie ∙ to_map fence_state_of js f r at)
+    ∙ (ap (λ x. set fs f x) same ∙ (ap (λ fs. set fs f (fence_state_of new)) tie ∙ sym (map-set fence_state_of js f new)))
+
+-- a test that some element passes
+pub any_at : {X : Type 0} (p : X → Bool) (xs : List X) → list_any p xs ≡ true → (k : ℕ) × (x : X) × (slice_get xs k ≡ Some x) × (p x ≡ true)
+any_at p [] is = absurd (let never : false ≡ true = is in cc (never))
+any_at p (x ∷ xs) is =
+    elim (cases_Bool (p x)) [
+      | inl here ↦ (0, x, refl, here)
+      | inr no_more ↦ let there = any_at p xs (sym (ap (λ b. b || list_any p xs) no_more) ∙ is) in (suc there.0, there.1, there.2, there.3)
+    ]

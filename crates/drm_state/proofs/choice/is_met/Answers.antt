@@ -1,0 +1,22 @@
+use Rattle.std.proofs.Common.{◌≡◌, Some, slice_get, refl, rules}
+use Rattle.std.proofs.lemmas.Option.{slice_get_past}
+use Rattle.drm_state.proofs.Records.{at_index}
+use Rattle.drm_state.proofs.choice.is_met.Goals as goal
+
+pub returns-then-is_ended : goal.returns-then-is_ended
+returns-then-is_ended c =
+    let at : slice_get c.args.journal.now c.args.fence ≡ Some c.in-Some.record.now = at_index c.args.journal.now c.args.fence c.in-Some.record.now c.in-Some.ensures.lookup.1 c.in-Some.ensures.lookup.3.0 in
+    rw at (search rules)
+
+pub returns-then-not-is_queued : goal.returns-then-not-is_queued
+returns-then-not-is_queued c =
+    let at : slice_get c.args.journal.now c.args.fence ≡ Some c.in-Some.record.now = at_index c.args.journal.now c.args.fence c.in-Some.record.now c.in-Some.ensures.lookup.1 c.in-Some.ensures.lookup.3.0 in
+    rw at (search rules)
+
+pub returns-else-not-is_queued : goal.returns-else-not-is_queued
+returns-else-not-is_queued c =
+    let at : slice_get c.args.journal.now c.args.fence ≡ Some c.in-Some.record.now = at_index c.args.journal.now c.args.fence c.in-Some.record.now c.in-Some.ensures.lookup.1 c.in-Some.ensures.lookup.3.0 in
+    rw at (search rules)
+
+pub returns-in-None : goal.returns-in-None
+returns-in-None c = rw (slice_get_past c.args.journal.now c.args.fence c.in-None.ensures.lookup.3) refl

@@ -1,0 +1,31 @@
+-- What the laws and the contracts of a device say, whatever code keeps it.
+pub mod State
+pub mod Journal
+pub mod Order
+pub mod Choice
+pub mod Ring
+pub mod Reservation
+pub mod Arming
+pub mod Errors
+pub mod Refusals
+pub mod Outcomes
+pub mod Lawful
+pub mod Grows
+pub mod Steady
+pub mod Chosen
+pub mod Writers
+pub mod Readers
+pub mod Events
+-- What helps the bodies, and the words of a device's calls.
+pub mod Waits
+pub mod Answers
+pub mod Records
+pub mod Loads
+pub mod Rows
+pub mod Recovery
+pub mod Stopping
+pub mod Plans
+pub mod Uses
+pub mod Held
+pub mod Collected
+pub mod Keeps

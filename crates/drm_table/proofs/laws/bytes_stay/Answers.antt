@@ -1,5 +1,0 @@
-use Rattle.drm_table.proofs.BytesKept.{bytes_stay}
-use Rattle.drm_table.proofs.laws.bytes_stay.Goals as goal
-
-pub returns : goal.returns
-returns c = bytes_stay

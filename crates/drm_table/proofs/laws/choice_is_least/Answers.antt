@@ -1,5 +1,0 @@
-use Rattle.drm_table.proofs.Least.{chooses_least}
-use Rattle.drm_table.proofs.laws.choice_is_least.Goals as goal
-
-pub returns : goal.returns
-returns c = chooses_least

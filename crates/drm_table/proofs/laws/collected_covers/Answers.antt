@@ -1,5 +1,0 @@
-use Rattle.drm_table.proofs.Covering.{covers}
-use Rattle.drm_table.proofs.laws.collected_covers.Goals as goal
-
-pub returns : goal.returns
-returns c = covers c.jobs_are_the_sound_drafts.ensures
