@@ -1,7 +1,7 @@
 //! drm_bench: what the parts of the device cost, at 64 entities and 65,535 jobs, and packets that go out of a device.
 //!
 //! Each word `KIND:ROUNDS` runs so many rounds over one part, and prints a sum of its answers. `bench/leaves/run` times
-//! it beside the same in plain Rust, whose sums are what the gate expects here.
+//! it beside the same in plain Rust, whose sums are what the gate expects here, but for that of `packets`.
 #![tactic(auto)]
 
 mod entities;

@@ -13,7 +13,7 @@ use clap::{Arg, ArgAction, ArgMatches, Command, Error};
 use drm_engine::Engine;
 use std::alloc::{AllocError, Global};
 
-/// The version of the program, and the toolchain that it is proved with, as `rt version` tells it.
+/// The version of the program, and the toolchain that it is made for, as `rt version` tells it.
 const VERSION: &str = "0.1.0 (rattle-kit-13b logic dac8208d650f15bf)";
 
 /// The most submitters.
@@ -95,7 +95,7 @@ Exit status:
 
 With status 2 or 3, and of 'run' with status 1, nothing was written. docs/FORMATS.md is the manual of scripts, answers and journals.";
 
-/// A command that runs an engine.
+/// A command of the program, with what help says of it.
 fn command<'a>(alloc: Global, name: &'a str, about: &'a str, help: &'a str) -> Command<'a>
     ensures app { app_of result ≡ new_app name.entry.now }
     ensures local { (out-Command result).has_globals ≡ false }

@@ -45,7 +45,7 @@ abbrev pub DeclaresOnce : Draft → Type 0
 DeclaresOnce job =
     (j k : ℕ) (d e : ℕ × Access) → slice_get job.declared j ≡ Some d → slice_get job.declared k ≡ Some e → d.0 ≡ e.0 → j ≡ k
 
--- so for all reservations
+-- of all reservations each is as it was, or has gained the job's use (`HasUse`)
 pub record HaveUses (ended : ℕ → Bool) (fence : ℕ) (job : Draft) (old new : List WithRoom) : Type 0 where
   pub count : length new ≡ length old
   pub each : (k : ℕ) (r : WithRoom) → slice_get old k ≡ Some r → (m : WithRoom) × (slice_get new k ≡ Some m) × HasUse ended fence job k r m

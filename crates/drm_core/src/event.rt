@@ -30,9 +30,9 @@ pub enum Event {
     Finish { ring: RingId, now: Moment },
     /// The timeout handler looks at the head of the ring (`drm_sched_job_timedout`).
     Timeout { ring: RingId, now: Moment },
-    /// Stops an entity: it takes no more jobs, and its queued ones are not picked (`drm_sched_entity_flush`).
+    /// Stops an entity: it takes no more jobs, and its queued ones are not picked (`drm_sched_entity_kill`).
     Cancel { entity: EntityId },
-    /// Ends the first queued job of a stopped entity (`drm_sched_entity_kill`, one job at a time).
+    /// Ends the first queued job of a stopped entity (`drm_sched_entity_kill_jobs_cb`).
     Reap { entity: EntityId },
     /// Reads a buffer under its lock, after all its writers (`dma_resv_test_signaled`).
     Read { ctx: CtxId, buffer: BufferId },

@@ -2,7 +2,8 @@
 //!
 //! `replay` answers the commands of a script. `serial` runs the jobs of a journal one after another and writes the
 //! buffers that they leave; `check` compares these with the last bytes that the journal tells. The clause of an engine
-//! says what was read and written for each way in which it ends: the whole text is judged before anything is written.
+//! says what is written of what the reader had, for each way in which it ends: the whole text is judged before anything is
+//! written.
 //! `Ending` has the exit status and the text of each such way. An `Engine` is what a word of the command line names.
 #![tactic(auto)]
 

@@ -1,9 +1,10 @@
 -- What a call tells of its pass.
-use Rattle.std.proofs.Common.{◌≡◌, ℕ, [], ◌∷◌, ◌++◌, refl, sym, ap, ◌∙◌, subst, Some, None, Result, Ok, Err}
+use Rattle.std.proofs.Common.{◌≡◌, ℕ, [], ◌∷◌, ◌++◌, refl, sym, ap, ◌∙◌, subst, ⊎_elim, Some, None, Result, Ok, Err}
 use Rattle.std.specs.Prelude.{◌||◌, Option, IfOk, IfErr, OnOk, IsPermutation}
 use Rattle.atomic_table.specs.Seated.{TableId}
 use Rattle.ww_lock.specs.Begun.{IsJoined, sees}
 use Rattle.ww_lock.specs.Fences.{NotBack}
+use Rattle.ww_lock.specs.Parts.{IsWhole}
 use Rattle.ww_lock.specs.Rule.{In}
 use Rattle.ww_lock.specs.Steps.{IsChain, IsLater}
 use Rattle.drm_types.specs.declared.spec.DeviceSpec.{DeviceSpec}
@@ -17,10 +18,10 @@ use Rattle.drm_state.specs.Outcomes.{pick_outcome, cancelled_device}
 use Rattle.drm_state.specs.Refusals.{pick_refusal, cancel_refusal}
 use Rattle.drm_gpu.specs.declared.running.OutPacket.{OutPacket}
 use Rattle.drm_gpu.specs.Answers.{PickIs, CancelIs}
-use Rattle.drm_gpu.specs.Passes.{GpuState, PassState, Seeing, DeviceSeat, Knows, KnowsWith, IsJoinedOf, IsPassSeat, IsFound, IsGood, IsSameBut, Adds, Calls, CallsAs, GrowsTo, word_shown, last_of, gpu_of, pass_of}
+use Rattle.drm_gpu.specs.Passes.{GpuState, PassState, Seeing, DeviceSeat, Knows, KnowsWith, IsJoinedOf, IsPassSeat, HasWaited, IsFound, IsGood, IsSameBut, Adds, Calls, CallsAs, GrowsTo, word_shown, last_of, gpu_of, pass_of}
 use Rattle.drm_gpu.specs.Running.{GoesOut, Starts}
 use Rattle.drm_gpu.proofs.Chains.{saw}
-use Rattle.drm_gpu.proofs.Grown.{grows_trans}
+use Rattle.drm_gpu.proofs.Grown.{grows_itself, grows_trans}
 
 same_gpu : (gpu : GpuState) (h : TableId) (s : DeviceSpec) → h ≡ gpu.home → s ≡ gpu.spec → record { home = h; spec = s } ≡ gpu
 same_gpu gpu h s e f = ap (λ h. record { home = h; spec = s }) e ∙ ap (λ s. record { home = gpu.home; spec = s }) f
@@ -28,9 +29,28 @@ same_gpu gpu h s e f = ap (λ h. record { home = h; spec = s }) e ∙ ap (λ s. 
 pub at_gpu : (gpu : GpuState) (t : DeviceSeat) → IsPassSeat gpu t → gpu_of t.place.table_id (sees t) ≡ gpu
 at_gpu gpu t k = same_gpu gpu t.place.table_id (last_of (sees t)).state.spec k.idle.0.0 k.knows.described
 
+-- who has seen one pivot has seen no other
+only_seen : {task : Option Task} (spec : DeviceSpec) (v : Seeing) (p : MarkedDevice) → KnowsWith task spec (last_of v) v → In p v.pivot.seen → p ≡ last_of v
+only_seen spec v p k seen = ⊎_elim (λ is. is) (λ never. absurd never) (subst (In p) k.seen seen)
+
 -- what a caller is told of the device that it finds
 pub is_found : {task : Option Task} (spec : DeviceSpec) (v : Seeing) (p : MarkedDevice) → KnowsWith task spec (last_of v) v → IsLater IsGood GrowsTo word_shown IsBusy v p → IsFound p v
-is_found spec v p k later = record { lawful = later.fine; later = later.grown (last_of v) (saw spec (last_of v) v k); shows = later.shows }
+is_found spec v p k later = record {
+  lawful = later.fine;
+  later = later.grown (last_of v) (saw spec (last_of v) v k);
+  shows = later.shows;
+  alone = λ all. only_seen spec v p k (later.alone all);
+}
+
+-- a caller that has not waited yet, one that brought home what it found, and one that waited twice
+pub waits_not : (v : Seeing) → HasWaited v v
+waits_not v = (grows_itself (last_of v), λ all. refl)
+
+pub waited : (d : MarkedDevice) (v w : Seeing) → IsFound d v → last_of w ≡ d → HasWaited v w
+waited d v w f is = (subst (GrowsTo (last_of v)) (sym is) f.later, λ all. is ∙ f.alone all)
+
+pub waited_on : (v s t : Seeing) → HasWaited v s → IsSameBut v s → HasWaited s t → HasWaited v t
+waited_on v s t one same two = (grows_trans (last_of v) (last_of s) (last_of t) one.0 two.0, λ all. two.1 (subst IsWhole (sym same.4) all) ∙ one.1 all)
 
 -- a pass of which only the last device and the calls are others
 pass_is : (gpu : GpuState) (old new : PassState) (found : MarkedDevice) → old.gpu ≡ gpu → new.gpu ≡ gpu → new.calls ≡ old.calls ++ (found, new.last) ∷ [] → new.looked ≡ old.looked
@@ -43,11 +63,12 @@ pub same_trans : (v s t : Seeing) → IsSameBut v s → IsSameBut s t → IsSame
 same_trans v s t a b = (b.0 ∙ a.0, b.1 ∙ a.1, b.2 ∙ a.2, b.3 ∙ a.3, b.4 ∙ a.4, b.5 ∙ a.5)
 
 -- what a caller finds that has seen more meanwhile
-pub found_back : (d : MarkedDevice) (v s : Seeing) → GrowsTo (last_of v) (last_of s) → IsSameBut v s → IsFound d s → IsFound d v
+pub found_back : (d : MarkedDevice) (v s : Seeing) → HasWaited v s → IsSameBut v s → IsFound d s → IsFound d v
 found_back d v s on same f = record {
   lawful = f.lawful;
-  later = grows_trans (last_of v) (last_of s) d on f.later;
+  later = grows_trans (last_of v) (last_of s) d on.0 f.later;
   shows = λ fence word i. f.shows fence word (subst (In (fence, word)) (sym same.1) i);
+  alone = λ all. f.alone (subst IsWhole (sym same.4) all) ∙ on.1 all;
 }
 
 -- a caller that saw v entered and saw s, found d and left e, and sees t
@@ -55,7 +76,10 @@ pub calls_as : (does : MarkedDevice → MarkedDevice → Type 0) (v s t : Seeing
 calls_as does v s t d f e found same is on out adds holds =
     let last = sym out in record {
       found = d;
-      is_found = found;
+      lawful = found.lawful;
+      later = found.later;
+      shows = found.shows;
+      alone = λ all. ap (λ x. x.state) (found.alone all);
       event = subst (does d) last holds;
       onward = subst (GrowsTo d) last on;
       adds = (
@@ -68,11 +92,15 @@ calls_as does v s t d f e found same is on out adds holds =
       );
     }
 
--- a call that followed on a look at the device
-pub calls_after : (does : MarkedDevice → MarkedDevice → Type 0) (v s t : Seeing) → GrowsTo (last_of v) (last_of s) → IsSameBut v s → CallsAs does s t → CallsAs does v t
-calls_after does v s t on same c = record {
+-- a call that followed on an entry which left the device's state
+pub calls_after : (does : MarkedDevice → MarkedDevice → Type 0) (v s t : Seeing) → GrowsTo (last_of v) (last_of s) → (IsWhole v.part → (last_of s).state ≡ (last_of v).state) → IsSameBut v s → CallsAs does s t
+    → CallsAs does v t
+calls_after does v s t on left same c = record {
   found = c.found;
-  is_found = found_back c.found v s on same c.is_found;
+  lawful = c.lawful;
+  later = grows_trans (last_of v) (last_of s) c.found on c.later;
+  shows = λ fence word i. c.shows fence word (subst (In (fence, word)) (sym same.1) i);
+  alone = λ all. c.alone (subst IsWhole (sym same.4) all) ∙ left all;
   event = c.event;
   onward = c.onward;
   adds = (c.adds.0 ∙ ap (λ cs. cs ++ (c.found, last_of t) ∷ []) same.0, c.adds.1 ∙ same.1, c.adds.2 ∙ same.2, c.adds.3 ∙ same.3, c.adds.4 ∙ same.4, c.adds.5 ∙ same.5);
@@ -83,9 +111,10 @@ pub calls_are : (does : MarkedDevice → MarkedDevice → Type 0) (gpu : GpuStat
     → Calls does old (pass_of after t)
 calls_are does gpu old home after v t view belongs at c = record {
   found = c.found;
-  lawful = c.is_found.lawful;
-  later = subst (λ (o : PassState). GrowsTo o.last c.found) view c.is_found.later;
-  shows = subst (λ (o : PassState). (g w : ℕ) → In (g, w) o.looked → NotBack w (word_shown c.found g)) view c.is_found.shows;
+  lawful = c.lawful;
+  later = subst (λ (o : PassState). GrowsTo o.last c.found) view c.later;
+  shows = subst (λ (o : PassState). (g w : ℕ) → In (g, w) o.looked → NotBack w (word_shown c.found g)) view c.shows;
+  alone = subst (λ (o : PassState). IsWhole o.part → c.found.state ≡ o.last.state) view c.alone;
   event = c.event;
   onward = c.onward;
   gpu = at ∙ sym belongs;
@@ -109,6 +138,7 @@ started_of gpu old home ring out v s view belongs o =
       lawful = o.is_found.lawful;
       later = subst (λ (p : PassState). GrowsTo p.last o.found) view o.is_found.later;
       shows = subst (λ (p : PassState). (g w : ℕ) → In (g, w) p.looked → NotBack w (word_shown o.found g)) view o.is_found.shows;
+      alone = subst (λ (p : PassState). IsWhole p.part → o.found ≡ p.last) view o.is_found.alone;
       ring_is = o.ring_is;
       free = o.free;
       taken = o.taken;

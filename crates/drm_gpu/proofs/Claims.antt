@@ -1,5 +1,5 @@
 -- What a submission shows of the locks that its caller takes.
-use Rattle.std.proofs.Common.{◌≡◌, ◌<◌, ℕ, List, [], ◌∷◌, ◌++◌, length, refl, sym, ap, ◌∙◌, subst, ⊎_elim, Result, Ok, Err}
+use Rattle.std.proofs.Common.{◌≡◌, ◌<◌, ◌⊎◌, ℕ, List, [], ◌∷◌, ◌++◌, length, refl, sym, ap, ◌∙◌, subst, ⊎_elim, inl, inr, Result, Ok, Err}
 use Rattle.std.specs.Prelude.{true, false}
 use Rattle.std.proofs.lemmas.List.{length-map}
 use Rattle.atomic_table.specs.Seated.{TableId}
@@ -18,7 +18,7 @@ use Rattle.drm_state.specs.Held.{kept_of}
 use Rattle.drm_sched.specs.Marks.{MarkedDevice}
 use Rattle.drm_state.specs.Reservation.{Fits}
 use Rattle.drm_gpu.specs.Passes.{Seeing, GpuState, PassState, Knows, last_of, pass_of}
-use Rattle.drm_gpu.specs.Submissions.{Submission, DeviceAcquire, Holding, TriesLock, MayWait, Claims, Locks, WentOn, submission_of}
+use Rattle.drm_gpu.specs.Submissions.{Submission, Declares, DeviceAcquire, Holding, HoldsNoMore, TriesLock, MayWait, Claims, Locks, WentOn, submission_of}
 use Rattle.drm_gpu.proofs.Chains.{knows_same}
 use Rattle.drm_gpu.proofs.Holders.{in_kept, in_kept_of, still_holds}
 use Rattle.drm_gpu.proofs.Lists.{at_in, in_last, in_left, lacks_same}
@@ -215,6 +215,31 @@ keeps_locked b a a' (Ok u) t d x h = subst (In (d, x)) (sym t.3.4) (in_left (d, 
 keeps_locked b a a' (Err lock.Sealed) t d x h = subst (λ (z : DeviceAcquire). In (d, x) z.held.items) (sym t.1) h
 keeps_locked b a a' (Err lock.Already) t d x h = subst (λ (z : DeviceAcquire). In (d, x) z.held.items) (sym t.2) h
 keeps_locked b a a' (Err (lock.Backoff n)) t d x h = subst (λ l. In (d, x) l.items) (sym t.4.2.1) h
+
+-- and takes nothing but its buffer
+pub only_locked : (b : ℕ) (a a' : DeviceAcquire) (r : Result (Unit {0}) LockError) → AnswersLock b a a' r → (d : ℕ) (x : WithRoom) → In (d, x) a'.held.items → (d ≡ b) ⊎ In (d, x) a.held.items
+only_locked b a a' (Ok u) t d x h = ⊎_elim (λ old. inr old) (λ new. inl (ap (λ q. q.0) new)) (in_last (d, x) (b, t.3.0) a.held.items (subst (In (d, x)) t.3.4 h))
+only_locked b a a' (Err lock.Sealed) t d x h = inr (subst (λ (z : DeviceAcquire). In (d, x) z.held.items) t.1 h)
+only_locked b a a' (Err lock.Already) t d x h = inr (subst (λ (z : DeviceAcquire). In (d, x) z.held.items) t.2 h)
+only_locked b a a' (Err (lock.Backoff n)) t d x h = inr (subst (λ l. In (d, x) l.items) t.4.2.1 h)
+
+-- so a caller that locks what its job declares holds no more
+module _ {A : Type 0} (job : Draft) where
+  pub no_more_itself : (xs : List (ℕ × A)) → HoldsNoMore job xs xs
+  no_more_itself xs b x h = inr (x, h)
+
+  pub no_more_trans : (xs ys zs : List (ℕ × A)) → HoldsNoMore job xs ys → HoldsNoMore job ys zs → HoldsNoMore job xs zs
+  no_more_trans xs ys zs p q b x h = ⊎_elim (λ declared. inl declared) (λ y. p b y.0 y.1) (q b x h)
+
+  pub one_more : (b : ℕ) (xs ys : List (ℕ × A)) → Declares job b → ((d : ℕ) (x : A) → In (d, x) ys → (d ≡ b) ⊎ In (d, x) xs) → HoldsNoMore job xs ys
+  one_more b xs ys declared only d x h = ⊎_elim (λ e. inl (declared.0, declared.1, declared.2, declared.3 ∙ sym e)) (λ old. inr (x, old)) (only d x h)
+
+  pub one_alone : (b : ℕ) (x : A) (xs ys : List (ℕ × A)) → Declares job b → ys ≡ (b, x) ∷ [] → HoldsNoMore job xs ys
+  one_alone b x xs ys declared is d y h = ⊎_elim (λ e. inl (declared.0, declared.1, declared.2, declared.3 ∙ sym (ap (λ q. q.0) e))) (λ never. absurd never) (subst (In (d, y)) is h)
+
+pub no_more_kept : (job : Draft) (xs ys : List (ℕ × WithRoom)) → HoldsNoMore job xs ys → HoldsNoMore job (kept_of xs) (kept_of ys)
+no_more_kept job xs ys p b x h =
+    let r = in_kept b x ys h in ⊎_elim (λ declared. inl declared) (λ y. inr (y.0.kept, in_kept_of b y.0 xs y.1)) (p b r.0 r.1)
 
 -- room was taken in what is held
 pub room_taken : (gpu : GpuState) (a a' : DeviceAcquire) → Holding gpu a → HoldsOutside gpu.home a' → view a' ≡ view a → kept_of a'.held.items ≡ kept_of a.held.items → Holding gpu a'

@@ -84,6 +84,9 @@ only_idle d ring false r free is =
 pub begun_grows : (d e : MarkedDevice) (out : OutPacket) → HasBegun d out.ring (Work out.fence out.packet out.copy out.write out.read) e → GrowsTo d e
 begun_grows d e out (job, at, current, count, next, runs, write_is, read_is, e_is) = subst (GrowsTo d) (sym e_is) (reflexive d)
 
+pub begun_state : (d e : MarkedDevice) (out : OutPacket) → HasBegun d out.ring (Work out.fence out.packet out.copy out.write out.read) e → e.state ≡ d.state
+begun_state d e out (job, at, current, count, next, runs, write_is, read_is, e_is) = ap (λ (m : MarkedDevice). m.state) e_is
+
 -- where no ring has a packet out, no buffer is out
 all_in : (f : Option Mark → Bool) (rows : List (Option Mark)) → f None ≡ false → ((k : ℕ) → k < length rows → option_map_or (λ o. o) (slice_get rows k) None ≡ None) → list_any f rows ≡ false
 all_in f [] none all = refl

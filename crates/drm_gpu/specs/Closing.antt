@@ -1,8 +1,8 @@
 -- What a device leaves when it is taken apart.
-use Rattle.std.specs.Prelude.{◌≡◌, ◌<◌, ℕ, false, All, Some, length, slice_get}
+use Rattle.std.specs.Prelude.{◌≡◌, ◌<◌, ℕ, true, All, Some, false, length, slice_get}
 use Rattle.drm_job.specs.Fault.{IsJob}
 use Rattle.drm_resv.specs.Reservation.{WithRoom}
-use Rattle.drm_sched.specs.Marks.{MarkedDevice}
+use Rattle.drm_sched.specs.Marks.{MarkedDevice, ring_out}
 use Rattle.drm_state.specs.Reservation.{Fits}
 use Rattle.ww_lock.specs.Lifetime.{FitsAll}
 use Rattle.ww_lock.specs.Parts.{IsWhole}
@@ -27,7 +27,7 @@ pub record Leaves (pass : PassState) (c : Closed) : Type 0 where
   pub last : IsWhole pass.part → device ≡ pass.last
   pub all : IsWhole pass.part → (b : ℕ) → b < length c.resvs.items → (x : WithRoom) × (slice_get c.resvs.items b ≡ Some (Some x))
 
--- both come back where memory was refused
+-- both come back where memory was refused. A pass that has taken in all others is told that somebody is inside only where a packet is out
 abbrev pub GivesBack : GpuState → PassState → CloseError → Type 0
 GivesBack gpu pass (Memory g p) = (g ≡ gpu) × (p ≡ pass)
-GivesBack gpu pass Inside = Unit {0}
+GivesBack gpu pass Inside = IsWhole pass.part → (ring : ℕ) × (ring_out pass.last ring ≡ true)

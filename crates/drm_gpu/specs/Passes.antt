@@ -5,6 +5,7 @@ use Rattle.ww_lock.specs.declared.board.View.{View}
 use Rattle.ww_lock.specs.declared.seat.Seat.{Seat}
 use Rattle.ww_lock.specs.Begun.{IsIdle, IsOutside, IsInside, sees}
 use Rattle.ww_lock.specs.Fences.{NotBack}
+use Rattle.ww_lock.specs.Parts.{IsWhole}
 use Rattle.ww_lock.specs.Rule.{In}
 use Rattle.ww_lock.specs.Steps.{IsChain}
 use Rattle.drm_types.specs.declared.spec.DeviceSpec.{DeviceSpec}
@@ -127,19 +128,27 @@ abbrev pub Adds : MarkedDevice → MarkedDevice → Seeing → Seeing → Type 0
 Adds found left v w =
     (w.pivot.mine ≡ v.pivot.mine ++ (found, left) ∷ []) × (w.looked ≡ v.looked) × (w.lock.had ≡ v.lock.had) × (w.lock.met ≡ v.lock.met) × (w.part ≡ v.part) × (w.lock.ended ≡ v.lock.ended)
 
--- a device that a caller finds: it is lawful, came of the one that was seen last, and shows no fence earlier than it was looked at
+-- a device that a caller finds: it is lawful, came of the one that was seen last, and shows no fence earlier than it was looked at. A
+-- caller that has taken in all others finds the very device that it saw last
 pub record IsFound (found : MarkedDevice) (v : Seeing) : Type 0 where
   pub lawful : IsGood found
   pub later : GrowsTo (last_of v) found
   pub shows : (fence word : ℕ) → In (fence, word) v.looked → NotBack word (word_shown found fence)
+  pub alone : IsWhole v.part → found ≡ last_of v
+
+-- a caller that has only waited: what it saw last came of what it saw before, and is that where it has taken in all others
+abbrev pub HasWaited : Seeing → Seeing → Type 0
+HasWaited v w = GrowsTo (last_of v) (last_of w) × (IsWhole v.part → last_of w ≡ last_of v)
 
 -- a call found a lawful device that came of what the pass saw last and shows no fence earlier than the pass saw it, and left the
--- device that the pass sees now. The calls of the pass have this one more
+-- device that the pass sees now. A pass that has taken in all others found what it saw last, but for a packet of its own that was
+-- out. The calls of the pass have this one more
 pub record Calls (does : MarkedDevice → MarkedDevice → Type 0) (old new : PassState) : Type 0 where
   pub found : MarkedDevice
   pub lawful : IsGood found
   pub later : GrowsTo old.last found
   pub shows : (fence word : ℕ) → In (fence, word) old.looked → NotBack word (word_shown found fence)
+  pub alone : IsWhole old.part → found.state ≡ old.last.state
   pub event : does found new.last
   pub onward : GrowsTo found new.last
   pub gpu : new.gpu ≡ old.gpu
@@ -148,7 +157,10 @@ pub record Calls (does : MarkedDevice → MarkedDevice → Type 0) (old new : Pa
 -- the same of a seat that saw v and sees w
 pub record CallsAs (does : MarkedDevice → MarkedDevice → Type 0) (v w : Seeing) : Type 0 where
   pub found : MarkedDevice
-  pub is_found : IsFound found v
+  pub lawful : IsGood found
+  pub later : GrowsTo (last_of v) found
+  pub shows : (fence word : ℕ) → In (fence, word) v.looked → NotBack word (word_shown found fence)
+  pub alone : IsWhole v.part → found.state ≡ (last_of v).state
   pub event : does found (last_of w)
   pub onward : GrowsTo found (last_of w)
   pub adds : Adds found (last_of w) v w

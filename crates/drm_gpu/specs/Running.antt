@@ -10,6 +10,7 @@ use Rattle.drm_sched.specs.Marks.{MarkedDevice, Task, is_in_way, is_out, packet_
 use Rattle.drm_state.specs.Refusals.{step_refusal}
 use Rattle.ww_lock.specs.Begun.{sees}
 use Rattle.ww_lock.specs.Fences.{NotBack}
+use Rattle.ww_lock.specs.Parts.{IsWhole}
 use Rattle.ww_lock.specs.Rule.{In}
 use Rattle.drm_gpu.specs.declared.running.OutPacket.{OutPacket}
 use Rattle.drm_gpu.specs.declared.running.Sent.{Sent}
@@ -28,13 +29,15 @@ pub record RunningState : Type 0 where
   pub fence : ℕ
   pub packet : ℕ
 
--- the ring's next packet went out of a lawful device, which came of what the pass saw last and had nothing in the packet's way. The
--- pass sees that device with the packet out, and has made no call: it takes effect when the packet comes back
+-- the ring's next packet went out of a lawful device, which came of what the pass saw last and had nothing in the packet's way; a pass
+-- that has taken in all others found the very device that it saw last. The pass sees that device with the packet out, and has made no
+-- call: it takes effect when the packet comes back
 pub record Starts (ring : ℕ) (old : PassState) (new : RunningState) : Type 0 where
   pub found : MarkedDevice
   pub lawful : IsGood found
   pub later : GrowsTo old.last found
   pub shows : (fence word : ℕ) → In (fence, word) old.looked → NotBack word (word_shown found fence)
+  pub alone : IsWhole old.part → found ≡ old.last
   pub ring_is : new.ring ≡ ring
   pub free : is_in_way found ring ≡ false
   pub taken : step_refusal found.state ring ≡ None

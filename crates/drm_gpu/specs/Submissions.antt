@@ -1,5 +1,5 @@
 -- The states of a submission.
-use Rattle.std.specs.Prelude.{◌≡◌, ◌≢◌, ◌<◌, ℕ, false, List, [], ◌∷◌, ◌++◌, Some, None, Result, Ok, Err, length}
+use Rattle.std.specs.Prelude.{◌≡◌, ◌≢◌, ◌<◌, ◌⊎◌, ℕ, false, List, [], ◌∷◌, ◌++◌, Some, None, Result, Ok, Err, length, slice_get}
 use Rattle.atomic_table.specs.Seated.{TableId}
 use Rattle.ww_lock.specs.declared.acquire.Acquire.{Acquire}
 use Rattle.ww_lock.specs.declared.locks.TryLockError.{TryLockError}
@@ -10,6 +10,7 @@ use Rattle.ww_lock.specs.declared.locks.LockError.TheVariants as lock
 use Rattle.ww_lock.specs.Acquiring.{HoldsOutside, HoldsInside, IsAsOwed, view}
 use Rattle.ww_lock.specs.Held.{Lacks}
 use Rattle.ww_lock.specs.Rule.{In}
+use Rattle.drm_types.specs.declared.access.Access.{Access}
 use Rattle.drm_job.specs.declared.Draft.{Draft}
 use Rattle.drm_resv.specs.Reservation.{Reservation, WithRoom}
 use Rattle.drm_state.specs.declared.errors.ArmError.{ArmError}
@@ -42,6 +43,14 @@ IsNewTicket pass ticket = ((b t : ℕ) → In (b, t) pass.had → t < ticket) ×
 -- each of these fits the device
 abbrev pub Fitting : MarkedDevice → List (ℕ × Reservation) → Type 0
 Fitting d held = (b : ℕ) (x : Reservation) → In (b, x) held → Fits b d.state.journal x
+
+-- the job declares the buffer
+abbrev pub Declares : Draft → ℕ → Type 0
+Declares job b = (k : ℕ) × (d : ℕ × Access) × (slice_get job.declared k ≡ Some d) × (d.0 ≡ b)
+
+-- each buffer that is held is declared by the job, or was held before
+abbrev pub HoldsNoMore : {A : Type 0} → Draft → List (ℕ × A) → List (ℕ × A) → Type 0
+HoldsNoMore {A} job old new = (b : ℕ) (x : A) → In (b, x) new → Declares job b ⊎ ((y : A) × In (b, y) old)
 
 -- a caller that holds values of the device, and owes them as they are but for their room
 pub record Holding (gpu : GpuState) (a : DeviceAcquire) : Type 0 where

@@ -26,7 +26,7 @@
 //!         let fence = armed.fence();
 //!         (armed.release(), Some(fence))
 //!     }
-//!     Err((planned, _error)) => (planned.abandon().0, None),
+//!     Err((planned, _refusal)) => (planned.abandon().0, None),
 //! }
 //! ```
 //!

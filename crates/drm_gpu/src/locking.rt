@@ -1,5 +1,5 @@
 //! A submission that takes its locks.
-ghost use Rattle.std.specs.Prelude.{◌≡◌, ◌<◌, ◌∷◌, ℕ, [], length, true, false, IfOk, IfErr, MatchOption, option_map, slice_get};
+ghost use Rattle.std.specs.Prelude.{◌≡◌, ◌<◌, ◌∷◌, ◌⊎◌, ℕ, [], length, true, false, IfOk, IfErr, IfSome, MatchOption, option_map, slice_get};
 ghost use Rattle.ww_lock.specs.Held.{Lacks};
 ghost use Rattle.ww_lock.specs.Rule.{In};
 ghost use Rattle.ww_lock.specs.Steps.{without};
@@ -8,7 +8,7 @@ ghost use Rattle.drm_state.specs.Held.{kept_of, HoldsAll};
 ghost use Rattle.drm_job.specs.Fault.{IsJob};
 ghost use Rattle.ww_lock.specs.Acquiring.{view};
 ghost use Rattle.drm_gpu.specs.Passes.{pass_of};
-ghost use Rattle.drm_gpu.specs.Submissions.{Holding, IsNewTicket, TriesLock, Claims, Locks, GoesOn, WentOn};
+ghost use Rattle.drm_gpu.specs.Submissions.{Declares, Holding, HoldsNoMore, IsNewTicket, TriesLock, Claims, Locks, GoesOn, WentOn};
 ghost use Rattle.drm_gpu.specs.Status.{AnswersStatus};
 ghost use Rattle.drm_gpu.specs.Begun.{IsBack, IsBackFromRead};
 
@@ -117,6 +117,7 @@ fn hold<R: Wait>(gpu: &Gpu, acquire: &mut DeviceAcquire, buffer: BufferId, rt: &
     requires buffer { buffer < length gpu.now.spec.buffers }
     ensures on { WentOn gpu.now acquire.old acquire.new }
     ensures keeps { (d : ℕ) (x : WithRoom) → In (d, x) acquire.old.held.items → In (d, x) acquire.new.held.items }
+    ensures only { (d : ℕ) (x : WithRoom) → In (d, x) acquire.new.held.items → (d ≡ buffer) ⊎ In (d, x) acquire.old.held.items }
     ensures held { result ≡ true → (x : WithRoom) × In (buffer, x) acquire.new.held.items }
 {
     match gpu.board.lock(acquire, buffer, rt) {
@@ -150,6 +151,8 @@ fn lock_declared<R: Wait>(
     requires job { IsJob gpu.now.spec job.now }
     ensures on { WentOn gpu.now acquire.old acquire.new }
     ensures locked { MatchOption result (HoldsAll job.now (kept_of acquire.new.held.items)) (λ b. b < length gpu.now.spec.buffers) }
+    ensures contended { IfSome result (Declares job.now) }
+    ensures only { HoldsNoMore job.now acquire.old.held.items acquire.new.held.items }
 {
     jobs_are_the_sound_drafts();
     for place in 0..job.declared().len() {
@@ -194,6 +197,7 @@ fn hold_all<R: Wait>(gpu: &Gpu, acquire: &mut DeviceAcquire, job: &Job, rt: &R)
     requires job { IsJob gpu.now.spec job.now }
     ensures on { WentOn gpu.now acquire.old acquire.new }
     ensures all { HoldsAll job.now (kept_of acquire.new.held.items) }
+    ensures only { HoldsNoMore job.now acquire.old.held.items acquire.new.held.items }
 {
     for _ in rt.forever() {
         let Some(contended) = lock_declared(gpu, acquire, job, rt) else {
@@ -346,7 +350,7 @@ impl<'g> Locking<'g> {
         }
     }
 
-    /// Locks a buffer if nobody holds it, and never waits (`ww_mutex_trylock`).
+    /// Locks a buffer if nobody holds it, and never waits (one attempt of `ww_mutex_lock`).
     pub fn try_lock(&mut self, buffer: BufferId) -> Result<(), TryLockError>
         requires { buffer < length self.old.pass.gpu.spec.buffers }
         ensures { TriesLock buffer self.old self.new result }
@@ -393,10 +397,11 @@ impl<'g> Locking<'g> {
         release_all(gpu, &mut self.acquire);
     }
 
-    /// Locks every buffer that the job declares, and begins anew with the one for which it had to back off.
+    /// Locks every buffer that the job declares, and no other, and begins anew with the one for which it had to back off.
     pub fn lock_all<R: Wait>(self, rt: &R) -> Locked<'g>
         ensures same { GoesOn self.entry result }
         ensures holds { HoldsAll result.job result.held }
+        ensures only { HoldsNoMore result.job self.entry.held result.held }
     {
         let Locking {
             gpu,

@@ -45,7 +45,8 @@ impl<'g> Reading<'g> {
     ///
     /// # Errors
     ///
-    /// `Busy`, with the least fence of the buffer's writers that has no outcome. Then nothing is copied.
+    /// `Busy`, with the least fence without outcome among the reservation's entries of WRITE and stronger. Then nothing is
+    /// copied.
     pub fn read_into<R: Wait>(&mut self, out: &mut [u8], rt: &R) -> Result<(), ReadError>
         requires { length out.old ≡ length (bytes_of self.old.pass.gpu.spec.buffers self.old.buffer) }
         ensures call { Calls (ReadIs self.old result out.old out.new) self.old.pass self.new.pass }

@@ -3,7 +3,7 @@ ghost use Rattle.std.specs.Prelude.{◌≡◌, false, true, length, MatchOption}
 ghost use Rattle.ww_lock.specs.Acquiring.{view};
 ghost use Rattle.ww_lock.specs.Begun.{sees};
 ghost use Rattle.drm_state.specs.Held.{kept_of};
-ghost use Rattle.drm_gpu.specs.Passes.{Entered, GrowsTo, IsFound, IsPassSeat, IsSameBut, last_of};
+ghost use Rattle.drm_gpu.specs.Passes.{Entered, HasWaited, IsFound, IsPassSeat, IsSameBut};
 ghost use Rattle.drm_gpu.specs.Running.{IsThere, is_kept};
 ghost use Rattle.drm_gpu.specs.Submissions.{EnteredWith, Fitting, Holding, IsSameHolder};
 
@@ -49,7 +49,7 @@ impl Gpu {
     fn try_enter<R: Wait>(&self, seat: &mut DeviceSeat, needs: &Needs, rt: &R) -> Option<Device>
         requires seat { IsPassSeat self.now seat.old }
         requires there { IsThere needs.now self.now.spec }
-        ensures entered { MatchOption result (IsPassSeat self.now seat.new × GrowsTo (last_of (sees seat.old)) (last_of (sees seat.new)))
+        ensures entered { MatchOption result (IsPassSeat self.now seat.new × HasWaited (sees seat.old) (sees seat.new))
             (λ d. Entered self.now d seat.new × IsFound d (sees seat.old) × (is_kept needs.now d ≡ false)) }
         ensures same { IsSameBut (sees seat.old) (sees seat.new) }
     {
@@ -91,7 +91,7 @@ impl Gpu {
     ) -> Option<Device>
         requires holding { Holding self.now acquire.old }
         requires there { IsThere needs.now self.now.spec }
-        ensures entered { MatchOption result (Holding self.now acquire.new × GrowsTo (last_of (view acquire.old)) (last_of (view acquire.new)))
+        ensures entered { MatchOption result (Holding self.now acquire.new × HasWaited (view acquire.old) (view acquire.new))
             (λ d. EnteredWith self.now d acquire.new × IsFound d (view acquire.old) × Fitting d (kept_of acquire.old.held.items) × (is_kept needs.now d ≡ false)) }
         ensures same { IsSameHolder acquire.old acquire.new × IsSameBut (view acquire.old) (view acquire.new) }
     {

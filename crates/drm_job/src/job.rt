@@ -8,8 +8,8 @@ use drm_packet::Packet;
 use drm_types::{Access, BufferId, EntityId, FenceId};
 use std::marker::Model;
 
-/// A job of a device (`drm_sched_job`), which `check` made of a draft. It stays as it is, and its packets stay
-/// within what it declares.
+/// A job of a device (`drm_sched_job`), which `check` made of a draft, or `of_sound` of one without a fault. It stays as it
+/// is, and its packets stay within what it declares.
 #[derive(Drop)]
 pub struct Job {
     pub(crate) draft: Draft,

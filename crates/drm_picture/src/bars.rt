@@ -50,7 +50,7 @@ pub enum Look {
     Ended,
     /// Its job ran to its end.
     Good,
-    /// Its job was skipped, or its queue was stopped.
+    /// Its job was skipped.
     Cancelled,
     /// Its job was reaped, or its entity was cancelled.
     Stopped,

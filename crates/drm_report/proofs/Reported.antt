@@ -63,6 +63,9 @@ module _ {V : Type 0} (items : V → List ℕ) (spec : DeviceSpec) (jobs : List 
   fit : FitsAll (λ b (x : WithRoom). Fits b closed.records x.kept) 0 closed.resvs.items
   fit = subst (λ rs. FitsAll (λ b (x : WithRoom). Fits b rs x.kept) 0 closed.resvs.items) (sym run.leaves.records) run.leaves.fit
 
+  places : length closed.resvs.items ≡ length spec.buffers
+  places = run.leaves.count ∙ ap (λ (s : DeviceSpec). length s.buffers) described
+
   all_armed : length closed.records ≡ length jobs → AreArmed items closed.records n jobs armed
   all_armed all = record { order = order; numbers = numbers all }
 
@@ -73,6 +76,7 @@ reported spec jobs n r run complete = record {
   device = run.leaves.spec.1 ∙ run.described;
   bytes = bytes (λ v. v.items) spec jobs n r.closed r.armed.items run;
   inside = inside (λ v. v.items) spec jobs n r.closed r.armed.items run;
+  places = places (λ v. v.items) spec jobs n r.closed r.armed.items run;
   fit = fit (λ v. v.items) spec jobs n r.closed r.armed.items run;
   sound = sound (λ v. v.items) spec jobs n r.closed r.armed.items run;
   armed = all_armed (λ v. v.items) spec jobs n r.closed r.armed.items run complete.count;

@@ -66,6 +66,8 @@ pub record IsReport (spec : DeviceSpec) (jobs : List Draft) (n : ℕ) (r : Repor
   pub device : r.closed.spec ≡ spec
   pub bytes : r.closed.buffers.bytes ≡ serial spec.buffers (turns r.closed.records)
   pub inside : (b : ℕ) → b < length spec.buffers → slice_get r.closed.buffers.out b ≡ Some false
+  -- each buffer has a place for its reservation, and those that are at home fit
+  pub places : length r.closed.resvs.items ≡ length spec.buffers
   pub fit : FitsAll (λ b (x : WithRoom). Fits b r.closed.records x.kept) 0 r.closed.resvs.items
   -- each job was armed once, under the number that its submitter tells in its place, and has its outcome
   pub sound : All (IsSound spec) r.closed.records

@@ -91,7 +91,7 @@ impl Rings {
         self.lists[ring as usize].put(pending, now);
     }
 
-    /// Takes the first pending job out (`drm_sched_job_done`). Where another one becomes the head, its age counts
+    /// Takes the first pending job out (`drm_sched_get_finished_job`). Where another one becomes the head, its age counts
     /// from now.
     pub fn pop(&mut self, ring: RingId, now: Moment) -> Option<Pending>
         requires { ring < length self.old }

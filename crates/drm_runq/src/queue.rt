@@ -59,7 +59,7 @@ impl RunQueue {
     }
 
     /// Gives the entity this key, in place of the one that it may have (`drm_sched_rq_add_entity`). It takes as many
-    /// comparisons as the number of entities has binary digits, and moves the entities behind it.
+    /// comparisons as the number of entities has binary digits, twice where there was one, and moves the entities behind it.
     pub fn set(&mut self, entity: EntityId, priority: Priority, age: FenceId)
         requires { entity < length self.old }
         ensures { self.new ≡ slice_set self.old entity (Some (record { priority = priority; age = age })) }
@@ -67,6 +67,7 @@ impl RunQueue {
         self.clear(entity);
         let key = Key { priority, age };
         let place = place_of(&self.order, key, entity);
+        // There is room for each entity, so it is taken in.
         let _ = self.order.insert(place, Place { key, entity });
         self.keys[entity as usize] = Some(key);
     }
@@ -83,7 +84,7 @@ impl RunQueue {
         }
     }
 
-    /// The first entity that is ready (`drm_sched_rq_select_entity`): of the least key for which `ready` answers true.
+    /// The first entity that is ready (`drm_sched_rq_select_entity_fifo`): of the least key for which `ready` answers true.
     /// `ready` is asked from the front on, of no entity without a key, and no further than the answer.
     pub fn first<F: Fn(EntityId) -> bool>(&self, ready: F) -> Option<EntityId>
         requires { (entity : ℕ) (key : Key) → HasKey self.now entity key → F.pre ready entity }

@@ -1,7 +1,7 @@
 -- Which fences the heads of the queues wait for.
-use Rattle.std.specs.Prelude.{◌≡◌, ℕ, ◌==◌, ◌&&◌, Bool, not, if◌then◌else◌, List, [], map, slice_get}
+use Rattle.std.specs.Prelude.{ℕ, ◌==◌, not, if◌then◌else◌, List, [], map, slice_get}
 use Rattle.std.specs.Option.{option_map_or}
-use Rattle.std.specs.List.{filter, count_by}
+use Rattle.std.specs.List.{filter}
 use Rattle.drm_types.specs.Firsts.{first}
 use Rattle.drm_fence.specs.declared.pair.Pair.{Pair}
 use Rattle.drm_state.specs.declared.journal.JobRecord.{JobRecord}
@@ -29,8 +29,3 @@ watched_of device waits entity =
     (λ n. unmet_pairs device.journal entity n.1.ring (option_map_or (λ deps. deps) (slice_get waits n.0) []))
     (first (queue_of entity device.journal))
     []
-
--- the waiters are those of the heads, each as often as it stands there
-abbrev pub WatchesStand : DeviceState → List (List (ℕ × ℕ)) → List Pair → Type 0
-WatchesStand device waits pairs =
-    (entity : ℕ) (test : Pair → Bool) → count_by (λ p. (p.entity == entity) && test p) pairs ≡ count_by test (watched_of device waits entity)

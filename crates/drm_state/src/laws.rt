@@ -7,8 +7,8 @@ ghost use Rattle.drm_state.specs.Writers.{ReadsWaitForWriters};
 
 use drm_job::jobs_are_the_sound_drafts;
 
-/// The job that a ring takes next is the least that may begin on it, by the priority of its entity and then by its
-/// number, and there is none exactly where none may begin.
+/// The job that a ring takes next is, of all that may begin on it, the one whose entity has the highest priority, and of
+/// these that of the least number, and there is none exactly where none may begin.
 pub fn choice_is_least()
     ensures { ChoiceIsLeast }
 {}

@@ -3,7 +3,7 @@ ghost use Rattle.std.specs.Prelude.{◌≡◌, ℕ, ◌+◌, ◌<◌, set, repli
 use drm_types::{EntityId, FenceId, RingId};
 use std::alloc::{AllocError, Global};
 
-/// What the ring of an entity's next job is chosen by.
+/// What is counted as jobs come and end: what the ring of an entity's next job is chosen by, and how many have ended.
 #[derive(Drop)]
 pub struct Loads {
     /// How many jobs without outcome each ring has (`drm_gpu_scheduler.score`).

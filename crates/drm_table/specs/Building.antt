@@ -1,4 +1,4 @@
--- What a core takes when it is built, and why one is not built.
+-- What the tables of a device take when they are made, and why a device is not built.
 use Rattle.std.specs.Prelude.{◌≡◌, ℕ, ◌≤◌, List, [], Some, None, slice_get}
 use Rattle.std.specs.Option.{option_map_or}
 use Rattle.drm_types.specs.declared.spec.RingSpec.{RingSpec}

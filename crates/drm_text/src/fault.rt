@@ -50,7 +50,7 @@ impl TextFault {
 /// The first fault of a text.
 #[derive(Clone, Copy, Debug, PartialEq, Eq)]
 pub enum Fault {
-    /// A fault of the text, with its line and its column in bytes. Both count from 1.
+    /// A fault of the text, with its line and its column in bytes. Both count from 1, and are 0 where the text is too long.
     Text {
         line: u32,
         column: u32,
@@ -93,7 +93,7 @@ impl<T: Drop> From<AllocFailed<T>> for ReadError {
     }
 }
 
-/// A line and a column of a text, both counted from 1.
+/// A line and a column of a text, both counted from 1, or 0 and 0 for a text that is too long.
 #[derive(Clone, Copy, Debug, PartialEq, Eq)]
 pub struct Position {
     /// The number of the line.

@@ -6,6 +6,9 @@ use Rattle.drm_types.specs.declared.spec.BadSpec.{BadSpec}
 use Rattle.drm_types.specs.declared.spec.DeviceSpec.{DeviceSpec}
 use Rattle.drm_types.specs.Limits.{are_rings, each, is_between, spec_fault, whole}
 use Rattle.drm_types.proofs.Firsts.{none_at, none_when}
+use Rattle.drm_workers.specs.declared.RunFault.{RunFault}
+use Rattle.drm_workers.specs.declared.RunFault.TheVariants.{Spec, Memory, NoThread, GaveUp}
+use Rattle.drm_workers.specs.Faults.{IsFaultOf, IsOfWorkers}
 
 abbrev tests_of : DeviceSpec → List (Option BadSpec)
 tests_of spec =
@@ -26,6 +29,13 @@ few spec part most n none at =
 
 pub few_rings : (spec : DeviceSpec) → spec_fault spec ≡ None → length spec.rings ≤ 8
 few_rings spec none = few spec 2 8 (length spec.rings) none refl
+
+-- what else ends a run comes of a description that is in its limits
+pub fault_of_workers : (spec : DeviceSpec) → spec_fault spec ≡ None → (fault : RunFault) → IsOfWorkers fault → IsFaultOf spec fault
+fault_of_workers spec none (Spec bad) never = absurd never
+fault_of_workers spec none Memory u = none
+fault_of_workers spec none NoThread u = none
+fault_of_workers spec none (GaveUp worker) u = none
 
 pub few_jobs : (spec : DeviceSpec) → spec_fault spec ≡ None → spec.max_jobs ≤ 65535
 few_jobs spec none = few spec 8 65535 spec.max_jobs none refl

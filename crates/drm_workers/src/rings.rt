@@ -4,7 +4,6 @@ ghost use Rattle.drm_workers.specs.Armings.{ArmsNoMore};
 
 use crate::turns::{Turns, passes};
 use crate::{Clock, Gate, Point};
-use crossbeam_utils::Backoff;
 use drm_gpu::{Gpu, Pass, StartError};
 use drm_report::only_armings_arm;
 use drm_sched::Expired;
@@ -38,14 +37,13 @@ fn ended_jobs<R: Wait>(gpu: &Gpu, pass: &mut Pass, rt: &R) -> u32
 
 // Where so many jobs of all have ended, after so many calls that changed nothing: whether that is all, and else whether a
 // turn is left.
-fn follow(ended: u32, jobs: u32, turns: &mut Turns, vain: u32, backoff: &Backoff) -> Next {
+fn follow(ended: u32, jobs: u32, turns: &mut Turns, vain: u32) -> Next {
     if ended >= jobs {
         return Next::Done;
     }
     if !turns.make(vain) {
         return Next::GiveUp;
     }
-    backoff.snooze();
     Next::Again
 }
 
@@ -56,14 +54,13 @@ fn rest<R: Wait>(
     jobs: u32,
     turns: &mut Turns,
     vain: u32,
-    backoff: &Backoff,
     rt: &R,
 ) -> Next
     requires { pass.old.gpu ≡ gpu.now }
     ensures { ArmsNoMore pass.old pass.new }
 {
     let ended = ended_jobs(gpu, pass, rt);
-    follow(ended, jobs, turns, vain, backoff)
+    follow(ended, jobs, turns, vain)
 }
 
 /// Gives the ring its jobs, until all jobs have ended. It counts the picks.
@@ -81,15 +78,14 @@ pub(crate) fn schedule<R: Wait, C: Clock>(
     ensures { ArmsNoMore pass.old pass.new }
 {
     only_armings_arm();
-    let backoff = Backoff::new();
     let mut count = 0u32;
     for _ in rt.forever() {
         if gpu.pick(pass, ring, clock.now(), rt).is_ok() {
             count = count.saturating_add(1);
-            backoff.reset();
+            turns.reset();
             continue;
         }
-        match rest(gpu, pass, jobs, turns, 1, &backoff, rt) {
+        match rest(gpu, pass, jobs, turns, 1, rt) {
             Next::Again => {}
             Next::Done => return Tally {
                 count,
@@ -148,22 +144,21 @@ pub(crate) fn run_ring<R: Wait, C: Clock, G: Gate>(
     ensures { ArmsNoMore pass result.0 }
 {
     only_armings_arm();
-    let backoff = Backoff::new();
     let mut pass = pass;
     let mut count = 0u32;
     for _ in rt.forever() {
         let (same, has_run) = run_packet(gpu, pass, ring, worker, gate, turns, rt);
         pass = same;
         if has_run && turns.are_left() {
-            backoff.reset();
+            turns.reset();
             continue;
         }
         if gpu.finish(&mut pass, ring, clock.now(), rt).is_ok() {
             count = count.saturating_add(1);
-            backoff.reset();
+            turns.reset();
             continue;
         }
-        match rest(gpu, &mut pass, jobs, turns, 2, &backoff, rt) {
+        match rest(gpu, &mut pass, jobs, turns, 2, rt) {
             Next::Again => {}
             Next::Done => return (
                 pass,
@@ -217,18 +212,17 @@ pub(crate) fn watch<R: Wait, C: Clock, G: Gate>(
     requires rings { rings ≡ length gpu.now.spec.rings }
     ensures { ArmsNoMore pass.old pass.new }
 {
-    let backoff = Backoff::new();
     let mut count = 0u32;
     for _ in rt.forever() {
         let hangs = look(gpu, pass, rings, clock, rt);
         count = count.saturating_add(hangs);
         if hangs > 0 {
-            backoff.reset();
+            turns.reset();
             continue;
         }
         let ended = ended_jobs(gpu, pass, rt);
         gate.ended(ended);
-        match follow(ended, jobs, turns, rings, &backoff) {
+        match follow(ended, jobs, turns, rings) {
             Next::Again => {}
             Next::Done => return Tally {
                 count,

@@ -14,10 +14,10 @@ use Rattle.ww_lock.specs.declared.board.PivotView.{PivotView}
 use Rattle.ww_lock.specs.declared.board.View.{View}
 use Rattle.ww_lock.specs.declared.board.Slot.{Slot}
 use Rattle.ww_lock.specs.declared.board.Slot.TheVariants.{Pivot, Value}
-use Rattle.ww_lock.specs.Rule.{In, At, Keeps, looked_only, lock_of, part_of, pivot_of}
+use Rattle.ww_lock.specs.Rule.{In, At, Keeps, looked_only, lock_of, pivot_of}
 use Rattle.ww_lock.specs.Lifetime.{FitsAll, HasAll, AreHome, IsPivot}
 use Rattle.ww_lock.proofs.Lists.{same_view}
-use Rattle.ww_lock.proofs.Sharing.{none_beside}
+use Rattle.ww_lock.proofs.Sharing.{others_spent, seen_by_all}
 use Rattle.ww_lock.proofs.Trying.{value_or}
 use Rattle.ww_lock.proofs.Finding.{below}
 
@@ -160,31 +160,27 @@ module _ {P X T : Type 0} (good : P → Type 0) (fits : ℕ → P → X → Type
   pub pivot_is_out : (e : Ended) (n : ℕ) → get_elem? ws 1 ≡ some n → n ≢ 0 → IsPivot e.0 None
   pivot_is_out e n at ne = (e.1.0.pivots.away (λ z. ne (sym (at_get ws 1 n at) ∙ (sym (ap (λ l. get_or l 1 0) e.2) ∙ z)))).1
 
-  -- beside the seat that has taken in all others, each knows no more than what it looked at
-  others_spent : (e : Ended) → HasAll v → (k : ℕ) (w : View P X T) → At e.0.views k w → k ≢ id → w ≡ looked_only w.looked
-  others_spent e all k w at ne = let r = e.1.0.parts in
-      r.blank k w at (none_beside r.n (map part_of e.0.views) r.within r.whole id v.part (at_map part_of e.0.views id v e.1.1) all.0 k w.part (at_map part_of e.0.views k w at) ne)
+  others_apart : (e : Ended) → HasAll v → (k : ℕ) (w : View P X T) → At e.0.views k w → k ≢ id → w ≡ looked_only w.looked
+  others_apart e all = others_spent e.0.views id v e.1.1 e.1.0.parts all.0
 
-  -- so no value is out
+  -- beside the seat that has taken in all others no value is out
   no_value_out : (e : Ended) → HasAll v → (b : ℕ) → b < e.1.0.n → get_or e.0.words (b + 2) 0 ≡ 0
   no_value_out e all b low = dite (ℕ_discrete (get_or e.0.words (b + 2) 0) 0) (λ z. z) (λ ne. let h = (e.1.0.locks.out b low ne).1 in let m = of_map lock_of e.0.views h.0 h.1 h.3 in let x = h.2 in
       dite (ℕ_discrete h.0 id)
       (λ same. let is : h.1 ≡ v.lock = sym m.2 ∙ ap lock_of (same_view e.0.views id h.0 v m.0 e.1.1 m.1 same) in absurd (subst (In (b, x)) (ap (λ (l : LockView X). l.owes) is ∙ all.1) h.5))
-      (λ apart. let is : h.1 ≡ (looked_only {P = P} {X = X} {T = T} []).lock = sym m.2 ∙ ap lock_of (others_spent e all h.0 m.0 m.1 apart) in absurd (subst (λ (l : LockView X). In (b, x) l.owes) is h.5)))
+      (λ apart. let is : h.1 ≡ (looked_only {P = P} {X = X} {T = T} []).lock = sym m.2 ∙ ap lock_of (others_apart e all h.0 m.0 m.1 apart) in absurd (subst (λ (l : LockView X). In (b, x) l.owes) is h.5)))
 
   -- and the pivot is at home
   pub pivot_not_out : (e : Ended) → HasAll v → (n : ℕ) → get_elem? ws 1 ≡ some n → n ≢ 0 → ⊥
   pivot_not_out e all n at ne = let a = e.1.0.pivots.away (λ z. ne (sym (at_get ws 1 n at) ∙ (sym (ap (λ l. get_or l 1 0) e.2) ∙ z))) in let h = a.2 in let m = of_map pivot_of e.0.views h.0 h.1 h.2 in
       dite (ℕ_discrete h.0 id)
       (λ same. let is : h.1 ≡ v.pivot = sym m.2 ∙ ap pivot_of (same_view e.0.views id h.0 v m.0 e.1.1 m.1 same) in false≢true (sym all.2 ∙ (sym (ap (λ (l : PivotView P). l.inside) is) ∙ h.3)))
-      (λ apart. let is : h.1 ≡ (looked_only {P = P} {X = X} {T = T} []).pivot = sym m.2 ∙ ap pivot_of (others_spent e all h.0 m.0 m.1 apart) in false≢true (sym (ap (λ (l : PivotView P). l.inside) is) ∙ h.3))
+      (λ apart. let is : h.1 ≡ (looked_only {P = P} {X = X} {T = T} []).pivot = sym m.2 ∙ ap pivot_of (others_apart e all h.0 m.0 m.1 apart) in false≢true (sym (ap (λ (l : PivotView P). l.inside) is) ∙ h.3))
 
   -- it comes back as the seat saw it last
   pub comes_as_seen : (e : Ended) → HasAll v → (p : P) → get_elem? ws 1 ≡ some 0 → get_elem? xs 0 ≡ some (Pivot p) → In p v.pivot.seen
-  comes_as_seen e all p z here = let same : shown_at e ≡ p = ap (pivot_or p) (some-injective _ _ (sym (home_pivot e z) ∙ here)) in let h = e.1.0.latest in
-      subst (λ q. In q v.pivot.seen) same (dite (ℕ_discrete h.0 id)
-      (λ one. subst (λ (u : View P X T). In (shown_at e) u.pivot.seen) (same_view e.0.views id h.0 v h.1 e.1.1 h.2 one) h.3)
-      (λ apart. absurd (subst (λ (u : View P X T). In (shown_at e) u.pivot.seen) (others_spent e all h.0 h.1 h.2 apart) h.3)))
+  comes_as_seen e all p z here = let same : shown_at e ≡ p = ap (pivot_or p) (some-injective _ _ (sym (home_pivot e z) ∙ here)) in
+      subst (λ q. In q v.pivot.seen) same (seen_by_all e.0.views id v (shown_at e) e.1.1 e.1.0.parts all.0 e.1.0.latest)
 
   -- each value comes back
   pub all_there : (e : Ended) (out : List (plain.Option X)) → length out + 1 ≡ length xs → Whole ws xs out → HasAll v → (b : ℕ) → b < length out → (x : X) × (get_elem? out b ≡ some (Some x))

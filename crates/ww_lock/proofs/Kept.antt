@@ -20,7 +20,7 @@ use Rattle.ww_lock.specs.declared.board.Slot.TheVariants.{Pivot, Value}
 use Rattle.ww_lock.specs.Rule.{In, At, Locks, Pivots, Parts, Keeps, lock_of, pivot_of, idle, saw}
 use Rattle.ww_lock.specs.Steps.{Sat, drawn, exhausted, with_end, claimed, released, entered, left, left_as, settled, with_entry, with_exit, number_of, with_ticket, with_claim, with_met, with_release, left_half, right_half, joined, HasSeen, IsLater}
 use Rattle.ww_lock.proofs.Lists.{key_in, in_permutation, in_left, in_right, set_at, same_view}
-use Rattle.ww_lock.proofs.Sharing.{parts_stay, parts_split, parts_join, none_halved}
+use Rattle.ww_lock.proofs.Sharing.{parts_stay, parts_split, parts_join, none_halved, seen_by_all}
 use Rattle.ww_lock.proofs.LocksKept as lk
 use Rattle.ww_lock.proofs.PivotsKept as pk
 use Rattle.ww_lock.proofs.LooksKept as fk
@@ -227,6 +227,7 @@ module _ {P X T : Type 0} (good : P → Type 0) (fits : ℕ → P → X → Type
     grown = (pivots.each id v.pivot (at_map pivot_of s.views id v at)).grown;
     shows = λ f x h. looks.past id v.looked f x (at_map looked_of s.views id v at) h;
     waits = λ t h. tasks.each id t (at_map task_of s.views id v at ∙ ap some h);
+    alone = λ all. seen_by_all s.views id v r.shown at r.parts all r.latest;
   }
 
   pub enters : (slots id : ℕ) (me : Sat P X T) → HasSeen me.0 → Allows Rule slots id me 1 (λ n. either (eqb n 0) 1 n) (entered good fits grows posted busy (step slots 1 0 1 none) me)

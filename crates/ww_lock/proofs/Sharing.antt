@@ -2,14 +2,16 @@
 use Rattle.std.proofs.Common.{◌≡◌, ◌≢◌, ℕ, zero, suc, ◌+◌, ◌-◌, ◌^◌, ◌*◌, ◌<◌, ◌≤◌, List, [], ◌∷◌, ◌++◌, map, set, sym, refl, ap, ◌∙◌, subst, ⊎_elim, arith}
 use Rattle.std.proofs.Math.Nat.{pow-suc}
 use Rattle.std.proofs.lemmas.Nat.{pow_pos}
+use mathlib.Core.Logic.{dite}
 use mathlib.Core.Option.{some-injective, some-ne-none}
 use mathlib.Core.List.{map-append}
+use native.Mathlib.Decide.{ℕ_discrete}
 use lib.Seq.{map-set}
 use Rattle.atomic_table.proofs.Lists.{at_map, at_snoc, set_else}
 use Rattle.ww_lock.specs.declared.board.View.{View}
 use Rattle.ww_lock.specs.Parts.{weight, AreWithin, IsWhole, halved}
-use Rattle.ww_lock.specs.Rule.{At, Parts, part_of, total, looked_only}
-use Rattle.ww_lock.proofs.Lists.{seats}
+use Rattle.ww_lock.specs.Rule.{At, In, Parts, part_of, total, looked_only}
+use Rattle.ww_lock.proofs.Lists.{same_view, seats}
 
 twice : (n : ℕ) → 2 ^ suc n ≡ 2 ^ n + 2 ^ n
 twice n = let e = pow-suc 2 n in omega arith
@@ -105,6 +107,17 @@ none_beside n parts within whole id ds at all k es there ne =
     no_pieces m es (omega arith)
 
 module _ {P X T : Type 0} where
+  -- beside a seat that has the whole, each knows no more than what it looked at
+  pub others_spent : (views : List (View P X T)) (id : ℕ) (v : View P X T) → At views id v → Parts views → IsWhole v.part → (k : ℕ) (w : View P X T) → At views k w → k ≢ id → w ≡ looked_only w.looked
+  others_spent views id v here r all k w at ne = r.blank k w at (none_beside r.n (map part_of views) r.within r.whole id v.part (at_map part_of views id v here) all k w.part (at_map part_of views k w at) ne)
+
+  -- so what some seat saw last is what it saw
+  pub seen_by_all : (views : List (View P X T)) (id : ℕ) (v : View P X T) (shown : P) → At views id v → Parts views → IsWhole v.part
+      → (j : ℕ) × (u : View P X T) × At views j u × In shown u.pivot.seen → In shown v.pivot.seen
+  seen_by_all views id v shown here r all last = dite (ℕ_discrete last.0 id)
+      (λ one. subst (λ (u : View P X T). In shown u.pivot.seen) (same_view views id last.0 v last.1 here last.2 one) last.3)
+      (λ apart. absurd (subst (λ (u : View P X T). In shown u.pivot.seen) (others_spent views id v here r all last.0 last.1 last.2 apart) last.3))
+
   -- a step of a seat that has a part, and keeps it
   pub parts_stay : (views : List (View P X T)) (id : ℕ) (v w : View P X T) → At views id v → w.part ≡ v.part → (w.part ≡ [] → w ≡ looked_only w.looked) → Parts views → Parts (set views id w)
   parts_stay views id v w at same none r = let at' = at_map part_of views id v at in record {

@@ -10,7 +10,7 @@ use Rattle.atomic_table.specs.Table.{Me, Step, rest}
 use Rattle.ww_lock.specs.declared.board.View.{View}
 use Rattle.ww_lock.specs.declared.board.Slot.{Slot}
 use Rattle.ww_lock.specs.declared.board.Slot.TheVariants.{Pivot, Value, Announced}
-use Rattle.ww_lock.specs.Parts.{halved}
+use Rattle.ww_lock.specs.Parts.{IsWhole, halved}
 use Rattle.ww_lock.specs.Rule.{In, KnowsBelow, idle, saw}
 
 abbrev pub Sat : Type 0 → Type 0 → Type 0 → Type 0
@@ -44,12 +44,14 @@ Turns {P} {T} busy p q task Same = (t : T) → busy p t → busy q t
 Turns {P} {T} busy p q task (Begins t) = (task ≡ plain.None) × (busy p t → ⊥) × busy q t × ((s : T) → busy p s → busy q s)
 Turns {P} {T} busy p q task Ends = (t : T) × (task ≡ Some t) × ((s : T) → (s ≡ t → ⊥) → busy p s → busy q s)
 
--- the pivot p is good and came of each that the seat has seen, shows each fence word no earlier than the seat saw it, and waits for the seat's task
+-- the pivot p is good and came of each that the seat has seen, shows each fence word no earlier than the seat saw it, and waits for the seat's task.
+-- A seat that has taken in all others has seen it
 pub record IsLater {P X T : Type 0} (good : P → Type 0) (grows : P → P → Type 0) (posted : P → ℕ → ℕ) (busy : P → T → Type 0) (v : View P X T) (p : P) : Type 0 where
   pub fine : good p
   pub grown : (q : P) → In q v.pivot.seen → grows q p
   pub shows : (f x : ℕ) → In (f, x) v.looked → NotBack x (posted p f)
   pub waits : (t : T) → v.task ≡ Some t → busy p t
+  pub alone : IsWhole v.part → In p v.pivot.seen
 
 module _ {P X T : Type 0} where
   abbrev pub left_half : View P X T → View P X T

@@ -43,7 +43,7 @@ pub enum LockError {
 pub struct Sealed;
 
 impl<W: Ward> Board<W> {
-    /// Locks a value if it is at home, and never waits (`ww_mutex_trylock`). Else it says who holds the value.
+    /// Locks a value if it is at home, and never waits (one attempt of `ww_mutex_lock`). Else it says who holds the value.
     pub fn try_lock(
         &self,
         acquire: &mut Acquire<W::Pivot, W::Value, W::Task>,

@@ -23,7 +23,8 @@ impl Sleepers {
         }
     }
 
-    // Spins for a while, and later sleeps for as long as the word is the one that was judged.
+    // Spins for a while, and later sleeps for as long as the low half of the word is the one that was judged. Where that
+    // is 0 it goes on spinning: so is that of a word whose value is at home, so a sleep would not see a release.
     pub(crate) fn pause<W: Ward, R: Wait>(
         &self,
         shared: &SharedTable<W>,
@@ -34,7 +35,7 @@ impl Sleepers {
     )
         requires { word < shared.now.table_id.words }
     {
-        if backoff.is_completed() {
+        if backoff.is_completed() && judged != 0 {
             self.count.fetch_add(1, Ordering::SeqCst);
             shared.park(rt, word, judged);
             self.count.fetch_sub(1, Ordering::SeqCst);

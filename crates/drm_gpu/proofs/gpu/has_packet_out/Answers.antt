@@ -3,8 +3,8 @@ use Rattle.drm_types.specs.declared.spec.DeviceSpec.{DeviceSpec}
 use Rattle.drm_gpu.proofs.Packets.{nothing_out}
 use Rattle.drm_gpu.proofs.gpu.has_packet_out.Goals as goal
 
-pub returns : goal.returns
-returns c none b =
+pub returns-clause-inside : goal.returns-clause-inside
+returns-clause-inside c none b =
     let d = c.args.device.now in
     let count : c.len-count.result ≡ length d.marks =
     c.len-count.ensures ∙ (ap (λ (s : DeviceSpec). length s.rings) c.spec.ensures.value ∙ sym c.facts.ensures.marked.count) in

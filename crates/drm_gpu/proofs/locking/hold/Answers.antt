@@ -3,7 +3,7 @@ use Rattle.ww_lock.specs.Acquiring.{HoldsOutside}
 use Rattle.ww_lock.specs.Rule.{In}
 use Rattle.ww_lock.specs.declared.locks.LockError.TheVariants as lock
 use Rattle.drm_gpu.specs.Passes.{GpuState}
-use Rattle.drm_gpu.proofs.Claims.{went_locked, keeps_locked, already_held}
+use Rattle.drm_gpu.proofs.Claims.{went_locked, keeps_locked, only_locked, already_held}
 use Rattle.drm_gpu.proofs.Lists.{now_last}
 use Rattle.drm_gpu.proofs.locking.hold.Goals as goal
 
@@ -14,6 +14,9 @@ returns-in-Ok-clause-on g c =
 
 pub returns-in-Ok-clause-keeps : goal.returns-in-Ok-clause-keeps
 returns-in-Ok-clause-keeps g c = keeps_locked c.args.buffer c.args.acquire.now c.lock.new.acquire c.lock.result c.lock.ensures.answers
+
+pub returns-in-Ok-clause-only : goal.returns-in-Ok-clause-only
+returns-in-Ok-clause-only g c = only_locked c.args.buffer c.args.acquire.now c.lock.new.acquire c.lock.result c.lock.ensures.answers
 
 pub returns-in-Ok-clause-held : goal.returns-in-Ok-clause-held
 returns-in-Ok-clause-held g c h =

@@ -1,7 +1,10 @@
-use Rattle.std.proofs.Common.{◌≡◌, All, None, sym, subst}
+use Rattle.std.proofs.Common.{rules, ◌≡◌, All, None, sym, subst}
 use Rattle.drm_types.specs.declared.spec.DeviceSpec.{DeviceSpec}
 use Rattle.drm_types.specs.Limits.{spec_fault}
 use Rattle.drm_job.specs.Fault.{IsJob}
+use Rattle.std.proofs.lemmas.Result.{IfErr-weaker}
+use Rattle.drm_workers.specs.Faults.{IsFaultOf, IsOfWorkers}
+use Rattle.drm_workers.proofs.Described.{fault_of_workers}
 use Rattle.drm_workers.proofs.drive.run_all.Goals as goal
 
 pub drive-requires-clause-jobs : goal.drive-requires-clause-jobs
@@ -9,3 +12,10 @@ drive-requires-clause-jobs g c κs within = (subst (λ (s : DeviceSpec). All (Is
 
 pub drive-requires-clause-described : goal.drive-requires-clause-described
 drive-requires-clause-described g c κs within = subst (λ (s : DeviceSpec). spec_fault s ≡ None) (sym c.in-Ok.ensures.gpu.0) c.in-Ok.ensures.gpu.1
+
+pub returns-clause-fault : goal.returns-clause-fault
+returns-clause-fault g c =
+    IfErr-weaker c.drive.result IsOfWorkers (IsFaultOf c.args.spec) (fault_of_workers c.args.spec c.in-Ok.ensures.gpu.1) c.drive.ensures.fault
+
+pub returns-in-Err-Spec-clause-fault : goal.returns-in-Err-Spec-clause-fault
+returns-in-Err-Spec-clause-fault g c = search rules

@@ -1,12 +1,12 @@
-use Rattle.std.proofs.Common.{◌≡◌, ◌<◌, ◌∙◌, ap, sym, subst, ⊎_elim, length, Some}
+use Rattle.std.proofs.Common.{◌≡◌, ◌<◌, ◌∙◌, ap, sym, subst, length, Some, true}
 use Rattle.ww_lock.specs.Begun.{sees}
 use Rattle.ww_lock.specs.Lifetime.{HasAll}
 use Rattle.ww_lock.specs.Parts.{IsWhole}
-use Rattle.ww_lock.specs.Rule.{In}
 use Rattle.drm_types.specs.declared.spec.DeviceSpec.{DeviceSpec}
+use Rattle.drm_sched.specs.Marks.{MarkedDevice, ring_out}
 use Rattle.drm_gpu.specs.Passes.{GpuState, PassState, GrowsTo, last_of}
 use Rattle.drm_gpu.proofs.Chains.{saw}
-use Rattle.drm_gpu.proofs.Left.{jobs_of}
+use Rattle.drm_gpu.proofs.Left.{jobs_of, last_left}
 use Rattle.drm_gpu.proofs.Read.{count_by_sizes}
 use Rattle.drm_gpu.proofs.Lists.{slice_of}
 use Rattle.drm_gpu.proofs.gpu.Gpu.close.Goals as goal
@@ -36,9 +36,18 @@ returns-clause-closed c =
       bytes = left.left.2;
       inside = λ b lt.
           let there = subst (λ n. b < n) (sym (count_by_sizes device.state.memory device.state.spec.buffers c.facts.ensures.sizes ∙ ap (λ (s : DeviceSpec). length s.buffers) (sym of_pass))) lt in
-          left.inside b there (c.has_packet_out.ensures c.if-has_packet_out.false b);
+          left.inside b there (c.has_packet_out.ensures.inside c.if-has_packet_out.false b);
       fit = e.pivot.2;
       count = count ∙ (c.self.invariant.1 ∙ ap (λ (s : DeviceSpec). length s.buffers) described);
-      last = λ whole. ⊎_elim (λ is. is) (λ no. absurd no) (subst (In device) k.seen (e.last (has_all whole))) ∙ ap (λ (o : PassState). o.last) c.pass.view_is;
+      last = last_left (last_of v).state.spec _ c.args.pass device v k c.pass.view_is idle.0.2 idle.0.3 e.last;
       all = λ whole b lt. let x = e.all (has_all whole) b (subst (λ n. b < n) count lt) in (x.0, slice_of out.items b (Some x.0) x.1);
     }
+
+pub returns-then-has_packet_out-clause-refused : goal.returns-then-has_packet_out-clause-refused
+returns-then-has_packet_out-clause-refused c whole =
+    let device = c.in-Ok-close.device in
+    let v = sees c.pass.inside.seat in
+    let idle = c.pass.invariant.idle in
+    let same = last_left (last_of v).state.spec _ c.args.pass device v c.pass.invariant.knows c.pass.view_is idle.0.2 idle.0.3 c.in-Ok-close.ensures.last whole in
+    let out = c.has_packet_out.ensures.out c.if-has_packet_out.true in
+    (out.0, subst (λ (d : MarkedDevice). ring_out d out.0 ≡ true) same out.1)

@@ -1,6 +1,6 @@
 use Rattle.ww_lock.specs.Begun.{sees}
-use Rattle.drm_gpu.specs.Passes.{GrowsTo, IsPassSeat, IsSameBut, last_of}
+use Rattle.drm_gpu.specs.Passes.{HasWaited, IsPassSeat, IsSameBut}
 use Rattle.drm_gpu.proofs.gpu.Gpu.enter_for.Given as goal
 
 abbrev pub invariant-loop : goal.invariant-loop
-invariant-loop g l = IsPassSeat l.fn.self l.seat × GrowsTo (last_of (sees l.fn.seat)) (last_of (sees l.seat)) × IsSameBut (sees l.fn.seat) (sees l.seat)
+invariant-loop g l = IsPassSeat l.fn.self l.seat × HasWaited (sees l.fn.seat) (sees l.seat) × IsSameBut (sees l.fn.seat) (sees l.seat)

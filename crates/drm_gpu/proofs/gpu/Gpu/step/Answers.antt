@@ -1,15 +1,16 @@
-use Rattle.std.proofs.Common.{sym, subst, Ok, Err}
+use Rattle.std.proofs.Common.{◌∙◌, ap, sym, subst, Ok, Err}
 use Rattle.ww_lock.specs.Begun.{sees}
 use Rattle.drm_state.specs.declared.errors.StepError.TheVariants.{Idle}
 use Rattle.drm_state.specs.declared.answer.Stepped.{Stepped}
 use Rattle.drm_state.specs.declared.answer.Stepped.TheVariants.{Stalled}
 use Rattle.drm_sched.specs.declared.marked.Begun.TheVariants.{Work}
 use Rattle.drm_sched.specs.Begun.{HasBegun}
+use Rattle.drm_sched.specs.Marks.{MarkedDevice}
 use Rattle.drm_gpu.specs.Answers.{StepIs}
 use Rattle.drm_gpu.specs.Passes.{CallsAs, last_of}
 use Rattle.drm_gpu.proofs.Called.{at_gpu, calls_after, calls_are}
 use Rattle.drm_gpu.proofs.Grown.{grows_trans}
-use Rattle.drm_gpu.proofs.Packets.{begun_grows}
+use Rattle.drm_gpu.proofs.Packets.{begun_grows, begun_state}
 use Rattle.drm_gpu.proofs.gpu.Gpu.step.Goals as goal
 
 pub returns-in-Out : goal.returns-in-Out
@@ -19,15 +20,16 @@ returns-in-Out g c =
     let s = c.send_out.new.seat in
     let t = c.run_out.new.seat in
     let o = c.in-Out.ensures in
-    let on = grows_trans (last_of v) o.found (last_of (sees s)) o.is_found.later (begun_grows o.found (last_of (sees s)) out
-    (subst (λ ring. HasBegun o.found ring (Work out.fence out.packet out.copy out.write out.read) (last_of (sees s))) (sym o.ring_is) o.begun)) in
+    let begun = subst (λ ring. HasBegun o.found ring (Work out.fence out.packet out.copy out.write out.read) (last_of (sees s))) (sym o.ring_is) o.begun in
+    let on = grows_trans (last_of v) o.found (last_of (sees s)) o.is_found.later (begun_grows o.found (last_of (sees s)) out begun) in
+    let left = begun_state o.found (last_of (sees s)) out begun in
     let ran : CallsAs (StepIs c.args.ring (Ok c.run_out.result)) (sees s) (sees t) =
     subst (λ ring. CallsAs (StepIs ring (Ok c.run_out.result)) (sees s) (sees t)) o.ring_is
     (subst (λ (r : Stepped). CallsAs (StepIs out.ring (Ok r)) (sees s) (sees t)) (sym c.run_out.ensures.ran) c.run_out.ensures.call) in
     record {
       call = calls_are (StepIs c.args.ring (Ok c.run_out.result)) c.args.self.now c.args.pass.now c.pass.inside.seat.place.table_id t.place.table_id v (sees t)
           c.pass.view_is c.requires.pass (at_gpu c.args.self.now t c.run_out.ensures.seat)
-          (calls_after (StepIs c.args.ring (Ok c.run_out.result)) v (sees s) (sees t) on o.same ran);
+          (calls_after (StepIs c.args.ring (Ok c.run_out.result)) v (sees s) (sees t) on (λ all. left ∙ ap (λ (d : MarkedDevice). d.state) (o.is_found.alone all)) o.same ran);
     }
 
 pub returns-in-Stalled : goal.returns-in-Stalled

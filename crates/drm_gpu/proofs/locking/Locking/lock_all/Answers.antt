@@ -2,8 +2,8 @@ use Rattle.std.proofs.Common.{◌≡◌, ◌∙◌, false, ap, sym, subst}
 use Rattle.ww_lock.specs.Acquiring.{view}
 use Rattle.drm_state.specs.Held.{kept_of, HoldsAll}
 use Rattle.drm_gpu.specs.Passes.{pass_of}
-use Rattle.drm_gpu.specs.Submissions.{Submission, DeviceAcquire}
-use Rattle.drm_gpu.proofs.Claims.{done_on}
+use Rattle.drm_gpu.specs.Submissions.{Submission, DeviceAcquire, HoldsNoMore}
+use Rattle.drm_gpu.proofs.Claims.{done_on, no_more_kept}
 use Rattle.drm_gpu.proofs.locking.Locking.lock_all.Goals as goal
 
 pub done-requires : goal.done-requires
@@ -21,6 +21,13 @@ invariant_of-result g c =
       c.self.invariant.2,
       subst (λ (z : DeviceAcquire). HoldsAll c.self.inside.job (kept_of z.held.items)) (sym e.sealed) c.hold_all.ensures.all,
     )
+
+pub returns-clause-only : goal.returns-clause-only
+returns-clause-only g c =
+    let job = c.self.inside.job in
+    subst (λ (z : DeviceAcquire). HoldsNoMore job c.args.self.held (kept_of z.held.items)) (sym c.done.ensures.sealed)
+    (subst (λ (s : Submission). HoldsNoMore job s.held (kept_of c.hold_all.new.acquire.held.items)) c.self.view_is
+    (no_more_kept job c.self.inside.acquire.held.items c.hold_all.new.acquire.held.items c.hold_all.ensures.only))
 
 pub returns-clause-same : goal.returns-clause-same
 returns-clause-same g c =
