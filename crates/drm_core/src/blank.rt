@@ -5,7 +5,7 @@ ghost use Rattle.drm_sched.specs.Marks.{unmarked};
 ghost use Rattle.drm_state.specs.State.{opened_device};
 ghost use Rattle.drm_core.specs.Cores.{core_state, IsCore};
 
-use crate::cores::{ContextRow, CoreTable};
+use crate::cores::{CONTEXTS, ContextRow, CoreTable};
 use crate::laws::device_laws;
 use drm_resv::Resv;
 use drm_sched::Device;
@@ -53,7 +53,7 @@ impl CoreTable {
         let buffers = device.spec().buffers.len();
         let reservations = blank_reservations(alloc, buffers)?;
         let holders = no_holders(alloc, buffers)?;
-        let contexts = no_contexts(alloc, 64)?;
+        let contexts = no_contexts(alloc, CONTEXTS)?;
         Ok(CoreTable {
             device,
             reservations,

@@ -2,6 +2,9 @@ use drm_resv::Resv;
 use drm_sched::{Device, Plan};
 use drm_types::{CtxId, Ticket};
 
+/// How many contexts a core has. The number of each is below it.
+pub const CONTEXTS: usize = 64;
+
 /// A context that has begun (`ww_acquire_ctx`).
 #[derive(Drop)]
 pub struct ContextRow {

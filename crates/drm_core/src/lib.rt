@@ -20,6 +20,7 @@ mod planned;
 mod planning;
 mod submission;
 
+pub use cores::CONTEXTS;
 pub use drm_sched::{
     Answer, ArmError, Begun, BuildError, CancelError, Closed, Device, Expired, FinishError,
     Finished, Held, JobRecord, Phase, PickError, Picked, Plan, ReadError, ReapError, Refusal,

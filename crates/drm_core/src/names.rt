@@ -1,6 +1,7 @@
 ghost use Rattle.std.specs.Prelude.{◌≡◌};
 ghost use Rattle.drm_core.specs.Names.{names_exist as names_exist_in};
 
+use crate::cores::CONTEXTS;
 use crate::event::Event;
 use drm_types::DeviceSpec;
 
@@ -19,10 +20,12 @@ impl Event {
             | Event::Done { ctx }
             | Event::End { ctx }
             | Event::Plan { ctx, .. }
-            | Event::Arm { ctx } => *ctx < 64,
+            | Event::Arm { ctx } => (*ctx as usize) < CONTEXTS,
             Event::Try { ctx, buffer }
             | Event::Drop { ctx, buffer }
-            | Event::Read { ctx, buffer } => *ctx < 64 && (buffer.number() as usize) < buffers,
+            | Event::Read { ctx, buffer } => {
+                (*ctx as usize) < CONTEXTS && (buffer.number() as usize) < buffers
+            }
             Event::Pick { ring, .. }
             | Event::Step { ring }
             | Event::Finish { ring, .. }

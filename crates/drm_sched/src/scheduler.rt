@@ -48,18 +48,14 @@ impl Scheduler {
         ensures heads { HasHeads self.new }
     {
         let chosen = self.heads.choice(&self.marked.table, ring);
-        match self.marked.pick(ring, chosen, now) {
-            Ok(picked) => {
-                let entity = self.marked.table.journal[picked.fence as usize]
-                    .job
-                    .entity();
-                self.heads.scheduled(picked.fence);
-                self.heads.remove(entity, ring);
-                self.heads.place(&self.marked.table, entity);
-                Ok(picked)
-            }
-            Err(error) => Err(error),
-        }
+        let picked = self.marked.pick(ring, chosen, now)?;
+        let entity = self.marked.table.journal[picked.fence as usize]
+            .job
+            .entity();
+        self.heads.scheduled(picked.fence);
+        self.heads.remove(entity, ring);
+        self.heads.place(&self.marked.table, entity);
+        Ok(picked)
     }
 
     /// Runs one packet on the ring.
@@ -118,13 +114,9 @@ impl Scheduler {
         ensures whole { IsWholeMarked self.new.marked }
         ensures heads { HasHeads self.new }
     {
-        match self.marked.finish(ring, now) {
-            Ok(finished) => {
-                self.heads.ended(finished.fence);
-                Ok(finished)
-            }
-            Err(error) => Err(error),
-        }
+        let finished = self.marked.finish(ring, now)?;
+        self.heads.ended(finished.fence);
+        Ok(finished)
     }
 
     /// Looks at the head of the ring after a time.
@@ -170,13 +162,9 @@ impl Scheduler {
         ensures whole { IsWholeMarked self.new.marked }
         ensures heads { HasHeads self.new }
     {
-        match self.marked.reap(entity) {
-            Ok(fence) => {
-                self.heads.ended(fence);
-                Ok(fence)
-            }
-            Err(error) => Err(error),
-        }
+        let fence = self.marked.reap(entity)?;
+        self.heads.ended(fence);
+        Ok(fence)
     }
 
     /// Arms the job, which waits for these and for the fences that it names.

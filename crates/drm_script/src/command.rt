@@ -10,12 +10,10 @@ ghost use Rattle.drm_script.specs.Commands.{with_event, with_job_at, context_and
 
 use crate::events::Events;
 use crate::kept::Kept;
+use drm_core::CONTEXTS;
 use drm_text::{Command, Fault, Keyword, Line, ReadError, Words, order_fault};
 use drm_types::{BufferId, CtxId, DeviceSpec, Moment, RingId};
 use std::alloc::Global;
-
-/// How many contexts a core has.
-const CONTEXTS: usize = 64;
 
 #[tactic(auto, unfolding(crate::specs::Commands::context_and_buffer_at))]
 fn read_context_and_buffer(spec: &DeviceSpec, words: &mut Words) -> Result<(CtxId, BufferId), Fault>
