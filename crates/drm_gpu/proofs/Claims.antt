@@ -1,8 +1,7 @@
 -- What a submission shows of the locks that its caller takes.
-use Rattle.std.proofs.Common.{◌≡◌, ◌<◌, ◌⊎◌, ℕ, List, [], ◌∷◌, ◌++◌, length, refl, sym, ap, ◌∙◌, subst, ⊎_elim, inl, inr, Result, Ok, Err}
+use Rattle.std.proofs.Common.{◌≡◌, ◌<◌, ◌⊎◌, ℕ, List, [], ◌∷◌, ◌++◌, length, refl, sym, ap, ◌∙◌, subst, ⊎_elim, inl, inr, append-nil, append_assoc, Result, Ok, Err}
 use Rattle.std.specs.Prelude.{true, false}
 use Rattle.std.proofs.lemmas.List.{length-map}
-use Rattle.atomic_table.specs.Seated.{TableId}
 use Rattle.ww_lock.specs.declared.locks.TryLockError.{TryLockError}
 use Rattle.ww_lock.specs.declared.locks.TryLockError.TheVariants.{Sealed, Already, Older, Younger}
 use Rattle.ww_lock.specs.declared.locks.LockError.{LockError}
@@ -11,17 +10,16 @@ use Rattle.ww_lock.specs.Acquiring.{HoldsOutside, IsAsOwed, AnswersTry, AnswersL
 use Rattle.ww_lock.specs.Acquiring.{MayWait as lock_may_wait}
 use Rattle.ww_lock.specs.Held.{HasAt, Lacks}
 use Rattle.ww_lock.specs.Rule.{In}
-use Rattle.ww_lock.specs.Steps.{with_claim, with_mets}
 use Rattle.drm_job.specs.declared.Draft.{Draft}
 use Rattle.drm_resv.specs.Reservation.{Reservation, WithRoom}
 use Rattle.drm_state.specs.Held.{kept_of}
 use Rattle.drm_sched.specs.Marks.{MarkedDevice}
 use Rattle.drm_state.specs.Reservation.{Fits}
 use Rattle.drm_gpu.specs.Passes.{Seeing, GpuState, PassState, Knows, last_of, pass_of}
-use Rattle.drm_gpu.specs.Submissions.{Submission, Declares, DeviceAcquire, Holding, HoldsNoMore, TriesLock, MayWait, Claims, Locks, WentOn, submission_of}
+use Rattle.drm_gpu.specs.Submissions.{Submission, Declares, DeviceAcquire, Holding, HoldsNoMore, TriesLock, MayWait, Claims, ClaimsMore, Locks, WentOn, submission_of}
 use Rattle.drm_gpu.proofs.Chains.{knows_same}
 use Rattle.drm_gpu.proofs.Holders.{in_kept, in_kept_of, still_holds}
-use Rattle.drm_gpu.proofs.Lists.{at_in, in_last, in_left, lacks_same}
+use Rattle.drm_gpu.proofs.Lists.{at_in, in_both, in_last, in_left, lacks_same}
 
 -- ---- the caller goes on to hold
 
@@ -164,11 +162,33 @@ module _ (gpu : GpuState) (job : Draft) (b : ℕ) (a a' : DeviceAcquire) (k : Ho
 
 -- ---- several in turn
 
-shows_on : (home : TableId) (v w u : Seeing) → w ≡ u → pass_of home u ≡ record (pass_of home v) { had = u.lock.had; met = u.lock.met } → pass_of home w ≡ record (pass_of home v) { had = w.lock.had; met = w.lock.met }
-shows_on home v w u e h = subst (λ (z : Seeing). pass_of home z ≡ record (pass_of home v) { had = z.lock.had; met = z.lock.met }) (sym e) h
+same_lists : (p : PassState) (xs xs' ys ys' : List (ℕ × ℕ)) → xs ≡ xs' → ys ≡ ys' → record p { had = xs; met = ys } ≡ record p { had = xs'; met = ys' }
+same_lists p xs xs' ys ys' e f = λ i. record p { had = e i; met = f i }
+
+-- only more holders were met
+only_met : (ticket : ℕ) (ms : List (ℕ × ℕ)) (p q : PassState) → q ≡ record p { met = p.met ++ ms } → ClaimsMore ticket p q
+only_met ticket ms p q e = record {
+  more = [];
+  others = ms;
+  own = λ b t never. absurd never;
+  pass = e ∙ same_lists p p.had (p.had ++ []) (p.met ++ ms) (p.met ++ ms) (sym (append-nil p.had)) refl;
+}
+
+no_claims : (ticket : ℕ) (p q : PassState) → q ≡ p → ClaimsMore ticket p q
+no_claims ticket p q e = only_met ticket [] p q (e ∙ same_lists p p.had p.had p.met (p.met ++ []) refl (sym (append-nil p.met)))
+
+claims_trans : (ticket : ℕ) (p q r : PassState) → ClaimsMore ticket p q → ClaimsMore ticket q r → ClaimsMore ticket p r
+claims_trans ticket p q r x y = record {
+  more = x.more ++ y.more;
+  others = x.others ++ y.others;
+  own = λ b t h. ⊎_elim (λ s. x.own b t s) (λ s. y.own b t s) (in_both (b, t) x.more y.more h);
+  pass = y.pass
+      ∙ (ap (λ (z : PassState). record z { had = z.had ++ y.more; met = z.met ++ y.others }) x.pass
+      ∙ same_lists p (p.had ++ x.more ++ y.more) (p.had ++ (x.more ++ y.more)) (p.met ++ x.others ++ y.others) (p.met ++ (x.others ++ y.others)) (append_assoc p.had x.more y.more) (append_assoc p.met x.others y.others));
+}
 
 pub went_itself : (gpu : GpuState) (a : DeviceAcquire) → Holding gpu a → WentOn gpu a a
-went_itself gpu a k = record { holding = k; ticket = refl; sealed = refl; pass = refl }
+went_itself gpu a k = record { holding = k; ticket = refl; sealed = refl; pass = no_claims a.ticket (pass_of gpu.home (view a)) (pass_of gpu.home (view a)) refl }
 
 pub went_same : (gpu : GpuState) (a a' : DeviceAcquire) → Holding gpu a → a' ≡ a → WentOn gpu a a'
 went_same gpu a a' k e = subst (WentOn gpu a) (sym e) (went_itself gpu a k)
@@ -178,7 +198,8 @@ went_trans gpu a b c p q = record {
   holding = q.holding;
   ticket = q.ticket ∙ p.ticket;
   sealed = q.sealed ∙ p.sealed;
-  pass = q.pass ∙ ap (λ (z : PassState). record z { had = (view c).lock.had; met = (view c).lock.met }) p.pass;
+  pass = claims_trans a.ticket (pass_of gpu.home (view a)) (pass_of gpu.home (view b)) (pass_of gpu.home (view c)) p.pass
+      (subst (λ n. ClaimsMore n (pass_of gpu.home (view b)) (pass_of gpu.home (view c))) p.ticket q.pass);
 }
 
 -- what is given back shows the same
@@ -187,7 +208,7 @@ went_back gpu a a' k t s e = record {
   holding = k;
   ticket = t;
   sealed = s;
-  pass = ap (λ (z : PassState). record z { had = (view a').lock.had; met = (view a').lock.met }) e;
+  pass = no_claims a.ticket (pass_of gpu.home (view a)) (pass_of gpu.home (view a')) e;
 }
 
 pub went_claimed : (gpu : GpuState) (b : ℕ) (a a' : DeviceAcquire) → Holding gpu a → HoldsOutside gpu.home a' → Claimed b a a' → WentOn gpu a a'
@@ -195,7 +216,12 @@ went_claimed gpu b a a' k h t = record {
   holding = (claimed gpu b a a' k h t).0;
   ticket = t.2.0;
   sealed = t.2.1;
-  pass = shows_on gpu.home (view a) (view a') (with_claim b t.3.0 (with_mets t.3.1 (view a))) t.3.3 refl;
+  pass = record {
+    more = (b, (view a).lock.ticket) ∷ [];
+    others = t.3.1;
+    own = λ d n h. ⊎_elim (λ e. ap (λ q. q.1) e ∙ k.holds.ticket.0) (λ never. absurd never) h;
+    pass = ap (λ (z : Seeing). pass_of gpu.home z) t.3.3;
+  };
 }
 
 pub went_locked : (gpu : GpuState) (b : ℕ) (a a' : DeviceAcquire) (r : Result (Unit {0}) LockError) → Holding gpu a → HoldsOutside gpu.home a' → AnswersLock b a a' r → WentOn gpu a a'
@@ -206,7 +232,7 @@ went_locked gpu b a a' (Err (lock.Backoff n)) k h t = record {
   holding = (locked gpu b a a' (Err (lock.Backoff n)) k h t).0;
   ticket = t.4.2.0.0;
   sealed = t.4.2.0.1;
-  pass = shows_on gpu.home (view a) (view a') (with_mets (t.4.0 ++ (b, n) ∷ []) (view a)) t.4.2.2 refl;
+  pass = only_met a.ticket (t.4.0 ++ (b, n) ∷ []) (pass_of gpu.home (view a)) (pass_of gpu.home (view a')) (ap (λ (z : Seeing). pass_of gpu.home z) t.4.2.2);
 }
 
 -- a lock gives nothing back

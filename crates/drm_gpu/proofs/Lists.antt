@@ -25,7 +25,7 @@ module _ {A : Type 0} where
   in_right a [] ys e = e
   in_right a (x ∷ xs) ys e = inr (in_right a xs ys e)
 
-  in_both : (a : A) (xs ys : List A) → In a (xs ++ ys) → In a xs ⊎ In a ys
+  pub in_both : (a : A) (xs ys : List A) → In a (xs ++ ys) → In a xs ⊎ In a ys
   in_both a [] ys e = inr e
   in_both a (x ∷ xs) ys e = ⊎_elim (λ t. inl (inl t)) (λ t. ⊎_elim (λ u. inl (inr u)) (λ u. inr u) (in_both a xs ys t)) e
 

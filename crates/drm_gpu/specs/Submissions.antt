@@ -40,6 +40,13 @@ submission_of home job a = record { pass = pass_of home (view a); ticket = a.tic
 abbrev pub IsNewTicket : PassState → ℕ → Type 0
 IsNewTicket pass ticket = ((b t : ℕ) → In (b, t) pass.had → t < ticket) × ((b h : ℕ) → In (b, h) pass.met → h < ticket)
 
+-- the pass has claimed more, each time under this ticket, and has met more holders. Nothing else of it has changed
+pub record ClaimsMore (ticket : ℕ) (old new : PassState) : Type 0 where
+  pub more : List (ℕ × ℕ)
+  pub others : List (ℕ × ℕ)
+  pub own : (b t : ℕ) → In (b, t) more → t ≡ ticket
+  pub pass : new ≡ record old { had = old.had ++ more; met = old.met ++ others }
+
 -- each of these fits the device
 abbrev pub Fitting : MarkedDevice → List (ℕ × Reservation) → Type 0
 Fitting d held = (b : ℕ) (x : Reservation) → In (b, x) held → Fits b d.state.journal x
@@ -68,12 +75,12 @@ pub record EnteredWith (gpu : GpuState) (found : MarkedDevice) (a : DeviceAcquir
 abbrev pub IsSameHolder : DeviceAcquire → DeviceAcquire → Type 0
 IsSameHolder a a' = (a'.ticket ≡ a.ticket) × (a'.sealed ≡ a.sealed) × (a'.held ≡ a.held)
 
--- a caller that took locks and gave some back: it goes on to hold, and its pass has claimed and met more
+-- a caller that took locks and gave some back: it goes on to hold, and its pass has claimed more under its ticket
 pub record WentOn (gpu : GpuState) (a a' : DeviceAcquire) : Type 0 where
   pub holding : Holding gpu a'
   pub ticket : a'.ticket ≡ a.ticket
   pub sealed : a'.sealed ≡ a.sealed
-  pub pass : pass_of gpu.home (view a') ≡ record (pass_of gpu.home (view a)) { had = (view a').lock.had; met = (view a').lock.met }
+  pub pass : ClaimsMore a.ticket (pass_of gpu.home (view a)) (pass_of gpu.home (view a'))
 
 -- what fitted fits at each buffer that is not held, and one fence comes to show this word
 pub record KeepsOthers (held : List (ℕ × Reservation)) (fence shown : ℕ) (old new : MarkedDevice) : Type 0 where
@@ -112,10 +119,9 @@ Locks b old new (Err (Backoff h)) =
     Lacks b old.held × (h < old.ticket) × (0 < length old.held)
     × ((ms : List (ℕ × ℕ)) × MayWait b old ms × (new ≡ record old { pass = record old.pass { met = old.pass.met ++ (ms ++ (b, h) ∷ []) } }))
 
--- the submission has gone on: it may have claimed and met more, and holds what it holds
+-- the submission has gone on, with its job and its ticket: its pass has claimed more under this ticket
 abbrev pub GoesOn : Submission → Submission → Type 0
-GoesOn old new =
-    (new.job ≡ old.job) × (new.ticket ≡ old.ticket) × (new.pass ≡ record old.pass { had = new.pass.had; met = new.pass.met })
+GoesOn old new = (new.job ≡ old.job) × (new.ticket ≡ old.ticket) × ClaimsMore old.ticket old.pass new.pass
 
 -- what an arming that answered this fence found and left. What was planned covers the device that was found
 pub record ArmIs (job : Draft) (deps : List (ℕ × ℕ)) (old new : List (ℕ × Reservation)) (fence : ℕ) (d e : MarkedDevice) : Type 0 where

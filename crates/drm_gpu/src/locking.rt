@@ -8,7 +8,7 @@ ghost use Rattle.drm_state.specs.Held.{kept_of, HoldsAll};
 ghost use Rattle.drm_job.specs.Fault.{IsJob};
 ghost use Rattle.ww_lock.specs.Acquiring.{view};
 ghost use Rattle.drm_gpu.specs.Passes.{pass_of};
-ghost use Rattle.drm_gpu.specs.Submissions.{Declares, Holding, HoldsNoMore, IsNewTicket, TriesLock, Claims, Locks, GoesOn, WentOn};
+ghost use Rattle.drm_gpu.specs.Submissions.{Declares, Holding, HoldsNoMore, IsNewTicket, TriesLock, Claims, ClaimsMore, Locks, GoesOn, WentOn};
 ghost use Rattle.drm_gpu.specs.Status.{AnswersStatus};
 ghost use Rattle.drm_gpu.specs.Begun.{IsBack, IsBackFromRead};
 
@@ -254,6 +254,7 @@ impl Gpu {
         requires { pass.gpu ≡ self.now }
         ensures holding { IfOk result (λ a. Holding self.now a × (a.sealed ≡ false) × (a.held.items ≡ [])) }
         ensures pass { IfOk result (λ a. pass_of self.now.home (view a) ≡ pass) }
+        ensures ticket { IfOk result (λ a. IsNewTicket pass a.ticket) }
         ensures tickets_left { IfOk result (λ _. pass.tickets_out ≡ false) }
         ensures refused { IfErr result (IsBackFromRead pass) }
     {
@@ -280,7 +281,8 @@ impl Gpu {
     ) -> Result<Reading<'g>, BeginReadError>
         requires pass { pass.gpu ≡ self.now }
         requires buffer { buffer < length self.now.spec.buffers }
-        ensures begun { IfOk result (λ r. (r.buffer ≡ buffer) × (r.pass ≡ record pass { had = r.pass.had; met = r.pass.met })) }
+        ensures begun { IfOk result (λ r. r.buffer ≡ buffer) }
+        ensures ticket { IfOk result (λ r. (t : ℕ) × IsNewTicket pass t × ClaimsMore t pass r.pass) }
         ensures tickets_left { IfOk result (λ _. pass.tickets_out ≡ false) }
         ensures refused { IfErr result (IsBackFromRead pass) }
     {

@@ -86,7 +86,7 @@ pub told_arms : (old new : PassState) → new ≡ record old { tickets_out = tru
 told_arms old new is = stays old new (ap (λ p. p.gpu) is) (ap (λ p. p.last) is) (ap (λ p. p.calls) is)
 
 pub locks_arm : (old new : Submission) → GoesOn old new → HasArmed [] old.pass new.pass
-locks_arm old new on = stays old.pass new.pass (ap (λ p. p.gpu) on.2) (ap (λ p. p.last) on.2) (ap (λ p. p.calls) on.2)
+locks_arm old new on = stays old.pass new.pass (ap (λ p. p.gpu) on.2.pass) (ap (λ p. p.last) on.2.pass) (ap (λ p. p.calls) on.2.pass)
 
 pub packet_arms : OnlyArmingsArm → (ring : ℕ) (x : Result Stepped StepError) (old new : PassState) (out : RunningState) → Starts ring old out → Calls (StepIs out.ring x) out.pass new → ArmsNoMore old new
 packet_arms law ring x old new out s c = nothing_then old out.pass new (s.gpu, ap (λ (p : PassState). armings p.calls) s.pass) (step_arms law out.ring x out.pass new c)

@@ -23,6 +23,11 @@ returns-in-Ok-clause-held g c h =
     let t = (c.in-Ok.ensures {u = tt}).answers in
     (t.3.0, subst (In (c.args.buffer, t.3.0)) (sym t.3.4) (now_last (c.args.buffer, t.3.0) c.args.acquire.now.held.items))
 
+pub returns-in-Err-Already-clause-on : goal.returns-in-Err-Already-clause-on
+returns-in-Err-Already-clause-on g c =
+    went_locked c.args.gpu.now c.args.buffer c.args.acquire.now c.lock.new.acquire c.lock.result c.requires.holding.0
+    (subst (λ z. HoldsOutside z c.lock.new.acquire) (ap (λ (g : GpuState). g.home) c.gpu.view_is) c.lock.ensures.holds) c.lock.ensures.answers
+
 pub returns-in-Err-Already-clause-held : goal.returns-in-Err-Already-clause-held
 returns-in-Err-Already-clause-held g c h =
     let is : c.lock.result ≡ Err lock.Already = cc in

@@ -1,8 +1,8 @@
-use Rattle.std.proofs.Common.{◌≡◌, ◌∙◌, false, ap, sym, subst}
+use Rattle.std.proofs.Common.{◌∙◌, false, ap, sym, subst}
 use Rattle.ww_lock.specs.Acquiring.{view}
 use Rattle.drm_state.specs.Held.{kept_of, HoldsAll}
 use Rattle.drm_gpu.specs.Passes.{pass_of}
-use Rattle.drm_gpu.specs.Submissions.{Submission, DeviceAcquire, HoldsNoMore}
+use Rattle.drm_gpu.specs.Submissions.{Submission, DeviceAcquire, HoldsNoMore, ClaimsMore}
 use Rattle.drm_gpu.proofs.Claims.{done_on, no_more_kept}
 use Rattle.drm_gpu.proofs.locking.Locking.lock_all.Goals as goal
 
@@ -37,6 +37,6 @@ returns-clause-same g c =
     let seen = ap (λ (z : DeviceAcquire). view z) e in (
       ap (λ (s : Submission). s.job) c.self.view_is,
       ap (λ (z : DeviceAcquire). z.ticket) e ∙ (on.ticket ∙ ap (λ (s : Submission). s.ticket) c.self.view_is),
-      subst (λ v. pass_of home v ≡ record c.args.self.pass { had = v.lock.had; met = v.lock.met }) (sym seen)
-          (on.pass ∙ ap (λ (s : Submission). record s.pass { had = (view c.hold_all.new.acquire).lock.had; met = (view c.hold_all.new.acquire).lock.met }) c.self.view_is),
+      subst (λ v. ClaimsMore c.args.self.ticket c.args.self.pass (pass_of home v)) (sym seen)
+          (subst (λ (s : Submission). ClaimsMore s.ticket s.pass (pass_of home (view c.hold_all.new.acquire))) c.self.view_is on.pass),
     )
