@@ -1,5 +1,6 @@
 //! The engine `check`: compares what a journal's jobs leave with the last bytes that the journal tells.
 
+ghost use Rattle.drm_stream.specs.Transfer.{LosesAtMost};
 ghost use Rattle.drm_engine.specs.Journals.{Checks};
 
 use crate::comparison::compare;
@@ -12,7 +13,8 @@ use std::io::{Read, Write};
 /// Reads a journal to its end, and writes one line: `same` where each buffer that the serial machine leaves has the
 /// bytes that the journal tells last, and else the first buffer and byte that differ.
 pub fn check<R: Read, W: Write>(alloc: Global, reader: &mut R, writer: &mut W) -> Ending
-    ensures { Checks (R.remaining reader.old) (W.contents writer.old) (W.contents writer.new) result }
+    ensures ending { Checks (R.remaining reader.old) (W.contents writer.old) (W.contents writer.new) result }
+    ensures most { LosesAtMost 1048577 (R.remaining reader.old) (R.remaining reader.new) }
 {
     let buffers = match run_journal_from(alloc, reader) {
         Ok(buffers) => buffers,

@@ -1,6 +1,7 @@
 //! The engines by name.
 
 ghost use Rattle.std.specs.Prelude.{◌≡◌, IfNone, IfSome};
+ghost use Rattle.drm_stream.specs.Transfer.{LosesAtMost};
 ghost use Rattle.drm_engine.specs.Engines.{NamesNone, Runs, word_of};
 
 use crate::checking::check;
@@ -37,7 +38,8 @@ impl Engine {
 
     /// Runs it from the reader to the writer.
     pub fn run<R: Read, W: Write>(self, alloc: Global, reader: &mut R, writer: &mut W) -> Ending
-        ensures { Runs self (R.remaining reader.old) (W.contents writer.old) (W.contents writer.new) result }
+        ensures ending { Runs self (R.remaining reader.old) (W.contents writer.old) (W.contents writer.new) result }
+        ensures most { LosesAtMost 1048577 (R.remaining reader.old) (R.remaining reader.new) }
     {
         match self {
             Engine::Replay => replay(alloc, reader, writer),

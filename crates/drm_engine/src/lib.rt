@@ -1,9 +1,9 @@
 //! The engines, which read a text to its end and write lines, between any reader and any writer.
 //!
 //! `replay` answers the commands of a script. `serial` runs the jobs of a journal one after another and writes the
-//! buffers that they leave; `check` compares these with the last bytes that the journal tells. The clause of an engine
-//! says what is written of what the reader had, for each way in which it ends: the whole text is judged before anything is
-//! written.
+//! buffers that they leave; `check` compares these with the last bytes that the journal tells. The clauses of an engine
+//! say what is written of what the reader had, for each way in which it ends (`ending`), and how much is taken of that at
+//! most (`most`): the whole text is judged before anything is written.
 //! `Ending` has the exit status and the text of each such way. An `Engine` is what a word of the command line names.
 #![tactic(auto)]
 

@@ -1,6 +1,7 @@
 //! The engine `serial`: from a journal to the buffers that its jobs leave when they run one after another.
 
 ghost use Rattle.std.specs.Prelude.{◌≡◌, IfOk};
+ghost use Rattle.drm_stream.specs.Transfer.{LosesAtMost};
 ghost use Rattle.drm_engine.specs.Journals.{Serializes};
 ghost use Rattle.drm_engine.specs.Leaving.{text_of_buffers};
 
@@ -28,7 +29,8 @@ fn lines(alloc: Global, buffers: Sequence<Sequence<u8>>) -> Result<Vec<u8>, Allo
 /// Reads a journal to its end, and writes a line for each buffer: its bytes after the serial machine has run the jobs
 /// of the journal, each with the packets that it has run. The last bytes that the journal tells are not looked at.
 pub fn serial<R: Read, W: Write>(alloc: Global, reader: &mut R, writer: &mut W) -> Ending
-    ensures { Serializes (R.remaining reader.old) (W.contents writer.old) (W.contents writer.new) result }
+    ensures ending { Serializes (R.remaining reader.old) (W.contents writer.old) (W.contents writer.new) result }
+    ensures most { LosesAtMost 1048577 (R.remaining reader.old) (R.remaining reader.new) }
 {
     let buffers = match run_journal_from(alloc, reader) {
         Ok(buffers) => buffers,

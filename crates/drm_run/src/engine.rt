@@ -1,5 +1,6 @@
 //! The engine.
 ghost use Rattle.std.specs.Prelude.{◌<◌, ◌≤◌};
+ghost use Rattle.drm_stream.specs.Transfer.{LosesAtMost};
 ghost use Rattle.drm_run.specs.Runs.{Runs};
 
 use crate::ending::RunEnding;
@@ -59,7 +60,8 @@ pub fn run<H: Threads + Wait + Sync, R: Read, W: Write, P: Progress + Sync>(
     rt: &H,
 ) -> RunEnding
     requires { (0 < submitters) × (submitters ≤ 16) }
-    ensures { Runs submitters (R.remaining reader.old) (W.contents writer.old) (W.contents writer.new) result }
+    ensures ending { Runs submitters (R.remaining reader.old) (W.contents writer.old) (W.contents writer.new) result }
+    ensures most { LosesAtMost 1048577 (R.remaining reader.old) (R.remaining reader.new) }
 {
     jobs_run_in_their_device();
     serial_keeps_sizes();

@@ -4,7 +4,7 @@ ghost use Rattle.std.specs.Prelude.{◌≡◌, ◌++◌, [], None, OnErr, OnOk};
 ghost use Rattle.std.specs.Io.KnownBytes.{Appends};
 ghost use Rattle.drm_types.specs.Limits.{spec_fault};
 ghost use Rattle.drm_core.specs.Run.{AllNamesExist};
-ghost use Rattle.drm_stream.specs.Transfer.{AppendsFront};
+ghost use Rattle.drm_stream.specs.Transfer.{AppendsFront, LosesAtMost};
 ghost use Rattle.drm_engine.specs.Replaying.{AppendsPiece, IsAnswered};
 ghost use Rattle.drm_words.specs.Lines.{text_with_words, worded_line_of};
 ghost use Rattle.drm_words.specs.Replaying.{PlaysWithWords, ReplaysWithWords};
@@ -111,7 +111,8 @@ fn play<W: Write>(alloc: Global, script: Script, writer: &mut W) -> Ending
 /// behind it what it means there. Nothing is written before the whole text was read and judged. Where a write fails, the
 /// events behind it happen all the same, and nothing more is written.
 pub fn replay_with_words<R: Read, W: Write>(alloc: Global, reader: &mut R, writer: &mut W) -> Ending
-    ensures { ReplaysWithWords (R.remaining reader.old) (W.contents writer.old) (W.contents writer.new) result }
+    ensures ending { ReplaysWithWords (R.remaining reader.old) (W.contents writer.old) (W.contents writer.new) result }
+    ensures most { LosesAtMost 1048577 (R.remaining reader.old) (R.remaining reader.new) }
 {
     match read_script_from(alloc, reader) {
         Ok(script) => play(alloc, script, writer),

@@ -11,26 +11,26 @@ pub returns-in-Ok-Run-clause-commands : goal.returns-in-Ok-Run-clause-commands
 returns-in-Ok-Run-clause-commands g c = λ engine line.
     let found : c.in-Ok-Run.engine ≡ engine = cc (c.in-Ok-Run.ensures.command engine line) in
     subst (λ (e : Engine). EndsAs e (g.R.Read.remaining c.args.reader.now) (g.W.Write.contents c.args.writer.now) (g.W.Write.contents c.run.new.writer) c.tell_ended.result.status)
-    found (c.run.result, c.run.ensures, c.tell_ended.ensures)
+    found (c.run.result, c.run.ensures.ending, c.tell_ended.ensures)
 
 pub returns-in-Ok-Run-clause-worded : goal.returns-in-Ok-Run-clause-worded
 returns-in-Ok-Run-clause-worded g c = λ line. absurd (cc (c.in-Ok-Run.ensures.worded line))
 
 pub returns-in-Ok-Run-clause-accepted : goal.returns-in-Ok-Run-clause-accepted
 returns-in-Ok-Run-clause-accepted g c = λ passed.
-    inl (c.in-Ok-Run.engine, subst (IsAsked (map string_bytes c.args.words.now)) c.in-Ok-Run.field-0-is c.in-Ok-Run.ensures.named, (c.run.result, c.run.ensures, c.tell_ended.ensures))
+    inl (c.in-Ok-Run.engine, subst (IsAsked (map string_bytes c.args.words.now)) c.in-Ok-Run.field-0-is c.in-Ok-Run.ensures.named, (c.run.result, c.run.ensures.ending, c.tell_ended.ensures))
 
 pub returns-in-Ok-ReplayWithWords-clause-commands : goal.returns-in-Ok-ReplayWithWords-clause-commands
 returns-in-Ok-ReplayWithWords-clause-commands g c = λ engine line. absurd (cc (c.in-Ok-ReplayWithWords.ensures.command engine line))
 
 pub returns-in-Ok-ReplayWithWords-clause-worded : goal.returns-in-Ok-ReplayWithWords-clause-worded
-returns-in-Ok-ReplayWithWords-clause-worded g c = λ line. (c.replay_with_words.result, c.replay_with_words.ensures, c.tell_ended-in-Ok-ReplayWithWords.ensures)
+returns-in-Ok-ReplayWithWords-clause-worded g c = λ line. (c.replay_with_words.result, c.replay_with_words.ensures.ending, c.tell_ended-in-Ok-ReplayWithWords.ensures)
 
 pub returns-in-Ok-ReplayWithWords-clause-accepted : goal.returns-in-Ok-ReplayWithWords-clause-accepted
 returns-in-Ok-ReplayWithWords-clause-accepted g c = λ passed.
     inr (inr (inr (inr (
       subst (IsAsked (map string_bytes c.args.words.now)) c.in-Ok-ReplayWithWords.field-0-is c.in-Ok-ReplayWithWords.ensures.named,
-      (c.replay_with_words.result, c.replay_with_words.ensures, c.tell_ended-in-Ok-ReplayWithWords.ensures),
+      (c.replay_with_words.result, c.replay_with_words.ensures.ending, c.tell_ended-in-Ok-ReplayWithWords.ensures),
     ))))
 
 pub returns-in-Ok-Work-clause-commands : goal.returns-in-Ok-Work-clause-commands

@@ -11,17 +11,20 @@ journal_text-requires g c =
     told c.jobs_run_in_their_device.ensures c.serial_keeps_sizes.ensures script.spec script.jobs c.args.submitters c.in-Ok-run_all.report c.in-Ok.ensures.fits c.in-Ok.ensures.runnable.0 c.in-Ok.ensures.runnable.1
     (subst (λ jobs. IsReport script.spec jobs c.args.submitters c.in-Ok-run_all.report) c.into_vec-jobs.ensures c.in-Ok-run_all.ensures.report)
 
-pub returns-in-Ok-put_all : goal.returns-in-Ok-put_all
-returns-in-Ok-put_all g c =
+pub returns-in-Ok-put_all-clause-ending : goal.returns-in-Ok-put_all-clause-ending
+returns-in-Ok-put_all-clause-ending g c =
     let script = c.in-Ok.script in
     let report = subst (λ jobs. IsReport script.spec jobs c.args.submitters c.in-Ok-run_all.report) c.into_vec-jobs.ensures c.in-Ok-run_all.ensures.report in
     (script, c.in-Ok.ensures.value, (c.in-Ok-run_all.report, report, subst (λ bytes. Appends (g.W.Write.contents c.args.writer.now) (g.W.Write.contents c.put_all.new.writer) bytes) (c.deref.ensures.value ∙ c.in-Ok-journal_text.ensures) c.in-Ok-put_all.ensures.ok))
 
-pub returns : goal.returns
-returns g c =
+pub returns-in-Ok-put_all-clause-most : goal.returns-in-Ok-put_all-clause-most
+returns-in-Ok-put_all-clause-most g c = c.read_run_from.ensures.most
+
+pub returns-clause-ending : goal.returns-clause-ending
+returns-clause-ending g c =
     let script = c.in-Ok.script in
     let report = subst (λ jobs. IsReport script.spec jobs c.args.submitters c.in-Ok-run_all.report) c.into_vec-jobs.ensures c.in-Ok-run_all.ensures.report in
     (script, c.in-Ok.ensures.value, (c.in-Ok-run_all.report, report, subst (λ bytes. AppendsFront (g.W.Write.contents c.args.writer.now) (g.W.Write.contents c.put_all.new.writer) bytes) (c.deref.ensures.value ∙ c.in-Ok-journal_text.ensures) c.in-Err-put_all.ensures.err))
 
-pub returns-in-Err-NoThread : goal.returns-in-Err-NoThread
-returns-in-Err-NoThread g c = search rules
+pub returns-in-Err-NoThread-clause-ending : goal.returns-in-Err-NoThread-clause-ending
+returns-in-Err-NoThread-clause-ending g c = search rules
