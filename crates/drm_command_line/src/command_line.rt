@@ -14,7 +14,7 @@ use drm_engine::Engine;
 use std::alloc::{AllocError, Global};
 
 /// The version of the program, and the toolchain that it is made for, as `rt version` tells it.
-const VERSION: &str = "0.1.0 (rattle-kit-13b logic dac8208d650f15bf)";
+const VERSION: &str = "0.1.0 (rattle-kit-13f logic dac8208d650f15bf)";
 
 /// The most submitters.
 const MOST_SUBMITTERS: u64 = 16;

@@ -1,5 +1,7 @@
-"""What the scripts of this folder have in common: the repository, the toolchain's own command, and a check as the merge
-gate makes it, with the seconds of one processor that each function took."""
+"""The repository, the toolchain's own command and readers, and one run of the prover with what it took.
+
+bin/refuse and the scripts of bench/gate stand on it.
+"""
 import importlib.machinery
 import importlib.util
 import os
@@ -26,12 +28,19 @@ def command():
     """Returns the file of the toolchain's command rt, or says that it is missing."""
     found = shutil.which("rt")
     if not found:
-        sys.exit("there is no 'rt', the command of Rattle's toolchain")
+        sys.exit("there is no 'rt', the command of Rattle's toolchain: install it, and put its folder bin on PATH")
     return os.path.realpath(found)
 
 
-library = load("rtlib", f"{os.path.dirname(command())}/rtlib.py")
+# The toolchain's readers: of a wrong body's file, of a crate's files and libraries, of the functions of a file.
 gate = load("rt_command", command())
+library = gate.rtlib
+reader = load("rt_reader", f"{os.path.dirname(command())}/rt-plant-bodies")
+
+
+def version():
+    """Returns the line by which the toolchain names itself."""
+    return library.text_of(f"{library.KIT}/KIT-ID").strip()
 
 
 def crate_of(name):
@@ -40,11 +49,6 @@ def crate_of(name):
 
 def crates():
     return sorted(it for it in os.listdir(f"{TOP}/crates") if os.path.isdir(f"{TOP}/crates/{it}/src"))
-
-
-def edits_of(name):
-    folder = f"{TOP}/crates/{name}/must-fail"
-    return sorted(it for it in os.listdir(folder) if it.endswith(".edit")) if os.path.isdir(folder) else []
 
 
 def processor_seconds(session):
