@@ -1,11 +1,13 @@
 """Tries the wrong bodies of crates, side by side as processors and memory allow, and tells what came of each."""
 import concurrent.futures
+import contextlib
 import os
 import shutil
 import signal
 import subprocess
 import sys
 import tempfile
+import threading
 import time
 
 import libraries
@@ -18,6 +20,20 @@ from trial import Result
 GOOD = (trial.REFUSED, trial.LIMIT)
 # The part of the memory of a check from nothing that a check of some functions takes, at most.
 PART = 0.6
+# The checks that run, and whether they were ended for good.
+RUNNING, STOPPED = set(), threading.Event()
+
+
+class Stopped(Exception):
+    """The run was stopped, so that nothing is known of what it tried."""
+
+
+def stop():
+    """Ends all checks, with what they started."""
+    STOPPED.set()
+    for it in list(RUNNING):
+        with contextlib.suppress(OSError):
+            os.killpg(os.getpgid(it.pid), signal.SIGKILL)
 
 
 def clock(seconds):
@@ -32,7 +48,7 @@ class Tries:
         self.crate, self.options, self.kept = crate, options, kept
         self.files, self.results = wrong_bodies.files_of(crate.folder), {}
         self.checks, self.seconds, self.known, self.memory = 0, 0.0, 0, 0
-        self.started = time.monotonic()
+        self.started, self.need = time.monotonic(), PART * toolchain.gate.need(crate)
 
     def run(self, jobs):
         """Tries what no earlier run settled."""
@@ -98,9 +114,13 @@ class Tries:
         how = {"stdin": subprocess.DEVNULL, "stdout": subprocess.PIPE, "stderr": subprocess.STDOUT, "text": True, "errors": "replace"}
         for _ in range(2):
             with subprocess.Popen([*toolchain.library.guarded(), *words], cwd=folder, **how) as ran:
+                RUNNING.add(ran)
                 said = ran.stdout.read()
                 _, status, used = os.wait4(ran.pid, 0)
                 ran.returncode = os.waitstatus_to_exitcode(status)
+                RUNNING.discard(ran)
+            if STOPPED.is_set():
+                raise Stopped
             self.checks, self.seconds = self.checks + 1, self.seconds + used.ru_utime + used.ru_stime
             self.memory = max(self.memory, used.ru_maxrss // 1000)
             # It was killed, most likely for memory: once more.
@@ -150,24 +170,32 @@ def weight(tries):
 def in_lanes(left, lanes):
     """Runs the tries of crates side by side, tells each as it ends, and returns all results."""
     memory, count, running, started, results = 0.85 * toolchain.gate.free(), len(left), {}, time.monotonic(), []
-    needs = {it: PART * toolchain.gate.need(it.crate) for it in left}
     with concurrent.futures.ThreadPoolExecutor(lanes) as pool:
-        while left or running:
-            for it in list(left):
-                spare = memory - sum(needs[other] for other, _ in running.values())
-                idle = lanes - sum(jobs for _, jobs in running.values())
-                if idle > 0 and (not running or needs[it] <= spare):
-                    jobs = max(1, min(4, idle // len(left)))
-                    left.remove(it)
-                    running[pool.submit(it.run, jobs)] = it, jobs
-            ended, _ = concurrent.futures.wait(running, timeout=1, return_when=concurrent.futures.FIRST_COMPLETED)
-            for future in ended:
-                future.result()
-                tries, _ = running.pop(future)
-                results += tries.results.values()
-                print("\n".join(tries.lines()), flush=True)
-            show(count - len(left) - len(running), count, started, [it.crate.name for it, _ in running.values()])
+        try:
+            while left or running:
+                start_ready(pool, left, running, lanes, memory)
+                ended, _ = concurrent.futures.wait(running, timeout=1, return_when=concurrent.futures.FIRST_COMPLETED)
+                for future in ended:
+                    future.result()
+                    tries, _ = running.pop(future)
+                    results += tries.results.values()
+                    print("\n".join(tries.lines()), flush=True)
+                show(count - len(left) - len(running), count, started, [it.crate.name for it, _ in running.values()])
+        except BaseException:
+            stop()
+            raise
     return results
+
+
+def start_ready(pool, left, running, lanes, memory):
+    """Starts the tries for which there are a processor and memory."""
+    for it in list(left):
+        idle = lanes - sum(jobs for _, jobs in running.values())
+        spare = memory - sum(other.need for other, _ in running.values())
+        if idle > 0 and (not running or it.need <= spare):
+            jobs = max(1, min(4, idle // len(left)))
+            left.remove(it)
+            running[pool.submit(it.run, jobs)] = it, jobs
 
 
 def show(done, count, started, names):
