@@ -1,6 +1,7 @@
-//! Devices, jobs and drafts to try a core with, and worked runs of the core over them.
+//! Devices, jobs and drafts to try a core with, and tests of what no script of `examples/` can do.
 //!
-//! The runs are tables of what is done and what the core has to say. They use the core as any caller does.
+//! What a core has to say event by event is told by the scripts there, which the program runs. Here are calls of a core by hand,
+//! and those of a device by itself. They use both as any caller does.
 #![tactic(auto)]
 
 ghost use Rattle.std.specs.Prelude.{◌≡◌, IfOk, map};
@@ -21,7 +22,6 @@ use std::alloc::{AllocError, Global};
 pub enum Work {
     Fill(u32, u32, u32, u8),
     Copy(u32, u32, u32, u32, u32),
-    Add(u32, u32, u32, u32, u32),
     Stall(u16),
 }
 
@@ -108,13 +108,6 @@ fn packet_of(work: Work) -> Packet {
             byte,
         },
         Work::Copy(source, source_offset, target, target_offset, len) => Packet::Copy {
-            source: BufferId::new(source),
-            source_offset,
-            target: BufferId::new(target),
-            target_offset,
-            len,
-        },
-        Work::Add(source, source_offset, target, target_offset, len) => Packet::Add {
             source: BufferId::new(source),
             source_offset,
             target: BufferId::new(target),

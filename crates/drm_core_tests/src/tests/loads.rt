@@ -2,13 +2,18 @@
 
 ghost use Rattle.std.specs.Prelude.{◌≡◌, []};
 
-use super::choosing::EITHER;
 use super::outside::{arms_first, arms_second, picks};
-use crate::{ENTITY, Job, OTHER, RING, device};
+use crate::{ENTITY, Entity, Job, OTHER, RING, device};
 use drm_core::{Device, Finished};
-use drm_types::{Access, Outcome};
+use drm_types::{Access, Outcome, Priority};
 use std::alloc::Global;
 use std::test::Fail;
+
+/// An entity of both rings.
+const EITHER: Entity = Entity {
+    rings: &[0, 1],
+    priority: Priority::Normal,
+};
 
 const FIRST: Job = Job(0, 1, &[], &[], &[]);
 

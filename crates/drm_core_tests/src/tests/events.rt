@@ -1,0 +1,46 @@
+//! Events by hand: a caller asks whether an event names what the device has, and gives it to the core.
+use crate::{ENTITY, Job, RING, Work, device, draft_of};
+use drm_core::{Answer, Core, Event};
+use drm_types::Access;
+use std::alloc::Global;
+use std::test::Fail;
+
+const FILL: Job = Job(
+    0,
+    1,
+    &[(0, Access::Write)],
+    &[],
+    &[Work::Fill(0, 0, 4, 0x05)],
+);
+
+/// What the core answers, where the event names what its device has.
+fn answer_to(alloc: Global, core: &mut Core, event: Event) -> Option<Answer> {
+    if !event.names_exist(core.spec()) {
+        return None;
+    }
+    Some(core.apply(alloc, event))
+}
+
+/// Whether the core arms the job as its first.
+fn is_armed(alloc: Global, core: &mut Core) -> bool {
+    let Ok(draft) = draft_of(alloc, FILL) else {
+        return false;
+    };
+    matches!(
+        answer_to(alloc, core, Event::Submit { draft }),
+        Some(Answer::Armed { fence: 0 })
+    )
+}
+
+#[test]
+fn events_name_what_the_device_has(rt: HostRuntime) -> Result<(), Fail> {
+    let alloc = rt.alloc();
+    let spec = device(alloc, &[&[0; 4]], &[RING], &[ENTITY], 8)?;
+    let Ok(mut core) = Core::build(alloc, spec) else {
+        panic!(rt; "not built");
+    };
+    assert!(rt; is_armed(alloc, &mut core));
+    assert!(rt; answer_to(alloc, &mut core, Event::Pick { ring: 1, now: 0 }).is_none());
+    assert!(rt; answer_to(alloc, &mut core, Event::Status { fence: 0 }).is_some());
+    Ok(())
+}
