@@ -11,6 +11,7 @@ import platform
 import re
 import shutil
 import subprocess
+import tarfile
 import time
 
 from place import HERE
@@ -158,9 +159,12 @@ class Machine:
         if free < ROOM:
             raise Stop(f"{self.folder} has {free >> 20} MB free, and {ROOM >> 20} are wanted")
         say(f"unpacking {self.tarball}, half a minute")
-        words = [f"--exclude={it}" for it in ("*.rst", "*.yaml", "*.svg", "*.dts*", "*/tools/testing/*", "*/tools/perf/*")]
-        words += ["--exclude=*/samples/*.[ch]", *(f"--exclude=*/arch/{it}/*.[chS]" for it in ARCHITECTURES)]
-        words += [f"--exclude=linux-source-*/{it}/*.[ch]" for it in UNBUILT]
+        with tarfile.open(self.tarball) as it:
+            top = it.next().name.split("/")[0]
+        words = [f"--exclude={it}" for it in ("*.rst", "*.yaml", "*.svg", "*.dts*")]
+        words += [f"--exclude={top}/{it}" for it in ("tools/testing/*", "tools/perf/*", "samples/*.[ch]")]
+        words += [f"--exclude={top}/arch/{it}/*.[chS]" for it in ARCHITECTURES]
+        words += [f"--exclude={top}/{it}/*.[ch]" for it in UNBUILT]
         room = f"{self.folder}/unpacked"
         shutil.rmtree(room, ignore_errors=True)
         os.makedirs(room)
