@@ -242,38 +242,42 @@ class Waiting(Contended):
 
 class Everything(Maker):
     """All commands on devices on which all of them collide: the rules of the kernel are met here. In each sixth script
-    many entities crowd on all buffers, so that the lists of their reservations have to grow."""
+    entities crowd on a few buffers, each of which is read behind each submission: so lists of reservations grow."""
 
     weights = {
         "submit": 20, "begin": 3, "try": 6, "done": 0.2, "drop": 5, "end": 2, "plan": 3, "arm": 3, "pick": 20, "step": 22,
-        "finish": 14, "timeout": 7, "cancel": 0.5, "reap": 2, "read": 5, "fence": 3, "dump": 1,
+        "finish": 14, "timeout": 7, "cancel": 0.6, "reap": 2, "read": 5, "fence": 3, "dump": 1,
     }  # fmt: skip
-    crowded = {"submit": 15, "pick": 14, "finish": 9, "begin": 3, "try": 2, "read": 12, "drop": 13, "end": 1}
+    crowded = {"submit": 40, "pick": 20, "finish": 12, "fence": 1}
     contexts, longest = 2, 200
     meets_rules = True
 
     def __init__(self, chance):
         super().__init__(chance)
-        self.entities, self.rings = chance.randint(1, 8), chance.choice((1, 1, 2, 2, 3))
+        self.entities, self.rings, self.next = chance.randint(1, 8), chance.choice((1, 1, 2, 2, 3)), []
         self.is_crowded = chance.random() < 0.17
         if self.is_crowded:
-            self.entities, self.sizes, self.contexts, self.rings = chance.randint(5, 6), [1] * 3, 1, 4
+            self.entities, self.sizes, self.rings, self.next = chance.randint(5, 7), [1] * 4, 3, ["begin 0"]
             self.names, self.chances = zip(*self.crowded.items())
 
     def header(self):
         for line in super().header():
             if line.startswith("ring") and self.is_crowded:
                 line = f"ring {UNLIMITED} 10 0"
-            yield f"jobs {self.random.randint(8, 70)}" if line.startswith("jobs") else line
+            yield f"jobs {self.random.randint(30, 90)}" if line.startswith("jobs") else line
 
     def packet(self, declared):
         return f"stall:{self.random.randint(0, 3)}" if self.random.random() < 0.12 else super().packet(declared)
 
     def job(self):
         if self.is_crowded:
-            declared = [f"{self.random.choice('rrwwww')}{it}" for it in range(len(self.sizes))]
-            return " ".join([str(self.random.randrange(self.entities)), "1", *declared])
+            buffer = self.random.randrange(len(self.sizes))
+            self.next = [f"{it} 0 {buffer}" for it in ("try", "read", "drop")]
+            return f"{self.random.randrange(self.entities)} 1 {self.random.choice('rrrwwh')}{buffer}"
         return super().job()
+
+    def command(self):
+        return self.next.pop(0) if self.next else super().command()
 
 
 PROFILES = {
