@@ -90,10 +90,10 @@ def read_output(out):
 
 def why_nothing(log):
     """A boot that answers nothing at all: one sentence."""
-    last = " ".join(log.strip().splitlines()[-3:])[-400:]
+    last = " ".join(" ".join(log.strip().splitlines()[-3:]).split())[-400:]
     if re.search(r"setarch:.*(personality|permitted)", log):
         return f"setarch -R may not turn off random addresses here, which User Mode Linux wants: {last}"
-    if "ptrace" in log:
+    if re.search(r"check_ptrace :|ptrace: ", log):
         return f"this process may not use ptrace, which User Mode Linux wants: {last}"
     return f"the kernel answers nothing: {last}"
 

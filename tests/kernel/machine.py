@@ -54,6 +54,8 @@ def want_packages(tarball):
         if subprocess.run(words, input=b"#include <gelf.h>\n", capture_output=True, check=False).returncode:
             missing.add("libelf-dev")
     if not os.path.exists(tarball):
+        if tarball != TARBALL:
+            raise Stop(f"there is no file {tarball}")
         missing.add(PACKAGE)
     if missing:
         raise Stop(f"packages are missing: apt-get install -y --no-install-recommends {' '.join(sorted(missing))}")
