@@ -36,11 +36,9 @@ def model_of(text):
 class Case:
     """A script with the answers of the proved program, of the reference without a rule, and of it with the rules."""
 
-    def __init__(self, name, text, options=(), is_debug=False):
+    def __init__(self, name, text, options=()):
         self.name, self.text, self.model = name, text, model_of(text)
         self.rules, self.kind = waiting.RULES_OF_WAITS if "wait" in options else reference.RULES_OF_ALL
-        if is_debug:
-            self.rules += (reference.DEBUG_ROOM,)
         self.none = reference.replay(text) if self.model is not None else None
         self.all = reference.replay(text, self.rules, self.kind) if self.model is not None else None
 
@@ -52,11 +50,11 @@ class Case:
 
 def make_case(it):
     """A random script of a profile, with its answers, and the rules that it needs where the profile meets them."""
-    profile, seed, is_debug = it
+    profile, seed = it
     maker = profiles.PROFILES[profile]
-    case = Case(f"{profile}-{seed}", profiles.make(profile, seed), maker.options, is_debug)
-    case.wanted = case.all if maker.meets_rules or is_debug else case.model
-    return case, case.needed() if maker.meets_rules and not is_debug else []
+    case = Case(f"{profile}-{seed}", profiles.make(profile, seed), maker.options)
+    case.wanted = case.all if maker.meets_rules else case.model
+    return case, case.needed() if maker.meets_rules else []
 
 
 def journal_of(text, answers, told):

@@ -107,17 +107,17 @@ def call(words, log, **how):
 class Machine:
     """The folder of one version of the source."""
 
-    def __init__(self, tarball, is_debug):
-        self.tarball, self.is_debug = tarball, is_debug
+    def __init__(self, tarball):
+        self.tarball = tarball
         self.version = version_of(tarball)
         self.folder = os.path.join(cache_folder(), self.version)
         self.source, self.kept = f"{self.folder}/source", f"{self.folder}/kept"
-        self.objects = f"{self.folder}/objects{'-debug' if is_debug else ''}"
+        self.objects = f"{self.folder}/objects"
         self.log = f"{self.folder}/log"
 
     def sum_of(self, fault):
         """The sum of all that the kernel is built of beside the source."""
-        parts = [self.version, str(self.is_debug), *(read(f"{HERE}/twin/{it}") for it in twin_files())]
+        parts = [self.version, *(read(f"{HERE}/twin/{it}") for it in twin_files())]
         parts += [repr((it.file, it.old, it.new)) for it in fault.edits] if fault else []
         whole = hashlib.sha256()
         for it in parts:
@@ -187,15 +187,15 @@ class Machine:
 
     def configure(self):
         """Makes the configuration anew, where it is of other files: a change of it compiles everything again."""
-        files = [f"{HERE}/twin/twin.config", *([f"{HERE}/twin/debug.config"] if self.is_debug else [])]
-        wanted = b"".join(map(read, files)) + read(f"{HERE}/twin/Kconfig")
+        config = f"{HERE}/twin/twin.config"
+        wanted = read(config) + read(f"{HERE}/twin/Kconfig")
         mark = f"{self.objects}/configured"
         if os.path.exists(mark) and read(mark) == wanted:
             return
         os.makedirs(self.objects, exist_ok=True)
         call([*self.make(), "tinyconfig"], self.log)
         merge = f"{self.source}/scripts/kconfig/merge_config.sh"
-        call([merge, "-m", "-O", self.objects, f"{self.objects}/.config", *files], self.log)
+        call([merge, "-m", "-O", self.objects, f"{self.objects}/.config", config], self.log)
         call([*self.make(), "olddefconfig"], self.log)
         if b"CONFIG_DRMSIM_TWIN=y" not in read(f"{self.objects}/.config"):
             raise Stop(f"the twin can't be configured into this kernel: see CONFIG_DRM in {self.objects}/.config")

@@ -19,7 +19,6 @@ RULES = {
     "compact": "a reservation's list that has to grow drops what has ended (dma_resv_reserve_fences)",
     "kill_at_once": "the queued jobs of a stopped entity end by themselves (drm_sched_entity_kill)",
 }
-DEBUG_ROOM = "debug_room"  # a kernel with DEBUG_MUTEXES takes a list's spare room away at each unlock
 QUEUED, SCHEDULED, ENDED = range(3)
 GOOD, SKIPPED, STOPPED = 1, -125, -3
 PRIORITIES = ("kernel", "high", "normal", "low")
@@ -85,7 +84,7 @@ class Device:
     """A device, whose commands are its methods named `do_`; each returns its answer."""
 
     def __init__(self, rules):
-        for rule in (*RULES, DEBUG_ROOM):
+        for rule in RULES:
             setattr(self, rule, rule in rules)
         self.memory, self.reservations, self.rings, self.entities = [], [], [], []
         self.most_jobs, self.jobs, self.contexts, self.tickets = 0, [], {}, 0
@@ -189,15 +188,7 @@ class Device:
         if fault:
             return fault
         self.plan_job(job)
-        answer = self.arm_job(job)
-        for _, buffer in job.declared:
-            self.unlock(self.reservations[buffer])
-        return answer
-
-    def unlock(self, reservation):
-        reservation.holder = None
-        if self.debug_room:
-            reservation.room = len(reservation.entries)
+        return self.arm_job(job)
 
     # rings
 
@@ -389,8 +380,7 @@ class Device:
         if buffer not in own.held:
             return f"refused 52 {buffer}"
         own.held.remove(buffer)
-        own.plan = None
-        self.unlock(self.reservations[buffer])
+        own.plan = self.reservations[buffer].holder = None
         return "ok"
 
     def do_end(self, context):
