@@ -55,12 +55,12 @@ def boot(vmlinux, scripts, options):
         with open(f"{room}/in", "w", encoding="ascii") as it:
             for name, text in scripts:
                 it.write(f"@ {name}\n{text}")
-        words = ["setarch", "-R", vmlinux, MEMORY, "con=none", "con0=fd:0,fd:2", f"twin_in={room}/in", f"twin_out={room}/out"]
+        words = ["setarch", "-R", vmlinux, MEMORY, "con=none", "con0=fd:0,fd:2"]
+        words += [f"twin_in={room}/in", f"twin_out={room}/out", *(f"twin_{it}" for it in options)]
         with open(f"{room}/log", "wb") as log:
             process = subprocess.Popen(
-                [*words, *(f"twin_{it}" for it in options)],
-                stdin=subprocess.DEVNULL, stdout=log, stderr=log, start_new_session=True, cwd=room,
-            )  # fmt: skip
+                words, stdin=subprocess.DEVNULL, stdout=log, stderr=log, start_new_session=True, cwd=room
+            )
             is_hung = wait_for(process, f"{room}/out")
         out = ""
         if os.path.exists(f"{room}/out"):

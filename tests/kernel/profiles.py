@@ -77,10 +77,11 @@ class Maker(random_script.Maker):
     def job(self):
         """A job that waits for one of the last jobs, mostly, where it names one."""
         count, chance = len(self.device.jobs), self.random
-        return " ".join(
-            f"a{chance.randrange(max(0, count - 6), count)}" if it[0] == "a" and ":" not in it and count and chance.random() < 0.9
-            else it for it in super().job().split(" ")
-        )  # fmt: skip
+        words = super().job().split(" ")
+        for at, it in enumerate(words):
+            if it[0] == "a" and ":" not in it and count and chance.random() < 0.9:
+                words[at] = f"a{chance.randrange(max(0, count - 6), count)}"
+        return " ".join(words)
 
     def draw(self):
         name = self.random.choices(self.names, self.chances)[0]
@@ -197,11 +198,11 @@ class Rings(Maker):
 
 
 class Locks(Rings):
-    """Contexts that lock, plan, arm and read beside submissions and rings. No buffer ever has more than five entries."""
+    """Contexts that lock, plan, arm and read beside submissions and rings. No buffer has more than five entries."""
 
     weights = {
-        "submit": 8, "begin": 8, "try": 16, "done": 0.5, "drop": 8, "end": 4, "plan": 10, "arm": 10, "pick": 14, "step": 20,
-        "finish": 12, "read": 10, "fence": 2, "dump": 1,
+        "submit": 8, "begin": 8, "try": 16, "done": 0.5, "drop": 8, "end": 4, "plan": 10, "arm": 10, "pick": 14,
+        "step": 20, "finish": 12, "read": 10, "fence": 2, "dump": 1,
     }  # fmt: skip
     contexts = 3
 
@@ -245,8 +246,8 @@ class Everything(Maker):
     entities crowd on a few buffers, each of which is read behind each submission: so lists of reservations grow."""
 
     weights = {
-        "submit": 20, "begin": 3, "try": 6, "done": 0.2, "drop": 5, "end": 2, "plan": 3, "arm": 3, "pick": 20, "step": 22,
-        "finish": 14, "timeout": 7, "cancel": 0.6, "reap": 2, "read": 5, "fence": 3, "dump": 1,
+        "submit": 20, "begin": 3, "try": 6, "done": 0.2, "drop": 5, "end": 2, "plan": 3, "arm": 3, "pick": 20,
+        "step": 22, "finish": 14, "timeout": 7, "cancel": 0.6, "reap": 2, "read": 5, "fence": 3, "dump": 1,
     }  # fmt: skip
     crowded = {"submit": 40, "pick": 20, "finish": 12, "fence": 1}
     contexts, longest = 2, 200
