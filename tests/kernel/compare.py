@@ -1,4 +1,5 @@
 """Scripts through the proved program, the reference and the kernel, and what differs."""
+import functools
 import itertools
 import os
 import sys
@@ -40,7 +41,10 @@ class Case:
         self.name, self.text, self.model = name, text, model_of(text)
         self.rules, self.kind = waiting.RULES_OF_WAITS if "wait" in options else reference.RULES_OF_ALL
         self.none = reference.replay(text) if self.model is not None else None
-        self.all = reference.replay(text, self.rules, self.kind) if self.model is not None else None
+
+    @functools.cached_property
+    def all(self):
+        return reference.replay(self.text, self.rules, self.kind)
 
     def needed(self):
         """The rules without which the reference answers this script in another way than with all."""

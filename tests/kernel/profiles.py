@@ -10,6 +10,7 @@ import random_script  # noqa: E402
 import reference  # noqa: E402
 
 KINDS = {name: kinds for _, name, kinds in random_script.COMMANDS}
+LAST = ("moment", "job")
 UNLIMITED = 65535
 
 
@@ -83,21 +84,16 @@ class Maker(random_script.Maker):
                 words[at] = f"a{chance.randrange(max(0, count - 6), count)}"
         return " ".join(words)
 
-    def draw(self):
-        name = self.random.choices(self.names, self.chances)[0]
-        return [name, *map(self.word, KINDS[name])]
-
-    def is_sensible(self, words):
-        if words[0] not in SENSIBLE:
-            return True
-        numbers = [int(it) for it, kind in zip(words[1:], KINDS[words[0]]) if kind not in ("moment", "job")]
-        return SENSIBLE[words[0]](self.device, *numbers)
+    def is_sensible(self, name, words):
+        return name not in SENSIBLE or SENSIBLE[name](self.device, *map(int, words))
 
     def command(self):
-        words = self.draw()
-        while not self.is_sensible(words) and self.random.random() < 0.93:
-            words = self.draw()
-        return " ".join(words)
+        """A command and what it speaks of, drawn until that makes sense, mostly; then its moment, or its job."""
+        while True:
+            name = self.random.choices(self.names, self.chances)[0]
+            words = [self.word(it) for it in KINDS[name] if it not in LAST]
+            if self.is_sensible(name, words) or self.random.random() > 0.93:
+                return " ".join([name, *words, *(self.word(it) for it in KINDS[name] if it in LAST)])
 
     def lines(self):
         """The header, and then commands, each drawn by what the ones before it have left."""
