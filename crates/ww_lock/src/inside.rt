@@ -203,7 +203,8 @@ impl<W: Ward> Board<W> {
     }
 
     /// Brings the pivot home. `change` says whether a task begins or ends with this call, and `is_call` whether the
-    /// caller's calls gain one: a call that only waits, or that was posted already, adds none.
+    /// caller's calls gain one: a call that only waits, or that was posted already, adds none. Where no call is noted, the
+    /// pivot brought home and the one found grow to one another.
     pub fn leave(
         &self,
         seat: &mut Seat<W::Pivot, W::Value, W::Task>,
@@ -214,6 +215,7 @@ impl<W: Ward> Board<W> {
         requires seat { IsInside (table_of self.now) seat.old }
         requires facts { MayLeave W.good W.fits W.grows W.posted W.busy (sees seat.old) pivot change.now }
         requires posted { (sees seat.old).pivot.posted ≡ true → (sees seat.old).pivot.seen ≡ pivot ∷ [] }
+        requires quiet { is_call ≡ false → (p : W.Pivot) → (sees seat.old).pivot.seen ≡ p ∷ [] → W.grows pivot p }
         ensures seat { IsOutside (table_of self.now) seat.new }
         ensures view { (p : W.Pivot) × ((sees seat.old).pivot.seen ≡ p ∷ []) × (sees seat.new ≡ with_exit is_call change.now p pivot [] (sees seat.old)) }
     {
@@ -240,6 +242,7 @@ impl<W: Ward> Board<W> {
         requires holds { HoldsInside (table_of self.now) acquire.old }
         requires facts { MayLeaveWith W.good W.fits W.grows W.posted W.busy (view acquire.old) acquire.old.held.items pivot change.now }
         requires posted { (view acquire.old).pivot.posted ≡ true → (view acquire.old).pivot.seen ≡ pivot ∷ [] }
+        requires quiet { is_call ≡ false → (p : W.Pivot) → (view acquire.old).pivot.seen ≡ p ∷ [] → W.grows pivot p }
         ensures holds { HoldsOutside (table_of self.now) acquire.new }
         ensures same { IsSameAcquire acquire.old acquire.new × (acquire.new.held ≡ acquire.old.held) }
         ensures view { (p : W.Pivot) × ((view acquire.old).pivot.seen ≡ p ∷ []) × (view acquire.new ≡ with_exit is_call change.now p pivot acquire.old.held.items (view acquire.old)) }

@@ -1,3 +1,4 @@
+use Rattle.drm_gpu.specs.Passes.{first_or, blank}
 use Rattle.std.proofs.Common.{◌≡◌, ◌∙◌, [], true, false, refl, ap, sym, subst}
 use Rattle.ww_lock.specs.declared.board.TaskChange.TheVariants.{Same}
 use Rattle.ww_lock.specs.Begun.{IsOutside, IsInside, sees}
@@ -39,3 +40,8 @@ returns-clause-same c =
     let x = c.leave.ensures.view in
     (left_quietly c.args.self.now.spec c.args.found.now.value c.args.device x.0 [] (sees c.args.seat.now) (sees c.leave.new.seat) Same c.requires.entered.knows
     (subst (λ d. GrowsTo d c.args.device) c.requires.same (grows_itself c.args.device)) refl x.2).1
+
+pub leave-requires-clause-quiet : goal.leave-requires-clause-quiet
+leave-requires-clause-quiet c q p e =
+    let is : c.args.found.now.value ≡ p = ap (first_or blank) (sym c.requires.entered.knows.seen ∙ e) in
+    subst (GrowsTo c.args.device) (c.requires.same ∙ is) (grows_itself c.args.device)

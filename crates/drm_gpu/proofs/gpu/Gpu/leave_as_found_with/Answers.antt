@@ -1,3 +1,5 @@
+use Rattle.std.proofs.Common.{◌≡◌}
+use Rattle.drm_gpu.specs.Passes.{first_or, blank}
 use Rattle.std.proofs.Common.{◌∙◌, refl, ap, sym, subst}
 use Rattle.ww_lock.specs.declared.board.TaskChange.TheVariants.{Same}
 use Rattle.ww_lock.specs.Acquiring.{HoldsOutside, view}
@@ -36,3 +38,8 @@ returns-clause-holding c =
       },
       l.0.1,
     )
+
+pub leave_with-requires-clause-quiet : goal.leave_with-requires-clause-quiet
+leave_with-requires-clause-quiet c q p e =
+    let is : c.args.found.now.value ≡ p = ap (first_or blank) (sym c.requires.entered.knows.seen ∙ e) in
+    subst (GrowsTo c.args.device) (c.requires.same ∙ is) (grows_itself c.args.device)

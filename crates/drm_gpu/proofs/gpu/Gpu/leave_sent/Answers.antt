@@ -1,3 +1,5 @@
+use Rattle.drm_sched.specs.Marks.{MarkedDevice}
+use Rattle.drm_gpu.specs.Passes.{first_or, blank}
 use Rattle.std.proofs.Common.{◌≡◌, ◌∙◌, [], true, false, refl, ap, sym, subst}
 use Rattle.std.specs.Prelude.{Option}
 use Rattle.ww_lock.specs.Begun.{IsOutside, IsInside, sees}
@@ -47,3 +49,8 @@ returns-clause-same c =
     let x = c.leave.ensures.view in
     (left_quietly c.args.self.now.spec c.args.found.now.value c.args.device x.0 [] (sees c.args.seat.now) (sees c.leave.new.seat) (Begins c.args.task) c.requires.entered.knows
     (subst (λ (d : DeviceState). Grows d c.args.device.state) c.requires.state (grows_itself c.args.device)) refl x.2).1
+
+pub leave-requires-clause-quiet : goal.leave-requires-clause-quiet
+leave-requires-clause-quiet c q p e =
+    let is : c.args.found.now.value ≡ p = ap (first_or blank) (sym c.requires.entered.knows.seen ∙ e) in
+    subst (λ (d : DeviceState). Grows c.args.device.state d) (c.requires.state ∙ ap (λ (m : MarkedDevice). m.state) is) (grows_itself c.args.device)
