@@ -6,16 +6,15 @@ use Rattle.ww_lock.specs.declared.locks.TryLockError.{TryLockError}
 use Rattle.ww_lock.specs.declared.locks.TryLockError.TheVariants.{Sealed, Already, Older, Younger}
 use Rattle.ww_lock.specs.declared.locks.LockError.{LockError}
 use Rattle.ww_lock.specs.declared.locks.LockError.TheVariants as lock
-use Rattle.ww_lock.specs.Acquiring.{HoldsOutside, IsAsOwed, AnswersTry, AnswersLock, Claimed, view}
+use Rattle.ww_lock.specs.Acquiring.{HoldsOutside, AnswersTry, AnswersLock, Claimed, view}
 use Rattle.ww_lock.specs.Acquiring.{MayWait as lock_may_wait}
 use Rattle.ww_lock.specs.Held.{HasAt, Lacks}
 use Rattle.ww_lock.specs.Rule.{In}
 use Rattle.drm_job.specs.declared.Draft.{Draft}
 use Rattle.drm_resv.specs.Reservation.{Reservation, WithRoom}
 use Rattle.drm_state.specs.Held.{kept_of}
-use Rattle.drm_sched.specs.Marks.{MarkedDevice}
 use Rattle.drm_state.specs.Reservation.{Fits}
-use Rattle.drm_gpu.specs.Passes.{Seeing, GpuState, PassState, Knows, last_of, pass_of}
+use Rattle.drm_gpu.specs.Passes.{Seeing, GpuState, PassState, FitsDevice, Knows, Seated, last_of, pass_of}
 use Rattle.drm_gpu.specs.Submissions.{Submission, Declares, DeviceAcquire, Holding, HoldsNoMore, TriesLock, MayWait, Claims, ClaimsMore, Locks, WentOn, submission_of}
 use Rattle.drm_gpu.proofs.Chains.{knows_same}
 use Rattle.drm_gpu.proofs.Holders.{in_kept, in_kept_of, still_holds}
@@ -24,17 +23,21 @@ use Rattle.drm_gpu.proofs.Lists.{at_in, in_both, in_last, in_left, lacks_same}
 -- ---- the caller goes on to hold
 
 -- it has claimed one more
-claimed_one : (gpu : GpuState) (b : ℕ) (x : WithRoom) (a a' : DeviceAcquire) → Holding gpu a → HoldsOutside gpu.home a' → Lacks b a.held.items → (view a').pivot ≡ (view a).pivot → (view a').task ≡ (view a).task
-    → (view a').lock.owes ≡ (view a).lock.owes ++ (b, x) ∷ [] → a'.held.items ≡ a.held.items ++ (b, x) ∷ [] → Holding gpu a'
+claimed_one : (gpu : GpuState) (b : ℕ) (x : WithRoom) (a a' : DeviceAcquire) → Holding gpu a → HoldsOutside gpu.home a' → Lacks b a.seat.held.items → (view a').pivot ≡ (view a).pivot → (view a').task ≡ (view a).task
+    → (view a').lock.owes ≡ (view a).lock.owes ++ (b, x) ∷ [] → a'.seat.held.items ≡ a.seat.held.items ++ (b, x) ∷ [] → Holding gpu a'
 claimed_one gpu b x a a' k h lacks pivot task owes held = record {
-  holds = h;
-  knows = knows_same gpu.spec (last_of (view a)) (view a) (view a') k.knows pivot task;
-  owed = λ d y w i j p f.
-      ⊎_elim (λ old. ⊎_elim (λ kept. k.owed d y w old kept p f) (λ new. absurd (lacks_same b (view a).lock.owes a.held.items k.holds.keys lacks y (subst (λ n. In (n, y) (view a).lock.owes) (ap (λ q. q.0) new) old)))
-      (in_last (d, w) (b, x) a.held.items (subst (In (d, w)) held j)))
-      (λ new. ⊎_elim (λ kept. absurd (lacks w (subst (λ n. In (n, w) a.held.items) (ap (λ q. q.0) new) kept))) (λ also. subst (λ (r : WithRoom). Fits d p.state.journal r.kept) (ap (λ q. q.1) new ∙ sym (ap (λ q. q.1) also)) f)
-      (in_last (d, w) (b, x) a.held.items (subst (In (d, w)) held j)))
-      (in_last (d, y) (b, x) (view a).lock.owes (subst (In (d, y)) owes i));
+  seat = record {
+    sits = h.sits;
+    knows = knows_same gpu.spec (view a) (view a') k.seat.knows pivot;
+    owed = λ d y w i j p f.
+        ⊎_elim (λ old. ⊎_elim (λ kept. k.seat.owed d y w old kept p f) (λ new. absurd (lacks_same b (view a).lock.owes a.seat.held.items k.seat.sits.keys lacks y (subst (λ n. In (n, y) (view a).lock.owes) (ap (λ q. q.0) new) old)))
+        (in_last (d, w) (b, x) a.seat.held.items (subst (In (d, w)) held j)))
+        (λ new. ⊎_elim (λ kept. absurd (lacks w (subst (λ n. In (n, w) a.seat.held.items) (ap (λ q. q.0) new) kept))) (λ also. subst (λ (r : WithRoom). FitsDevice d p r) (ap (λ q. q.1) new ∙ sym (ap (λ q. q.1) also)) f)
+        (in_last (d, w) (b, x) a.seat.held.items (subst (In (d, w)) held j)))
+        (in_last (d, y) (b, x) (view a).lock.owes (subst (In (d, y)) owes i));
+  };
+  own = h.own;
+  idle = task ∙ k.idle;
 }
 
 abbrev IsOn : GpuState → DeviceAcquire → DeviceAcquire → Type 0
@@ -95,8 +98,8 @@ module _ (gpu : GpuState) (job : Draft) (b : ℕ) (a a' : DeviceAcquire) (k : Ho
   not_sealed e = let never : false ≡ true = sym open_is ∙ e in absurd (cc (never))
 
   -- as many are held with their room as without
-  same_count : length (kept_of a.held.items) ≡ length a.held.items
-  same_count = length-map a.held.items (λ (h : ℕ × WithRoom). (h.0, h.1.kept))
+  same_count : length (kept_of a.seat.held.items) ≡ length a.seat.held.items
+  same_count = length-map a.seat.held.items (λ (h : ℕ × WithRoom). (h.0, h.1.kept))
 
   may_wait : (ms : List (ℕ × ℕ)) → lock_may_wait b a ms → MayWait b old ms
   may_wait ms w c h i = ((w c h i).0, λ some. (w c h i).1 (subst (λ n. 0 < n) same_count some))
@@ -105,57 +108,57 @@ module _ (gpu : GpuState) (job : Draft) (b : ℕ) (a a' : DeviceAcquire) (k : Ho
   shows_claimed t =
       let x = t.3.0 in
       let ms = t.3.1 in (
-        lacks_kept b a.held.items t.1,
+        lacks_kept b a.seat.held.items t.1,
         (
           x.kept,
           ms,
           may_wait ms t.3.2,
-          parts job (pass_of gpu.home (view a')) (record old.pass { had = old.pass.had ++ (b, old.ticket) ∷ []; met = old.pass.met ++ ms }) a'.ticket a.ticket (kept_of a'.held.items) (old.held ++ (b, x.kept) ∷ [])
-              (ap (λ (z : Seeing). pass_of gpu.home z) t.3.3 ∙ ap (λ n. record old.pass { had = old.pass.had ++ (b, n) ∷ []; met = old.pass.met ++ ms }) k.holds.ticket.0)
-              t.2.0 (ap (λ hs. kept_of hs) t.3.4 ∙ kept_append a.held.items ((b, x) ∷ [])),
+          parts job (pass_of gpu.home (view a')) (record old.pass { had = old.pass.had ++ (b, old.ticket) ∷ []; met = old.pass.met ++ ms }) a'.ticket a.ticket (kept_of a'.seat.held.items) (old.held ++ (b, x.kept) ∷ [])
+              (ap (λ (z : Seeing). pass_of gpu.home z) t.3.3 ∙ ap (λ n. record old.pass { had = old.pass.had ++ (b, n) ∷ []; met = old.pass.met ++ ms }) k.own.drawn)
+              t.2.0 (ap (λ hs. kept_of hs) t.3.4 ∙ kept_append a.seat.held.items ((b, x) ∷ [])),
         ),
       )
 
   pub shows_tried : (r : Result (Unit {0}) TryLockError) → AnswersTry b a a' r → TriesLock b old new r
   shows_tried (Ok u) t =
       let x = t.3.0 in (
-        lacks_kept b a.held.items t.1,
+        lacks_kept b a.seat.held.items t.1,
         (
           x.kept,
-          parts job (pass_of gpu.home (view a')) (record old.pass { had = old.pass.had ++ (b, old.ticket) ∷ [] }) a'.ticket a.ticket (kept_of a'.held.items) (old.held ++ (b, x.kept) ∷ [])
-              (ap (λ (z : Seeing). pass_of gpu.home z) t.3.1 ∙ ap (λ n. record old.pass { had = old.pass.had ++ (b, n) ∷ [] }) k.holds.ticket.0)
-              t.2.0 (ap (λ hs. kept_of hs) t.3.2 ∙ kept_append a.held.items ((b, x) ∷ [])),
+          parts job (pass_of gpu.home (view a')) (record old.pass { had = old.pass.had ++ (b, old.ticket) ∷ [] }) a'.ticket a.ticket (kept_of a'.seat.held.items) (old.held ++ (b, x.kept) ∷ [])
+              (ap (λ (z : Seeing). pass_of gpu.home z) t.3.1 ∙ ap (λ n. record old.pass { had = old.pass.had ++ (b, n) ∷ [] }) k.own.drawn)
+              t.2.0 (ap (λ hs. kept_of hs) t.3.2 ∙ kept_append a.seat.held.items ((b, x) ∷ [])),
         ),
       )
   shows_tried (Err Sealed) t = not_sealed t.0
-  shows_tried (Err Already) t = (has_kept b t.1.0 a.held.items t.1.1, ap (λ (z : DeviceAcquire). submission_of gpu.home job z) t.2)
+  shows_tried (Err Already) t = (has_kept b t.1.0 a.seat.held.items t.1.1, ap (λ (z : DeviceAcquire). submission_of gpu.home job z) t.2)
   shows_tried (Err (Older h)) t = (
-    lacks_kept b a.held.items t.1,
+    lacks_kept b a.seat.held.items t.1,
     t.3,
-    parts job (pass_of gpu.home (view a')) (record old.pass { met = old.pass.met ++ (b, h) ∷ [] }) a'.ticket a.ticket (kept_of a'.held.items) old.held
+    parts job (pass_of gpu.home (view a')) (record old.pass { met = old.pass.met ++ (b, h) ∷ [] }) a'.ticket a.ticket (kept_of a'.seat.held.items) old.held
         (ap (λ (z : Seeing). pass_of gpu.home z) t.4) t.2.0 (ap (λ l. kept_of l.items) t.5),
   )
   shows_tried (Err (Younger h)) t = (
-    lacks_kept b a.held.items t.1,
+    lacks_kept b a.seat.held.items t.1,
     t.3,
-    parts job (pass_of gpu.home (view a')) (record old.pass { met = old.pass.met ++ (b, h) ∷ [] }) a'.ticket a.ticket (kept_of a'.held.items) old.held
+    parts job (pass_of gpu.home (view a')) (record old.pass { met = old.pass.met ++ (b, h) ∷ [] }) a'.ticket a.ticket (kept_of a'.seat.held.items) old.held
         (ap (λ (z : Seeing). pass_of gpu.home z) t.4) t.2.0 (ap (λ l. kept_of l.items) t.5),
   )
 
   pub shows_locked : (r : Result (Unit {0}) LockError) → AnswersLock b a a' r → Locks b old new r
   shows_locked (Ok u) t = shows_claimed t
   shows_locked (Err lock.Sealed) t = not_sealed t.0
-  shows_locked (Err lock.Already) t = (has_kept b t.1.0 a.held.items t.1.1, ap (λ (z : DeviceAcquire). submission_of gpu.home job z) t.2)
+  shows_locked (Err lock.Already) t = (has_kept b t.1.0 a.seat.held.items t.1.1, ap (λ (z : DeviceAcquire). submission_of gpu.home job z) t.2)
   shows_locked (Err (lock.Backoff h)) t =
       let ms = t.4.0 in
       let w = t.4.2 in (
-        lacks_kept b a.held.items t.1,
+        lacks_kept b a.seat.held.items t.1,
         t.2,
         subst (λ n. 0 < n) (sym same_count) t.3,
         (
           ms,
           may_wait ms t.4.1,
-          parts job (pass_of gpu.home (view a')) (record old.pass { met = old.pass.met ++ (ms ++ (b, h) ∷ []) }) a'.ticket a.ticket (kept_of a'.held.items) old.held
+          parts job (pass_of gpu.home (view a')) (record old.pass { met = old.pass.met ++ (ms ++ (b, h) ∷ []) }) a'.ticket a.ticket (kept_of a'.seat.held.items) old.held
               (ap (λ (z : Seeing). pass_of gpu.home z) w.2) w.0.0 (ap (λ l. kept_of l.items) w.1),
         ),
       )
@@ -219,7 +222,7 @@ went_claimed gpu b a a' k h t = record {
   pass = record {
     more = (b, (view a).lock.ticket) ∷ [];
     others = t.3.1;
-    own = λ d n h. ⊎_elim (λ e. ap (λ q. q.1) e ∙ k.holds.ticket.0) (λ never. absurd never) h;
+    own = λ d n h. ⊎_elim (λ e. ap (λ q. q.1) e ∙ k.own.drawn) (λ never. absurd never) h;
     pass = ap (λ (z : Seeing). pass_of gpu.home z) t.3.3;
   };
 }
@@ -236,17 +239,17 @@ went_locked gpu b a a' (Err (lock.Backoff n)) k h t = record {
 }
 
 -- a lock gives nothing back
-pub keeps_locked : (b : ℕ) (a a' : DeviceAcquire) (r : Result (Unit {0}) LockError) → AnswersLock b a a' r → (d : ℕ) (x : WithRoom) → In (d, x) a.held.items → In (d, x) a'.held.items
-keeps_locked b a a' (Ok u) t d x h = subst (In (d, x)) (sym t.3.4) (in_left (d, x) a.held.items ((b, t.3.0) ∷ []) h)
-keeps_locked b a a' (Err lock.Sealed) t d x h = subst (λ (z : DeviceAcquire). In (d, x) z.held.items) (sym t.1) h
-keeps_locked b a a' (Err lock.Already) t d x h = subst (λ (z : DeviceAcquire). In (d, x) z.held.items) (sym t.2) h
+pub keeps_locked : (b : ℕ) (a a' : DeviceAcquire) (r : Result (Unit {0}) LockError) → AnswersLock b a a' r → (d : ℕ) (x : WithRoom) → In (d, x) a.seat.held.items → In (d, x) a'.seat.held.items
+keeps_locked b a a' (Ok u) t d x h = subst (In (d, x)) (sym t.3.4) (in_left (d, x) a.seat.held.items ((b, t.3.0) ∷ []) h)
+keeps_locked b a a' (Err lock.Sealed) t d x h = subst (λ (z : DeviceAcquire). In (d, x) z.seat.held.items) (sym t.1) h
+keeps_locked b a a' (Err lock.Already) t d x h = subst (λ (z : DeviceAcquire). In (d, x) z.seat.held.items) (sym t.2) h
 keeps_locked b a a' (Err (lock.Backoff n)) t d x h = subst (λ l. In (d, x) l.items) (sym t.4.2.1) h
 
 -- and takes nothing but its buffer
-pub only_locked : (b : ℕ) (a a' : DeviceAcquire) (r : Result (Unit {0}) LockError) → AnswersLock b a a' r → (d : ℕ) (x : WithRoom) → In (d, x) a'.held.items → (d ≡ b) ⊎ In (d, x) a.held.items
-only_locked b a a' (Ok u) t d x h = ⊎_elim (λ old. inr old) (λ new. inl (ap (λ q. q.0) new)) (in_last (d, x) (b, t.3.0) a.held.items (subst (In (d, x)) t.3.4 h))
-only_locked b a a' (Err lock.Sealed) t d x h = inr (subst (λ (z : DeviceAcquire). In (d, x) z.held.items) t.1 h)
-only_locked b a a' (Err lock.Already) t d x h = inr (subst (λ (z : DeviceAcquire). In (d, x) z.held.items) t.2 h)
+pub only_locked : (b : ℕ) (a a' : DeviceAcquire) (r : Result (Unit {0}) LockError) → AnswersLock b a a' r → (d : ℕ) (x : WithRoom) → In (d, x) a'.seat.held.items → (d ≡ b) ⊎ In (d, x) a.seat.held.items
+only_locked b a a' (Ok u) t d x h = ⊎_elim (λ old. inr old) (λ new. inl (ap (λ q. q.0) new)) (in_last (d, x) (b, t.3.0) a.seat.held.items (subst (In (d, x)) t.3.4 h))
+only_locked b a a' (Err lock.Sealed) t d x h = inr (subst (λ (z : DeviceAcquire). In (d, x) z.seat.held.items) t.1 h)
+only_locked b a a' (Err lock.Already) t d x h = inr (subst (λ (z : DeviceAcquire). In (d, x) z.seat.held.items) t.2 h)
 only_locked b a a' (Err (lock.Backoff n)) t d x h = inr (subst (λ l. In (d, x) l.items) t.4.2.1 h)
 
 -- so a caller that locks what its job declares holds no more
@@ -268,24 +271,28 @@ no_more_kept job xs ys p b x h =
     let r = in_kept b x ys h in ⊎_elim (λ declared. inl declared) (λ y. inr (y.0.kept, in_kept_of b y.0 xs y.1)) (p b r.0 r.1)
 
 -- room was taken in what is held
-pub room_taken : (gpu : GpuState) (a a' : DeviceAcquire) → Holding gpu a → HoldsOutside gpu.home a' → view a' ≡ view a → kept_of a'.held.items ≡ kept_of a.held.items → Holding gpu a'
+pub room_taken : (gpu : GpuState) (a a' : DeviceAcquire) → Holding gpu a → HoldsOutside gpu.home a' → view a' ≡ view a → kept_of a'.seat.held.items ≡ kept_of a.seat.held.items → Holding gpu a'
 room_taken gpu a a' k h v e = record {
-  holds = h;
-  knows = subst (λ (z : Seeing). Knows gpu.spec (last_of z) z) (sym v) k.knows;
-  owed = λ d y w i j p f.
-      let r = in_kept d w.kept a.held.items (subst (In (d, w.kept)) e (in_kept_of d w a'.held.items j)) in
-      subst (Fits d p.state.journal) r.2 (k.owed d y r.0 (subst (λ (z : Seeing). In (d, y) z.lock.owes) v i) r.1 p f);
+  seat = record {
+    sits = h.sits;
+    knows = subst (λ (z : Seeing). Knows gpu.spec (last_of z) z) (sym v) k.seat.knows;
+    owed = λ d y w i j p f.
+        let r = in_kept d w.kept a.seat.held.items (subst (In (d, w.kept)) e (in_kept_of d w a'.seat.held.items j)) in
+        subst (Fits d p.state.journal) r.2 (k.seat.owed d y r.0 (subst (λ (z : Seeing). In (d, y) z.lock.owes) v i) r.1 p f);
+  };
+  own = h.own;
+  idle = ap (λ (z : Seeing). z.task) v ∙ k.idle;
 }
 
-pub already_held : (b : ℕ) (a a' : DeviceAcquire) (r : Result (Unit {0}) LockError) → r ≡ Err lock.Already → AnswersLock b a a' r → (x : WithRoom) × In (b, x) a'.held.items
+pub already_held : (b : ℕ) (a a' : DeviceAcquire) (r : Result (Unit {0}) LockError) → r ≡ Err lock.Already → AnswersLock b a a' r → (x : WithRoom) × In (b, x) a'.seat.held.items
 already_held b a a' r is t =
     let u : AnswersLock b a a' (Err lock.Already) = subst (AnswersLock b a a') is t in
-    (u.1.1.0, subst (λ (z : DeviceAcquire). In (b, u.1.1.0) z.held.items) (sym u.2) (at_in a.held.items u.1.0 (b, u.1.1.0) u.1.1.1))
+    (u.1.1.0, subst (λ (z : DeviceAcquire). In (b, u.1.1.0) z.seat.held.items) (sym u.2) (at_in a.seat.held.items u.1.0 (b, u.1.1.0) u.1.1.1))
 
 -- one who locks no more goes on to hold
 pub done_on : (gpu : GpuState) (a b : DeviceAcquire) → Holding gpu a → HoldsOutside gpu.home b → b ≡ record a { sealed = true } → Holding gpu b
 done_on gpu a b k h e = record {
-  holds = h;
-  knows = subst (λ (z : DeviceAcquire). Knows gpu.spec (last_of (view z)) (view z)) (sym e) k.knows;
-  owed = subst (λ (z : DeviceAcquire). IsAsOwed (λ d (p : MarkedDevice) (r : WithRoom). Fits d p.state.journal r.kept) z) (sym e) k.owed;
+  seat = subst (λ (z : DeviceAcquire). Seated gpu z.seat) (sym e) k.seat;
+  own = h.own;
+  idle = ap (λ (z : DeviceAcquire). (view z).task) e ∙ k.idle;
 }

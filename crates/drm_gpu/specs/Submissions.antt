@@ -1,5 +1,5 @@
 -- The states of a submission.
-use Rattle.std.specs.Prelude.{◌≡◌, ◌≢◌, ◌<◌, ◌⊎◌, ℕ, false, List, [], ◌∷◌, ◌++◌, Some, None, Result, Ok, Err, length, slice_get}
+use Rattle.std.specs.Prelude.{◌≡◌, ◌≢◌, ◌<◌, ◌⊎◌, ℕ, List, [], ◌∷◌, ◌++◌, Some, None, Result, Ok, Err, length, slice_get}
 use Rattle.atomic_table.specs.Seated.{TableId}
 use Rattle.ww_lock.specs.declared.acquire.Acquire.{Acquire}
 use Rattle.ww_lock.specs.declared.locks.TryLockError.{TryLockError}
@@ -7,7 +7,7 @@ use Rattle.ww_lock.specs.declared.locks.TryLockError.TheVariants.{Sealed, Alread
 use Rattle.ww_lock.specs.declared.locks.LockError.{LockError}
 use Rattle.ww_lock.specs.declared.locks.LockError.TheVariants.{Backoff}
 use Rattle.ww_lock.specs.declared.locks.LockError.TheVariants as lock
-use Rattle.ww_lock.specs.Acquiring.{HoldsOutside, HoldsInside, IsAsOwed, view}
+use Rattle.ww_lock.specs.Acquiring.{HasTicket, view}
 use Rattle.ww_lock.specs.Held.{Lacks}
 use Rattle.ww_lock.specs.Rule.{In}
 use Rattle.drm_types.specs.declared.access.Access.{Access}
@@ -21,7 +21,7 @@ use Rattle.drm_state.specs.Errors.{refusal_of_arm}
 use Rattle.drm_state.specs.Refusals.{arm_refusal}
 use Rattle.drm_state.specs.Reservation.{Fits}
 use Rattle.drm_sched.specs.Marks.{MarkedDevice, Task}
-use Rattle.drm_gpu.specs.Passes.{GpuState, PassState, Knows, last_of, pass_of, word_shown}
+use Rattle.drm_gpu.specs.Passes.{GpuState, PassState, Seated, pass_of, word_shown}
 
 -- a submission: its pass, its ticket, its job, and what it holds
 pub record Submission : Type 0 where
@@ -34,7 +34,7 @@ abbrev pub DeviceAcquire : Type 0
 DeviceAcquire = Acquire MarkedDevice WithRoom Task
 
 abbrev pub submission_of : TableId → Draft → DeviceAcquire → Submission
-submission_of home job a = record { pass = pass_of home (view a); ticket = a.ticket; job = job; held = kept_of a.held.items }
+submission_of home job a = record { pass = pass_of home (view a); ticket = a.ticket; job = job; held = kept_of a.seat.held.items }
 
 -- a ticket above each that the pass knows of
 abbrev pub IsNewTicket : PassState → ℕ → Type 0
@@ -47,10 +47,6 @@ pub record ClaimsMore (ticket : ℕ) (old new : PassState) : Type 0 where
   pub own : (b t : ℕ) → In (b, t) more → t ≡ ticket
   pub pass : new ≡ record old { had = old.had ++ more; met = old.met ++ others }
 
--- each of these fits the device
-abbrev pub Fitting : MarkedDevice → List (ℕ × Reservation) → Type 0
-Fitting d held = (b : ℕ) (x : Reservation) → In (b, x) held → Fits b d.state.journal x
-
 -- the job declares the buffer
 abbrev pub Declares : Draft → ℕ → Type 0
 Declares job b = (k : ℕ) × (d : ℕ × Access) × (slice_get job.declared k ≡ Some d) × (d.0 ≡ b)
@@ -59,21 +55,11 @@ Declares job b = (k : ℕ) × (d : ℕ × Access) × (slice_get job.declared k �
 abbrev pub HoldsNoMore : {A : Type 0} → Draft → List (ℕ × A) → List (ℕ × A) → Type 0
 HoldsNoMore {A} job old new = (b : ℕ) (x : A) → In (b, x) new → Declares job b ⊎ ((y : A) × In (b, y) old)
 
--- a caller that holds values of the device, and owes them as they are but for their room
+-- a caller that holds values of the device by its ticket, and waits for no packet
 pub record Holding (gpu : GpuState) (a : DeviceAcquire) : Type 0 where
-  pub holds : HoldsOutside gpu.home a
-  pub knows : Knows gpu.spec (last_of (view a)) (view a)
-  pub owed : IsAsOwed (λ b (d : MarkedDevice) (r : WithRoom). Fits b d.state.journal r.kept) a
-
--- one that has entered and found this device
-pub record EnteredWith (gpu : GpuState) (found : MarkedDevice) (a : DeviceAcquire) : Type 0 where
-  pub holds : HoldsInside gpu.home a
-  pub knows : Knows gpu.spec found (view a)
-  pub fresh : (view a).pivot.posted ≡ false
-
--- what is held is the same, under the same ticket
-abbrev pub IsSameHolder : DeviceAcquire → DeviceAcquire → Type 0
-IsSameHolder a a' = (a'.ticket ≡ a.ticket) × (a'.sealed ≡ a.sealed) × (a'.held ≡ a.held)
+  pub seat : Seated gpu a.seat
+  pub own : HasTicket gpu.home a
+  pub idle : (view a).task ≡ None
 
 -- a caller that took locks and gave some back: it goes on to hold, and its pass has claimed more under its ticket
 pub record WentOn (gpu : GpuState) (a a' : DeviceAcquire) : Type 0 where

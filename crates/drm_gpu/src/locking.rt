@@ -83,13 +83,13 @@ impl<'g> Model for Locked<'g> {
 
     ghost view = { λ l. submission_of l.gpu.now.home l.job l.acquire };
 
-    ghost invariant = { λ l. Holding l.gpu.now l.acquire × (l.acquire.sealed ≡ true) × IsJob l.gpu.now.spec l.job × HoldsAll l.job (kept_of l.acquire.held.items) };
+    ghost invariant = { λ l. Holding l.gpu.now l.acquire × (l.acquire.sealed ≡ true) × IsJob l.gpu.now.spec l.job × HoldsAll l.job (kept_of l.acquire.seat.held.items) };
 }
 
 // Gives back everything that is held.
 pub(crate) fn release_all(gpu: &Gpu, acquire: &mut DeviceAcquire)
     requires { Holding gpu.now acquire.old }
-    ensures holding { Holding gpu.now acquire.new × (acquire.new.held.items ≡ []) }
+    ensures holding { Holding gpu.now acquire.new × (acquire.new.seat.held.items ≡ []) }
     ensures same { (acquire.new.ticket ≡ acquire.old.ticket) × (acquire.new.sealed ≡ acquire.old.sealed) }
     ensures pass { pass_of gpu.now.home (view acquire.new) ≡ pass_of gpu.now.home (view acquire.old) }
 {
@@ -116,9 +116,9 @@ fn hold<R: Wait>(gpu: &Gpu, acquire: &mut DeviceAcquire, buffer: BufferId, rt: &
     requires holding { Holding gpu.now acquire.old × (acquire.old.sealed ≡ false) }
     requires buffer { buffer < length gpu.now.spec.buffers }
     ensures on { WentOn gpu.now acquire.old acquire.new }
-    ensures keeps { (d : ℕ) (x : WithRoom) → In (d, x) acquire.old.held.items → In (d, x) acquire.new.held.items }
-    ensures only { (d : ℕ) (x : WithRoom) → In (d, x) acquire.new.held.items → (d ≡ buffer) ⊎ In (d, x) acquire.old.held.items }
-    ensures held { result ≡ true → (x : WithRoom) × In (buffer, x) acquire.new.held.items }
+    ensures keeps { (d : ℕ) (x : WithRoom) → In (d, x) acquire.old.seat.held.items → In (d, x) acquire.new.seat.held.items }
+    ensures only { (d : ℕ) (x : WithRoom) → In (d, x) acquire.new.seat.held.items → (d ≡ buffer) ⊎ In (d, x) acquire.old.seat.held.items }
+    ensures held { result ≡ true → (x : WithRoom) × In (buffer, x) acquire.new.seat.held.items }
 {
     match gpu.board.lock(acquire, buffer, rt) {
         Ok(()) => true,
@@ -130,10 +130,10 @@ fn hold<R: Wait>(gpu: &Gpu, acquire: &mut DeviceAcquire, buffer: BufferId, rt: &
 
 // Locks a buffer for one who holds nothing, and waits for whoever holds it.
 fn lock_first<R: Wait>(gpu: &Gpu, acquire: &mut DeviceAcquire, buffer: BufferId, rt: &R)
-    requires holding { Holding gpu.now acquire.old × (acquire.old.sealed ≡ false) × (acquire.old.held.items ≡ []) }
+    requires holding { Holding gpu.now acquire.old × (acquire.old.sealed ≡ false) × (acquire.old.seat.held.items ≡ []) }
     requires buffer { buffer < length gpu.now.spec.buffers }
     ensures on { WentOn gpu.now acquire.old acquire.new }
-    ensures held { (x : WithRoom) × (acquire.new.held.items ≡ (buffer, x) ∷ []) }
+    ensures held { (x : WithRoom) × (acquire.new.seat.held.items ≡ (buffer, x) ∷ []) }
 {
     let Ok(()) = gpu.board.lock_slow(acquire, buffer, rt) else {
         unreachable!()
@@ -150,9 +150,9 @@ fn lock_declared<R: Wait>(
     requires holding { Holding gpu.now acquire.old × (acquire.old.sealed ≡ false) }
     requires job { IsJob gpu.now.spec job.now }
     ensures on { WentOn gpu.now acquire.old acquire.new }
-    ensures locked { MatchOption result (HoldsAll job.now (kept_of acquire.new.held.items)) (λ b. b < length gpu.now.spec.buffers) }
+    ensures locked { MatchOption result (HoldsAll job.now (kept_of acquire.new.seat.held.items)) (λ b. b < length gpu.now.spec.buffers) }
     ensures contended { IfSome result (Declares job.now) }
-    ensures only { HoldsNoMore job.now acquire.old.held.items acquire.new.held.items }
+    ensures only { HoldsNoMore job.now acquire.old.seat.held.items acquire.new.seat.held.items }
 {
     jobs_are_the_sound_drafts();
     for place in 0..job.declared().len() {
@@ -196,8 +196,8 @@ fn hold_all<R: Wait>(gpu: &Gpu, acquire: &mut DeviceAcquire, job: &Job, rt: &R)
     requires holding { Holding gpu.now acquire.old × (acquire.old.sealed ≡ false) }
     requires job { IsJob gpu.now.spec job.now }
     ensures on { WentOn gpu.now acquire.old acquire.new }
-    ensures all { HoldsAll job.now (kept_of acquire.new.held.items) }
-    ensures only { HoldsNoMore job.now acquire.old.held.items acquire.new.held.items }
+    ensures all { HoldsAll job.now (kept_of acquire.new.seat.held.items) }
+    ensures only { HoldsNoMore job.now acquire.old.seat.held.items acquire.new.seat.held.items }
 {
     for _ in rt.forever() {
         let Some(contended) = lock_declared(gpu, acquire, job, rt) else {
@@ -252,7 +252,7 @@ impl Gpu {
         rt: &R,
     ) -> Result<DeviceAcquire, BeginReadError>
         requires { pass.gpu ≡ self.now }
-        ensures holding { IfOk result (λ a. Holding self.now a × (a.sealed ≡ false) × (a.held.items ≡ [])) }
+        ensures holding { IfOk result (λ a. Holding self.now a × (a.sealed ≡ false) × (a.seat.held.items ≡ [])) }
         ensures pass { IfOk result (λ a. pass_of self.now.home (view a) ≡ pass) }
         ensures ticket { IfOk result (λ a. IsNewTicket pass a.ticket) }
         ensures tickets_left { IfOk result (λ _. pass.tickets_out ≡ false) }
@@ -322,7 +322,7 @@ impl<'g> Locking<'g> {
         ensures same { self.new ≡ record self.old { pass = self.new.pass } }
     {
         let gpu = self.gpu;
-        gpu.status_with(&mut self.acquire, fence)
+        gpu.status_at(&mut self.acquire.seat, fence)
     }
 
     /// Whether the buffer is held.
@@ -464,7 +464,7 @@ impl<'g> Locked<'g> {
         ensures same { self.new ≡ record self.old { pass = self.new.pass } }
     {
         let gpu = self.gpu;
-        gpu.status_with(&mut self.acquire, fence)
+        gpu.status_at(&mut self.acquire.seat, fence)
     }
 
     /// Gives everything back, and the job unchanged.

@@ -1,7 +1,7 @@
 //! Packets that run outside the device's lock, on their own buffers.
 ghost use Rattle.std.specs.Prelude.{◌≡◌, ◌<◌, ℕ, List, Some, IsTrue, length, Ok, IfOk, IfErr};
 ghost use Rattle.drm_packet.specs.Parts.{fits_parts};
-ghost use Rattle.ww_lock.specs.Begun.{sees};
+ghost use Rattle.ww_lock.specs.Seats.{sees};
 ghost use Rattle.drm_state.specs.declared.answer.Stepped.TheVariants.{Ran};
 ghost use Rattle.drm_gpu.specs.Answers.{StepIs};
 ghost use Rattle.drm_gpu.specs.Passes.{Calls, CallsAs, IsPassSeat};
@@ -60,7 +60,7 @@ pub struct Running<'g> {
 }
 
 impl<'g> Model for Running<'g> {
-    ghost use Rattle.ww_lock.specs.Begun.{sees};
+    ghost use Rattle.ww_lock.specs.Seats.{sees};
     ghost use Rattle.drm_gpu.specs.Passes.{pass_of};
     ghost use Rattle.drm_gpu.specs.Running.{SeatHasOut, RunningState};
 
@@ -147,7 +147,7 @@ impl Gpu {
         let task = out.task();
         let mut out = out;
         out.run();
-        let mut device = self.enter_again(seat, &task, rt);
+        let mut device = self.enter(seat, rt);
         let found = Snapshot::of(&device);
         let OutPacket {
             ring,

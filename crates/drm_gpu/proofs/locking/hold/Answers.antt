@@ -21,7 +21,7 @@ returns-in-Ok-clause-only g c = only_locked c.args.buffer c.args.acquire.now c.l
 pub returns-in-Ok-clause-held : goal.returns-in-Ok-clause-held
 returns-in-Ok-clause-held g c h =
     let t = (c.in-Ok.ensures {u = tt}).answers in
-    (t.3.0, subst (In (c.args.buffer, t.3.0)) (sym t.3.4) (now_last (c.args.buffer, t.3.0) c.args.acquire.now.held.items))
+    (t.3.0, subst (In (c.args.buffer, t.3.0)) (sym t.3.4) (now_last (c.args.buffer, t.3.0) c.args.acquire.now.seat.held.items))
 
 pub returns-in-Err-Already-clause-on : goal.returns-in-Err-Already-clause-on
 returns-in-Err-Already-clause-on g c =

@@ -3,7 +3,7 @@ use Rattle.drm_gpu.proofs.Claims.{went_itself, went_trans, went_back, no_more_it
 use Rattle.drm_gpu.proofs.locking.hold_all.Goals as goal
 
 pub loop-init : goal.loop-init
-loop-init g c = (went_itself c.args.gpu.now c.args.acquire.now c.requires.holding.0, no_more_itself c.args.job.now c.args.acquire.now.held.items)
+loop-init g c = (went_itself c.args.gpu.now c.args.acquire.now c.requires.holding.0, no_more_itself c.args.job.now c.args.acquire.now.seat.held.items)
 
 pub lock_declared-requires-clause-holding : goal.lock_declared-requires-clause-holding
 lock_declared-requires-clause-holding g c = (c.loop.invariant.0.holding, c.loop.invariant.0.sealed ∙ c.requires.holding.1)
@@ -23,7 +23,7 @@ loop-preserved g c =
           (went_trans gpu a tried free (went_trans gpu a c.loop.acquire tried c.loop.invariant.0 c.lock_declared.ensures.on)
           (went_back gpu tried free c.release_all.ensures.holding.0 c.release_all.ensures.same.0 c.release_all.ensures.same.1 c.release_all.ensures.pass))
           c.lock_first.ensures.on,
-      one_alone c.args.job.now c.in-Some-lock_declared.contended first.0 a.held.items c.lock_first.new.acquire.held.items c.in-Some-lock_declared.ensures.contended first.1,
+      one_alone c.args.job.now c.in-Some-lock_declared.contended first.0 a.seat.held.items c.lock_first.new.acquire.seat.held.items c.in-Some-lock_declared.ensures.contended first.1,
     )
 
 pub returns-in_default-clause-on : goal.returns-in_default-clause-on
@@ -31,4 +31,4 @@ returns-in_default-clause-on g c = went_trans c.args.gpu.now c.args.acquire.now 
 
 pub returns-in_default-clause-only : goal.returns-in_default-clause-only
 returns-in_default-clause-only g c =
-    no_more_trans c.args.job.now c.args.acquire.now.held.items c.loop.acquire.held.items c.lock_declared.new.acquire.held.items c.loop.invariant.1 c.lock_declared.ensures.only
+    no_more_trans c.args.job.now c.args.acquire.now.seat.held.items c.loop.acquire.seat.held.items c.lock_declared.new.acquire.seat.held.items c.loop.invariant.1 c.lock_declared.ensures.only

@@ -14,7 +14,7 @@ pub loop-place-init : goal.loop-place-init
 loop-place-init g c = record {
   on = went_itself c.args.gpu.now c.args.acquire.now c.requires.holding.0;
   held = λ k d lt at. absurd (omega (arith, lt));
-  only = no_more_itself c.args.job.now c.args.acquire.now.held.items;
+  only = no_more_itself c.args.job.now c.args.acquire.now.seat.held.items;
 }
 
 pub hold-requires-clause-holding : goal.hold-requires-clause-holding
@@ -55,8 +55,8 @@ returns-then-not-hold-clause-only g c =
     let i = c.loop-place.place in
     let n = c.index-declared-place.result in
     let lt : i < length xs = subst (λ l. i < length l) c.declared-place-end.ensures c.loop-place-test.true in
-    no_more_trans c.args.job.now c.args.acquire.now.held.items c.loop-place.acquire.held.items c.hold.new.acquire.held.items c.loop-place.invariant.only
-    (one_more c.args.job.now (get_or c.declared.result.now i n).0 c.loop-place.acquire.held.items c.hold.new.acquire.held.items
+    no_more_trans c.args.job.now c.args.acquire.now.seat.held.items c.loop-place.acquire.seat.held.items c.hold.new.acquire.seat.held.items c.loop-place.invariant.only
+    (one_more c.args.job.now (get_or c.declared.result.now i n).0 c.loop-place.acquire.seat.held.items c.hold.new.acquire.seat.held.items
     (i, get_or xs i n, slice_get-get_or xs i n lt, sym (ap (λ l. (get_or l i n).0) c.declared.ensures)) c.hold.ensures.only)
 
 pub loop-place-preserved : goal.loop-place-preserved
@@ -71,10 +71,10 @@ loop-place-preserved g c =
           (λ e. let x = c.hold.ensures.held c.if-not-hold.false in
           let is : Some (get_or xs i n) ≡ Some d = sym (slice_get-get_or xs i n lt) ∙ (ap (slice_get xs) (sym e) ∙ at) in
           let same : get_or xs i n ≡ d = cc (is) in
-          (x.0, subst (λ m. In (m, x.0) c.hold.new.acquire.held.items) (ap (λ l. (get_or l i n).0) c.declared.ensures ∙ ap (λ (z : ℕ × Access). z.0) same) x.1))
+          (x.0, subst (λ m. In (m, x.0) c.hold.new.acquire.seat.held.items) (ap (λ l. (get_or l i n).0) c.declared.ensures ∙ ap (λ (z : ℕ × Access). z.0) same) x.1))
           (λ ne. let x = c.loop-place.invariant.held k d (omega (arith, less, ne)) at in (x.0, c.hold.ensures.keeps d.0 x.0 x.1));
-      only = no_more_trans c.args.job.now c.args.acquire.now.held.items c.loop-place.acquire.held.items c.hold.new.acquire.held.items c.loop-place.invariant.only
-          (one_more c.args.job.now (get_or c.declared.result.now i n).0 c.loop-place.acquire.held.items c.hold.new.acquire.held.items
+      only = no_more_trans c.args.job.now c.args.acquire.now.seat.held.items c.loop-place.acquire.seat.held.items c.hold.new.acquire.seat.held.items c.loop-place.invariant.only
+          (one_more c.args.job.now (get_or c.declared.result.now i n).0 c.loop-place.acquire.seat.held.items c.hold.new.acquire.seat.held.items
           (i, get_or xs i n, slice_get-get_or xs i n lt, sym (ap (λ l. (get_or l i n).0) c.declared.ensures)) c.hold.ensures.only);
     }
 
@@ -90,4 +90,4 @@ returns-clause-locked g c k d at =
     let within = slice_get_within xs k d at in
     let end : length xs ≤ c.loop-place.place = subst (λ l. length l ≤ c.loop-place.place) c.declared-place-end.ensures c.loop-place-test.false in
     let x = c.loop-place.invariant.held k d (omega (arith, within, end)) at in
-    (x.0.kept, in_contains (kept_of c.loop-place.acquire.held.items) (d.0, x.0.kept) (in_kept_of d.0 x.0 c.loop-place.acquire.held.items x.1))
+    (x.0.kept, in_contains (kept_of c.loop-place.acquire.seat.held.items) (d.0, x.0.kept) (in_kept_of d.0 x.0 c.loop-place.acquire.seat.held.items x.1))

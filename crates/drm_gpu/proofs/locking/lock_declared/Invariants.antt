@@ -8,6 +8,6 @@ use Rattle.drm_gpu.proofs.locking.lock_declared.Given as goal
 abbrev pub invariant-loop-place : goal.invariant-loop-place
 invariant-loop-place g l = record {
   on : WentOn l.fn.gpu l.fn.acquire l.acquire;
-  held : (k : ℕ) (d : ℕ × Access) → k < l.place → slice_get l.fn.job.declared k ≡ Some d → (x : WithRoom) × In (d.0, x) l.acquire.held.items;
-  only : HoldsNoMore l.fn.job l.fn.acquire.held.items l.acquire.held.items;
+  held : (k : ℕ) (d : ℕ × Access) → k < l.place → slice_get l.fn.job.declared k ≡ Some d → (x : WithRoom) × In (d.0, x) l.acquire.seat.held.items;
+  only : HoldsNoMore l.fn.job l.fn.acquire.seat.held.items l.acquire.seat.held.items;
 }

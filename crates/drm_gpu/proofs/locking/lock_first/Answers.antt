@@ -2,11 +2,12 @@ use Rattle.std.proofs.Common.{◌<◌, ◌∙◌, ◌∷◌, ◌++◌, [], ap, s
 use Rattle.ww_lock.specs.Acquiring.{HoldsOutside}
 use Rattle.drm_gpu.specs.Passes.{GpuState}
 use Rattle.drm_gpu.proofs.Claims.{went_claimed}
+use Rattle.drm_gpu.proofs.Holders.{holds}
 use Rattle.drm_gpu.proofs.locking.lock_first.Goals as goal
 
 pub lock_slow-requires : goal.lock_slow-requires
 lock_slow-requires g c = (
-  subst (λ z. HoldsOutside z c.args.acquire.now) (sym (ap (λ (g : GpuState). g.home) c.gpu.view_is)) c.requires.holding.0.holds,
+  subst (λ z. HoldsOutside z c.args.acquire.now) (sym (ap (λ (g : GpuState). g.home) c.gpu.view_is)) (holds c.args.gpu.now c.args.acquire.now c.requires.holding.0),
   subst (λ n. c.args.buffer < n) (sym (c.gpu.invariant.1 ∙ ap (λ (g : GpuState). length g.spec.buffers) c.gpu.view_is)) c.requires.buffer,
   c.requires.holding.2,
 )

@@ -1,5 +1,5 @@
 use Rattle.std.proofs.Common.{◌∙◌, ap, sym, subst, Ok, Err}
-use Rattle.ww_lock.specs.Begun.{sees}
+use Rattle.ww_lock.specs.Seats.{sees}
 use Rattle.drm_state.specs.declared.errors.StepError.TheVariants.{Idle}
 use Rattle.drm_state.specs.declared.answer.Stepped.{Stepped}
 use Rattle.drm_state.specs.declared.answer.Stepped.TheVariants.{Stalled}
@@ -28,7 +28,7 @@ returns-in-Out g c =
     (subst (λ (r : Stepped). CallsAs (StepIs out.ring (Ok r)) (sees s) (sees t)) (sym c.run_out.ensures.ran) c.run_out.ensures.call) in
     record {
       call = calls_are (StepIs c.args.ring (Ok c.run_out.result)) c.args.self.now c.args.pass.now c.pass.inside.seat.place.table_id t.place.table_id v (sees t)
-          c.pass.view_is c.requires.pass (at_gpu c.args.self.now t c.run_out.ensures.seat)
+          c.pass.view_is c.requires.pass (at_gpu c.args.self.now t c.run_out.ensures.seat.seated)
           (calls_after (StepIs c.args.ring (Ok c.run_out.result)) v (sees s) (sees t) on (λ all. left ∙ ap (λ (d : MarkedDevice). d.state) (o.is_found.alone all)) o.same ran);
     }
 
@@ -37,7 +37,7 @@ returns-in-Stalled g c =
     let t = c.send_out.new.seat in
     record {
       call = calls_are (StepIs c.args.ring (Ok (Stalled c.in-Stalled.fence))) c.args.self.now c.args.pass.now c.pass.inside.seat.place.table_id t.place.table_id (sees c.pass.inside.seat) (sees t)
-          c.pass.view_is c.requires.pass (at_gpu c.args.self.now t c.in-Stalled.ensures.0) c.in-Stalled.ensures.1;
+          c.pass.view_is c.requires.pass (at_gpu c.args.self.now t c.in-Stalled.ensures.0.seated) c.in-Stalled.ensures.1;
     }
 
 pub returns-in-Idle : goal.returns-in-Idle
@@ -45,5 +45,5 @@ returns-in-Idle g c =
     let t = c.send_out.new.seat in
     record {
       call = calls_are (StepIs c.args.ring (Err Idle)) c.args.self.now c.args.pass.now c.pass.inside.seat.place.table_id t.place.table_id (sees c.pass.inside.seat) (sees t)
-          c.pass.view_is c.requires.pass (at_gpu c.args.self.now t c.in-Idle.ensures.0) c.in-Idle.ensures.1;
+          c.pass.view_is c.requires.pass (at_gpu c.args.self.now t c.in-Idle.ensures.0.seated) c.in-Idle.ensures.1;
     }

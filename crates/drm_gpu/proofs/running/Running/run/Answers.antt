@@ -1,5 +1,5 @@
 use Rattle.std.proofs.Common.{◌≡◌, ◌∙◌, ap, sym, subst, Ok}
-use Rattle.ww_lock.specs.Begun.{sees}
+use Rattle.ww_lock.specs.Seats.{sees}
 use Rattle.drm_types.specs.declared.spec.DeviceSpec.{DeviceSpec}
 use Rattle.drm_state.specs.declared.answer.Stepped.{Stepped}
 use Rattle.drm_state.specs.declared.answer.Stepped.TheVariants.{Ran}
@@ -17,7 +17,7 @@ returns-clause-call g c =
     let s = c.self.inside.seat in
     let t = c.run_out-ran.new.seat in
     let view : pass_of gpu.home (sees s) ≡ old = ap (λ (r : RunningState). r.pass) c.self.view_is in
-    let belongs : old.gpu ≡ gpu = sym (ap (λ (p : PassState). p.gpu) view) ∙ ap (λ (z : DeviceSpec). record { home = gpu.home; spec = z }) c.self.invariant.seat.knows.described in
-    let call = calls_are (StepIs out.ring (Ok (Ran out.fence out.packet))) gpu old gpu.home t.place.table_id (sees s) (sees t) view belongs (at_gpu gpu t c.run_out-ran.ensures.seat) c.run_out-ran.ensures.call in
+    let belongs : old.gpu ≡ gpu = sym (ap (λ (p : PassState). p.gpu) view) ∙ ap (λ (z : DeviceSpec). record { home = gpu.home; spec = z }) c.self.invariant.seated.knows.described in
+    let call = calls_are (StepIs out.ring (Ok (Ran out.fence out.packet))) gpu old gpu.home t.place.table_id (sees s) (sees t) view belongs (at_gpu gpu t c.run_out-ran.ensures.seat.seated) c.run_out-ran.ensures.call in
     subst (λ (r : RunningState). Calls (StepIs r.ring (Ok c.run_out-ran.result)) old (pass_of t.place.table_id (sees t))) c.self.view_is
     (subst (λ (s : Stepped). Calls (StepIs out.ring (Ok s)) old (pass_of t.place.table_id (sees t))) (sym c.run_out-ran.ensures.ran) call)
