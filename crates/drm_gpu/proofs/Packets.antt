@@ -101,8 +101,17 @@ has_none d ring free =
       | Some m ↦ λ e. absurd (cc (e))
     ] free
 
-pub nothing_out : (d : MarkedDevice) → ((ring : ℕ) → ring < length d.marks → ring_out d ring ≡ false) → (b : ℕ) → is_out d b ≡ false
-nothing_out d free b = all_in (λ m. list_any (λ o. o == b) (out_by d.state.journal m)) d.marks refl (λ k lt. has_none d k (free k lt))
+-- a ring that is not there has none out
+row_idle : (rows : List (Option Mark)) (ring : ℕ) → ((k : ℕ) → k < length rows → option_map_or (λ o. o) (slice_get rows k) None ≡ None) → option_map_or (λ o. o) (slice_get rows ring) None ≡ None
+row_idle [] ring all = refl
+row_idle (row ∷ rows) zero all = all 0 (suc-le-suc zero-le)
+row_idle (row ∷ rows) (suc ring) all = row_idle rows ring (λ k lt. all (suc k) (suc-le-suc lt))
+
+pub no_ring_out : (d : MarkedDevice) → ((ring : ℕ) → ring < length d.marks → ring_out d ring ≡ false) → (ring : ℕ) → ring_out d ring ≡ false
+no_ring_out d free ring = ap (λ m. not (is_none m)) (row_idle d.marks ring (λ k lt. has_none d k (free k lt)))
+
+pub nothing_out : (d : MarkedDevice) → ((ring : ℕ) → ring_out d ring ≡ false) → (b : ℕ) → is_out d b ≡ false
+nothing_out d free b = all_in (λ m. list_any (λ o. o == b) (out_by d.state.journal m)) d.marks refl (λ k lt. has_none d k (free k))
 
 -- with nothing out, a call is refused as its own refusal says
 pub not_out : (b : Bool) (o x : Option Refusal) → b ≡ false → out_or b o ≡ x → o ≡ x
