@@ -70,11 +70,12 @@ pass_is gpu old new found v t home after was is at same mine note =
     let all : new.looked ≡ old.looked = ap (λ (p : PassState). p.looked) is ∙ (ap (λ (n : Noted). n.looked) note ∙ ap (λ (p : PassState). p.looked) was) in
     let had : new.had ≡ old.had = ap (λ (p : PassState). p.had) is ∙ (ap (λ (n : Noted). n.had) note ∙ ap (λ (p : PassState). p.had) was) in
     let met : new.met ≡ old.met = ap (λ (p : PassState). p.met) is ∙ (ap (λ (n : Noted). n.met) note ∙ ap (λ (p : PassState). p.met) was) in
+    let drew : new.drew ≡ old.drew = ap (λ (p : PassState). p.drew) is ∙ (ap (λ (n : Noted). n.drew) note ∙ ap (λ (p : PassState). p.drew) was) in
     let out : new.tickets_out ≡ old.tickets_out = ap (λ (p : PassState). p.tickets_out) is ∙ (ap (λ (n : Noted). n.tickets_out) note ∙ ap (λ (p : PassState). p.tickets_out) was) in
     let part : new.part ≡ old.part = ap (λ (p : PassState). p.part) is ∙ (ap (λ (n : Noted). n.part) note ∙ ap (λ (p : PassState). p.part) was) in
     let calls : new.calls ≡ old.calls ++ (found, new.last) ∷ [] =
     ap (λ (p : PassState). p.calls) is ∙ (mine ∙ (ap (λ (p : PassState). p.calls ++ (found, last_of t) ∷ []) was ∙ ap (λ (p : PassState). old.calls ++ (found, p.last) ∷ []) (sym is))) in
-    λ i. record { gpu = (same ∙ sym at) i; last = new.last; calls = calls i; looked = all i; had = had i; met = met i; tickets_out = out i; part = part i }
+    λ i. record { gpu = (same ∙ sym at) i; last = new.last; calls = calls i; looked = all i; had = had i; met = met i; drew = drew i; tickets_out = out i; part = part i }
 
 -- nothing but what was seen last has changed, twice
 pub same_trans : (v s t : Seeing) → IsSameBut v s → IsSameBut s t → IsSameBut v t
@@ -161,6 +162,7 @@ started_of gpu old home ring out v s view belongs o =
         looked = (ap (λ (n : Noted). n.looked) note ∙ ap (λ (p : PassState). p.looked) view) i;
         had = (ap (λ (n : Noted). n.had) note ∙ ap (λ (p : PassState). p.had) view) i;
         met = (ap (λ (n : Noted). n.met) note ∙ ap (λ (p : PassState). p.met) view) i;
+        drew = (ap (λ (n : Noted). n.drew) note ∙ ap (λ (p : PassState). p.drew) view) i;
         tickets_out = (ap (λ (n : Noted). n.tickets_out) note ∙ ap (λ (p : PassState). p.tickets_out) view) i;
         part = (ap (λ (n : Noted). n.part) note ∙ ap (λ (p : PassState). p.part) view) i;
       };
@@ -208,6 +210,7 @@ joined_of gpu one other h k v u t first second belongs kv ku seat j =
       looked = ap (λ (z : Seeing). z.looked) j.2 ∙ (ap (λ (o : PassState). o.looked ++ u.looked) first ∙ ap (λ (o : PassState). one.looked ++ o.looked) second);
       had = ap (λ (z : Seeing). z.lock.had) j.2 ∙ (ap (λ (o : PassState). o.had ++ u.lock.had) first ∙ ap (λ (o : PassState). one.had ++ o.had) second);
       met = ap (λ (z : Seeing). z.lock.met) j.2 ∙ (ap (λ (o : PassState). o.met ++ u.lock.met) first ∙ ap (λ (o : PassState). one.met ++ o.met) second);
+      drew = ap (λ (z : Seeing). z.lock.drew) j.2 ∙ (ap (λ (o : PassState). o.drew ++ u.lock.drew) first ∙ ap (λ (o : PassState). one.drew ++ o.drew) second);
       tickets_out = ap (λ (z : Seeing). z.lock.ended) j.2 ∙ (ap (λ (o : PassState). o.tickets_out || u.lock.ended) first ∙ ap (λ (o : PassState). one.tickets_out || o.tickets_out) second);
       part = ap (λ (z : Seeing). z.part) j.2 ∙ (ap (λ (o : PassState). o.part ++ u.part) first ∙ ap (λ (o : PassState). one.part ++ o.part) second);
     }

@@ -35,8 +35,9 @@ pub record GpuState : Type 0 where
   pub spec : DeviceSpec
 
 -- a pass: its device, the state of that device which it saw last, its calls as (found, left), the fence words that it
--- looked at, the claims that it made, the holders that its tries met, whether it was told that all tickets are drawn, and its part of
--- the device: pieces, each told by how often it was halved. The parts of all passes make up the whole
+-- looked at, the claims that it made, the holders that its tries met, the tickets that it drew, whether it was told
+-- that none is left, and its part of the device: pieces, each told by how often it was halved. The parts of all
+-- passes make up the whole
 pub record PassState : Type 0 where
   pub gpu : GpuState
   pub last : MarkedDevice
@@ -44,6 +45,7 @@ pub record PassState : Type 0 where
   pub looked : List (ℕ × ℕ)
   pub had : List (ℕ × ℕ)
   pub met : List (ℕ × ℕ)
+  pub drew : List ℕ
   pub tickets_out : Bool
   pub part : List ℕ
 
@@ -77,13 +79,14 @@ pass_of home v = record {
   looked = v.looked;
   had = v.lock.had;
   met = v.lock.met;
+  drew = v.lock.drew;
   tickets_out = v.lock.ended;
   part = v.part;
 }
 
 -- a pass that has done nothing, to a device that was just built
 abbrev pub first_pass : GpuState → PassState
-first_pass gpu = record { gpu = gpu; last = unmarked (opened_device gpu.spec); calls = []; looked = []; had = []; met = []; tickets_out = false; part = 0 ∷ [] }
+first_pass gpu = record { gpu = gpu; last = unmarked (opened_device gpu.spec); calls = []; looked = []; had = []; met = []; drew = []; tickets_out = false; part = 0 ∷ [] }
 
 -- one device of this description was seen last. The calls are a chain, and what each left grows to what was seen
 pub record Knows (spec : DeviceSpec) (last : MarkedDevice) (v : Seeing) : Type 0 where
@@ -127,11 +130,12 @@ pub record Noted : Type 0 where
   pub looked : List (ℕ × ℕ)
   pub had : List (ℕ × ℕ)
   pub met : List (ℕ × ℕ)
+  pub drew : List ℕ
   pub tickets_out : Bool
   pub part : List ℕ
 
 abbrev pub noted : Seeing → Noted
-noted v = record { looked = v.looked; had = v.lock.had; met = v.lock.met; tickets_out = v.lock.ended; part = v.part }
+noted v = record { looked = v.looked; had = v.lock.had; met = v.lock.met; drew = v.lock.drew; tickets_out = v.lock.ended; part = v.part }
 
 -- only what was seen last has changed
 abbrev pub IsSameBut : Seeing → Seeing → Type 0
@@ -179,7 +183,7 @@ pub record CallsAs (does : MarkedDevice → MarkedDevice → Type 0) (v w : Seei
   pub adds : Adds found (last_of w) v w
 
 -- a pass of two: it saw the later of what they saw, its calls are those of both, each as often, in one order, and it has all that
--- they looked at, claimed and met
+-- they looked at, claimed, met and drew
 pub record IsJoinedOf (one other new : PassState) : Type 0 where
   pub gpu : new.gpu ≡ one.gpu
   pub later : GrowsTo one.last new.last × GrowsTo other.last new.last
@@ -189,5 +193,6 @@ pub record IsJoinedOf (one other new : PassState) : Type 0 where
   pub looked : new.looked ≡ one.looked ++ other.looked
   pub had : new.had ≡ one.had ++ other.had
   pub met : new.met ≡ one.met ++ other.met
+  pub drew : new.drew ≡ one.drew ++ other.drew
   pub tickets_out : new.tickets_out ≡ (one.tickets_out || other.tickets_out)
   pub part : new.part ≡ one.part ++ other.part

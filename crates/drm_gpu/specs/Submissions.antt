@@ -38,7 +38,11 @@ submission_of home job a = record { pass = pass_of home (view a); ticket = a.tic
 
 -- a ticket above each that the pass knows of
 abbrev pub IsNewTicket : PassState → ℕ → Type 0
-IsNewTicket pass ticket = ((b t : ℕ) → In (b, t) pass.had → t < ticket) × ((b h : ℕ) → In (b, h) pass.met → h < ticket)
+IsNewTicket pass ticket = ((t : ℕ) → In t pass.drew → t < ticket) × ((b t : ℕ) → In (b, t) pass.had → t < ticket) × ((b h : ℕ) → In (b, h) pass.met → h < ticket)
+
+-- the pass has drawn this ticket, and nothing else of it has changed
+abbrev pub draws : ℕ → PassState → PassState
+draws ticket pass = record pass { drew = pass.drew ++ ticket ∷ [] }
 
 -- the pass has claimed more, each time under this ticket, and has met more holders. Nothing else of it has changed
 pub record ClaimsMore (ticket : ℕ) (old new : PassState) : Type 0 where

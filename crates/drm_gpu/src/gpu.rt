@@ -121,7 +121,7 @@ impl Gpu {
     pub fn split(&self, pass: Pass) -> (Pass, Pass)
         requires { pass.gpu ≡ self.now }
         ensures first { result.0 ≡ record pass { part = halved pass.part } }
-        ensures second { result.1 ≡ record pass { calls = []; had = []; met = []; tickets_out = false; part = halved pass.part } }
+        ensures second { result.1 ≡ record pass { calls = []; had = []; met = []; drew = []; tickets_out = false; part = halved pass.part } }
     {
         let Pass { seat } = pass;
         let (one, other) = self.board.split(seat);

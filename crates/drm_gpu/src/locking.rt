@@ -8,7 +8,7 @@ ghost use Rattle.drm_state.specs.Held.{kept_of, HoldsAll};
 ghost use Rattle.drm_job.specs.Fault.{IsJob};
 ghost use Rattle.ww_lock.specs.Acquiring.{view};
 ghost use Rattle.drm_gpu.specs.Passes.{pass_of};
-ghost use Rattle.drm_gpu.specs.Submissions.{Declares, Holding, HoldsNoMore, IsNewTicket, TriesLock, Claims, ClaimsMore, Locks, GoesOn, WentOn};
+ghost use Rattle.drm_gpu.specs.Submissions.{Declares, Holding, HoldsNoMore, IsNewTicket, TriesLock, draws, Claims, ClaimsMore, Locks, GoesOn, WentOn};
 ghost use Rattle.drm_gpu.specs.Status.{AnswersStatus};
 ghost use Rattle.drm_gpu.specs.Begun.{IsBack, IsBackFromRead};
 
@@ -210,6 +210,28 @@ fn hold_all<R: Wait>(gpu: &Gpu, acquire: &mut DeviceAcquire, job: &Job, rt: &R)
 }
 
 impl Gpu {
+    // Draws the one ticket of a submission or a readback.
+    fn draw<R: Wait>(
+        &self,
+        alloc: Global,
+        pass: Pass,
+        rt: &R,
+    ) -> Result<DeviceAcquire, BeginReadError>
+        requires { pass.gpu ≡ self.now }
+        ensures holding { IfOk result (λ a. Holding self.now a × (a.sealed ≡ false) × (a.seat.held.items ≡ [])) }
+        ensures pass { IfOk result (λ a. pass_of self.now.home (view a) ≡ draws a.ticket pass) }
+        ensures ticket { IfOk result (λ a. IsNewTicket pass a.ticket) }
+        ensures tickets_left { IfOk result (λ _. pass.tickets_out ≡ false) }
+        ensures refused { IfErr result (IsBackFromRead pass) }
+    {
+        let Pass { seat } = pass;
+        match self.board.begin(seat, rt, alloc) {
+            Ok(acquire) => Ok(acquire),
+            Err(TicketError::Memory(seat)) => Err(BeginReadError::Memory(Pass { seat })),
+            Err(TicketError::TicketsOut(seat)) => Err(BeginReadError::TicketsOut(Pass { seat })),
+        }
+    }
+
     /// Begins the submission of a job: draws its ticket (`ww_acquire_init`).
     ///
     /// # Errors
@@ -225,44 +247,19 @@ impl Gpu {
     ) -> Result<Locking<'g>, BeginError>
         requires pass { pass.gpu ≡ self.now }
         requires job { IsJob self.now.spec job }
-        ensures begun { IfOk result (λ l. (l.pass ≡ pass) × (l.job ≡ job) × (l.held ≡ [])) }
+        ensures begun { IfOk result (λ l. (l.pass ≡ draws l.ticket pass) × (l.job ≡ job) × (l.held ≡ [])) }
         ensures ticket { IfOk result (λ l. IsNewTicket pass l.ticket) }
         ensures tickets_left { IfOk result (λ _. pass.tickets_out ≡ false) }
         ensures refused { IfErr result (λ e. IsBack pass job e) }
     {
-        let Pass { seat } = pass;
-        match self.board.begin(seat, rt, alloc) {
+        match self.draw(alloc, pass, rt) {
             Ok(acquire) => Ok(Locking {
                 gpu: self,
                 acquire,
                 job,
             }),
-            Err(TicketError::Memory(seat)) => Err(BeginError::Memory(Pass { seat }, job)),
-            Err(TicketError::TicketsOut(seat)) => {
-                Err(BeginError::TicketsOut(Pass { seat }, job))
-            }
-        }
-    }
-
-    // Draws a ticket for a readback.
-    fn draw<R: Wait>(
-        &self,
-        alloc: Global,
-        pass: Pass,
-        rt: &R,
-    ) -> Result<DeviceAcquire, BeginReadError>
-        requires { pass.gpu ≡ self.now }
-        ensures holding { IfOk result (λ a. Holding self.now a × (a.sealed ≡ false) × (a.seat.held.items ≡ [])) }
-        ensures pass { IfOk result (λ a. pass_of self.now.home (view a) ≡ pass) }
-        ensures ticket { IfOk result (λ a. IsNewTicket pass a.ticket) }
-        ensures tickets_left { IfOk result (λ _. pass.tickets_out ≡ false) }
-        ensures refused { IfErr result (IsBackFromRead pass) }
-    {
-        let Pass { seat } = pass;
-        match self.board.begin(seat, rt, alloc) {
-            Ok(acquire) => Ok(acquire),
-            Err(TicketError::Memory(seat)) => Err(BeginReadError::Memory(Pass { seat })),
-            Err(TicketError::TicketsOut(seat)) => Err(BeginReadError::TicketsOut(Pass { seat })),
+            Err(BeginReadError::Memory(pass)) => Err(BeginError::Memory(pass, job)),
+            Err(BeginReadError::TicketsOut(pass)) => Err(BeginError::TicketsOut(pass, job)),
         }
     }
 
@@ -282,7 +279,7 @@ impl Gpu {
         requires pass { pass.gpu ≡ self.now }
         requires buffer { buffer < length self.now.spec.buffers }
         ensures begun { IfOk result (λ r. r.buffer ≡ buffer) }
-        ensures ticket { IfOk result (λ r. (t : ℕ) × IsNewTicket pass t × ClaimsMore t pass r.pass) }
+        ensures ticket { IfOk result (λ r. (t : ℕ) × IsNewTicket pass t × ClaimsMore t (draws t pass) r.pass) }
         ensures tickets_left { IfOk result (λ _. pass.tickets_out ≡ false) }
         ensures refused { IfErr result (IsBackFromRead pass) }
     {

@@ -25,7 +25,7 @@ fn begin<'g, R: Wait>(
 ) -> Result<Locking<'g>, Pass>
     requires pass { pass.gpu ≡ gpu.now }
     requires job { IsJob gpu.now.spec job }
-    ensures begun { IfOk result (λ l. (l.pass ≡ pass) × (l.job ≡ job)) }
+    ensures begun { IfOk result (λ l. HasArmed [] pass l.pass × (l.job ≡ job)) }
     ensures back { IfErr result (HasArmed [] pass) }
 {
     let mut pass = pass;

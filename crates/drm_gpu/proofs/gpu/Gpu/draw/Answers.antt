@@ -2,7 +2,7 @@ use Rattle.std.proofs.Common.{◌≡◌, ◌∙◌, ap, sym, subst, false}
 use Rattle.ww_lock.specs.Acquiring.{HoldsOutside}
 use Rattle.ww_lock.specs.Seats.{sees}
 use Rattle.drm_gpu.specs.Passes.{GpuState, PassState, Seeing, Knows, last_of, pass_of}
-use Rattle.drm_gpu.specs.Submissions.{IsNewTicket}
+use Rattle.drm_gpu.specs.Submissions.{IsNewTicket, draws}
 use Rattle.drm_gpu.proofs.Chains.{idle_pass, knows_same}
 use Rattle.drm_gpu.proofs.Holders.{holds_nothing}
 use Rattle.drm_gpu.proofs.gpu.Gpu.draw.Goals as goal
@@ -22,13 +22,14 @@ returns-in-Ok-clause-holding g c =
 pub returns-in-Ok-clause-pass : goal.returns-in-Ok-clause-pass
 returns-in-Ok-clause-pass g c =
     let v = sees c.pass.inside.seat in
+    let t = c.in-Ok.acquire.ticket in
     ap (λ z. pass_of c.args.self.now.home z) c.in-Ok.ensures.view
-    ∙ (ap (λ h. pass_of h v) (sym (ap (λ (g : GpuState). g.home) (ap (λ (o : PassState). o.gpu) c.pass.view_is ∙ c.requires))) ∙ c.pass.view_is)
+    ∙ ap (draws t) (ap (λ h. pass_of h v) (sym (ap (λ (g : GpuState). g.home) (ap (λ (o : PassState). o.gpu) c.pass.view_is ∙ c.requires))) ∙ c.pass.view_is)
 
 pub returns-in-Ok-clause-ticket : goal.returns-in-Ok-clause-ticket
 returns-in-Ok-clause-ticket g c =
     let below = c.in-Ok.ensures.next.2 in
-    subst (λ (o : PassState). IsNewTicket o c.in-Ok.acquire.ticket) c.pass.view_is (below.1, below.2)
+    subst (λ (o : PassState). IsNewTicket o c.in-Ok.acquire.ticket) c.pass.view_is (below.0, below.1, below.2)
 
 pub invariant_of-result-in-Err-TicketsOut : goal.invariant_of-result-in-Err-TicketsOut
 invariant_of-result-in-Err-TicketsOut g c =
