@@ -88,8 +88,8 @@ impl<'g> Reading<'g> {
     }
 }
 
-/// Once a readback was answered, the next one of the same reading is answered too, and with the same bytes: nobody arms a
-/// writer of a buffer while its `dma_resv` is held.
+/// Once a readback was answered, the next one of the same reading is answered too, and with the same bytes, whatever
+/// fences the reader looks at between: nobody arms a writer of a buffer while its `dma_resv` is held.
 pub fn readbacks_agree()
     ensures { ReadbacksAgree }
 {

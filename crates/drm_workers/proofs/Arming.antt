@@ -15,7 +15,7 @@ use Rattle.drm_gpu.specs.Answers.{CountsAre, FinishIs, PickIs, StepIs, TimeoutIs
 use Rattle.drm_gpu.specs.Laws.{reflexive, transitive}
 use Rattle.drm_gpu.specs.Passes.{Calls, GrowsTo, PassState}
 use Rattle.drm_gpu.specs.Running.{RunningState, Starts}
-use Rattle.drm_gpu.specs.Submissions.{ArmIs, ArmRefused, GoesOn, Submission}
+use Rattle.drm_gpu.specs.Submissions.{ArmIs, ArmRefused, GoesOn, Submission, draws}
 use Rattle.drm_report.specs.Armings.{ArmedJobsStay, OnlyArmingsArm, armings}
 use Rattle.drm_report.specs.Jobs.{JobAt}
 use Rattle.drm_workers.specs.Armings.{ArmsNoMore, HasArmed}
@@ -80,6 +80,10 @@ stays old new gpu last calls = record {
 
 pub same_pass : (old new : PassState) → new ≡ old → HasArmed [] old new
 same_pass old new is = stays old new (ap (λ p. p.gpu) is) (ap (λ p. p.last) is) (ap (λ p. p.calls) is)
+
+-- a pass that has drawn a ticket
+pub draw_arms : (ticket : ℕ) (old new : PassState) → new ≡ draws ticket old → HasArmed [] old new
+draw_arms ticket old new is = stays old new (ap (λ p. p.gpu) is) (ap (λ p. p.last) is) (ap (λ p. p.calls) is)
 
 -- a pass that was told that all tickets are drawn
 pub told_arms : (old new : PassState) → new ≡ record old { tickets_out = true } → HasArmed [] old new
