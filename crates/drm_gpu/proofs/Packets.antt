@@ -10,7 +10,7 @@ use Rattle.drm_state.specs.declared.journal.JobRecord.{JobRecord}
 use Rattle.drm_state.specs.declared.answer.Refusal.{Refusal}
 use Rattle.drm_state.specs.declared.answer.Refusal.TheVariants.{Idle}
 use Rattle.drm_sched.specs.declared.marked.Begun.TheVariants.{Work}
-use Rattle.drm_sched.specs.Begun.{HasBegun, IsReport, KeepsTasks, MayComeBack, MayRun, out_or}
+use Rattle.drm_sched.specs.Begun.{HasBegun, HasReported, IsReport, KeepsTasks, MayComeBack, MayRun, out_or}
 use Rattle.drm_sched.specs.Marks.{Mark, MarkedDevice, Task, IsBusy, buffer_out, is_in_way, is_out, mark_for, mark_of, out_by, packet_at, ring_out}
 use Rattle.drm_state.specs.Refusals.{step_refusal}
 use Rattle.drm_state.specs.Ring.{current_of}
@@ -132,3 +132,9 @@ job_later d e out is on = record { copy = later (slice_get d.state.journal out.f
 -- and may be reported once it ran
 pub may_report : (d : MarkedDevice) (out : OutPacket) → IsPacketOfItsJob d out → IsBusy d (task_of out) → IsReport d out.ring (written out) out.read
 may_report d out is busy = ((task_of out).mark, out.copy, busy, is.copy, refl, refl)
+
+-- what was reported then is that packet
+pub reported_is : (d e : MarkedDevice) (out : OutPacket) (ran : ℕ × ℕ) → IsBusy d (task_of out) → HasReported d out.ring ran e → HasReported d out.ring (out.fence, out.packet) e
+reported_is d e out ran busy (m, packet, mark, at, is, new, none, step) =
+    let same : (task_of out).mark ≡ m = let both : Some (task_of out).mark ≡ Some m = sym busy ∙ mark in cc (both) in
+    (m, packet, mark, at, ap (λ (x : Mark). (x.fence, x.packet)) same, new, none, step)

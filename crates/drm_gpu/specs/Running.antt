@@ -13,6 +13,7 @@ use Rattle.ww_lock.specs.Fences.{NotBack}
 use Rattle.ww_lock.specs.Parts.{IsWhole}
 use Rattle.ww_lock.specs.Rule.{In}
 use Rattle.drm_gpu.specs.declared.running.OutPacket.{OutPacket}
+use Rattle.drm_gpu.specs.declared.running.RanPacket.{RanPacket}
 use Rattle.drm_gpu.specs.declared.running.Sent.{Sent}
 use Rattle.drm_gpu.specs.declared.running.Sent.TheVariants as sent
 use Rattle.drm_gpu.specs.declared.running.StartError.{StartError}
@@ -81,6 +82,13 @@ pub record SeatHasOut (gpu : GpuState) (out : OutPacket) (s : DeviceSeat) : Type
   pub none : s.held.items ≡ []
   pub waits : (sees s).task ≡ Some (task_of out)
   pub job : IsPacketOfItsJob (last_of (sees s)) out
+
+-- a seat whose packet was out and has run
+pub record SeatHasRun (gpu : GpuState) (ran : RanPacket) (s : DeviceSeat) : Type 0 where
+  pub sent : OutPacket
+  pub has : SeatHasOut gpu sent s
+  pub task : ran.task ≡ task_of sent
+  pub bytes : ran.out ≡ record sent { write = written sent }
 
 -- the packet went out of the device that was found
 pub record GoesOut (gpu : GpuState) (ring : ℕ) (out : OutPacket) (v : Seeing) (s : DeviceSeat) : Type 0 where
