@@ -1,5 +1,5 @@
 //! A submission that takes its locks.
-ghost use Rattle.std.specs.Prelude.{◌≡◌, ◌<◌, ◌∷◌, ◌⊎◌, ℕ, [], length, true, false, IfOk, IfErr, IfSome, MatchOption, option_map, slice_get};
+ghost use Rattle.std.specs.Prelude.{◌≡◌, ◌<◌, ℕ, List, [], length, true, false, IfOk, IfErr, MatchOption, option_map, slice_get};
 ghost use Rattle.ww_lock.specs.Held.{Lacks};
 ghost use Rattle.ww_lock.specs.Rule.{In};
 ghost use Rattle.ww_lock.specs.Steps.{without};
@@ -8,7 +8,9 @@ ghost use Rattle.drm_state.specs.Held.{kept_of, HoldsAll};
 ghost use Rattle.drm_job.specs.Fault.{IsJob};
 ghost use Rattle.ww_lock.specs.Acquiring.{view};
 ghost use Rattle.drm_gpu.specs.Passes.{pass_of};
-ghost use Rattle.drm_gpu.specs.Submissions.{Declares, Holding, HoldsNoMore, IsNewTicket, TriesLock, draws, Claims, ClaimsMore, Locks, GoesOn, WentOn};
+ghost use Rattle.drm_job.specs.declared.Draft.{Draft};
+ghost use Rattle.drm_gpu.specs.Rounds.{Declares};
+ghost use Rattle.drm_gpu.specs.Submissions.{BacksOff, Claims, HasTaken, Holding, HoldsNoMore, IsNewTicket, Locks, LocksAll, LocksFirst, LocksOn, TriesLock, claims_one, draws, numbers_of};
 ghost use Rattle.drm_gpu.specs.Status.{AnswersStatus};
 ghost use Rattle.drm_gpu.specs.Begun.{IsBack, IsBackFromRead};
 
@@ -115,10 +117,9 @@ pub(crate) fn give_up(gpu: &Gpu, acquire: DeviceAcquire) -> Pass
 fn hold<R: Wait>(gpu: &Gpu, acquire: &mut DeviceAcquire, buffer: BufferId, rt: &R) -> bool
     requires holding { Holding gpu.now acquire.old × (acquire.old.sealed ≡ false) }
     requires buffer { buffer < length gpu.now.spec.buffers }
-    ensures on { WentOn gpu.now acquire.old acquire.new }
-    ensures keeps { (d : ℕ) (x : WithRoom) → In (d, x) acquire.old.seat.held.items → In (d, x) acquire.new.seat.held.items }
-    ensures only { (d : ℕ) (x : WithRoom) → In (d, x) acquire.new.seat.held.items → (d ≡ buffer) ⊎ In (d, x) acquire.old.seat.held.items }
-    ensures held { result ≡ true → (x : WithRoom) × In (buffer, x) acquire.new.seat.held.items }
+    ensures held { result ≡ true → In buffer (numbers_of acquire.new) }
+    ensures locked { result ≡ true → (job : Draft) → Declares job buffer → LocksOn gpu.now job acquire.old acquire.new }
+    ensures backs_off { result ≡ false → (job : Draft) → Declares job buffer → BacksOff gpu.now job buffer acquire.old acquire.new }
 {
     match gpu.board.lock(acquire, buffer, rt) {
         Ok(()) => true,
@@ -132,8 +133,7 @@ fn hold<R: Wait>(gpu: &Gpu, acquire: &mut DeviceAcquire, buffer: BufferId, rt: &
 fn lock_first<R: Wait>(gpu: &Gpu, acquire: &mut DeviceAcquire, buffer: BufferId, rt: &R)
     requires holding { Holding gpu.now acquire.old × (acquire.old.sealed ≡ false) × (acquire.old.seat.held.items ≡ []) }
     requires buffer { buffer < length gpu.now.spec.buffers }
-    ensures on { WentOn gpu.now acquire.old acquire.new }
-    ensures held { (x : WithRoom) × (acquire.new.seat.held.items ≡ (buffer, x) ∷ []) }
+    ensures { LocksFirst gpu.now buffer acquire.old acquire.new }
 {
     let Ok(()) = gpu.board.lock_slow(acquire, buffer, rt) else {
         unreachable!()
@@ -149,10 +149,8 @@ fn lock_declared<R: Wait>(
 ) -> Option<BufferId>
     requires holding { Holding gpu.now acquire.old × (acquire.old.sealed ≡ false) }
     requires job { IsJob gpu.now.spec job.now }
-    ensures on { WentOn gpu.now acquire.old acquire.new }
-    ensures locked { MatchOption result (HoldsAll job.now (kept_of acquire.new.seat.held.items)) (λ b. b < length gpu.now.spec.buffers) }
-    ensures contended { IfSome result (Declares job.now) }
-    ensures only { HoldsNoMore job.now acquire.old.seat.held.items acquire.new.seat.held.items }
+    ensures on { MatchOption result (LocksOn gpu.now job.now acquire.old acquire.new) (λ b. BacksOff gpu.now job.now b acquire.old acquire.new) }
+    ensures there { MatchOption result (HoldsAll job.now (kept_of acquire.new.seat.held.items)) (λ b. b < length gpu.now.spec.buffers) }
 {
     jobs_are_the_sound_drafts();
     for place in 0..job.declared().len() {
@@ -191,13 +189,13 @@ fn holds_all(held: &[(BufferId, Resv)], job: &Job) -> bool
     true
 }
 
-// Locks every buffer that the job declares, and begins anew with the one for which it had to back off.
+// Locks every buffer that the job declares. Where it has to back off it gives everything back, and begins anew with the
+// buffer that was contended.
 fn hold_all<R: Wait>(gpu: &Gpu, acquire: &mut DeviceAcquire, job: &Job, rt: &R)
     requires holding { Holding gpu.now acquire.old × (acquire.old.sealed ≡ false) }
     requires job { IsJob gpu.now.spec job.now }
-    ensures on { WentOn gpu.now acquire.old acquire.new }
+    ensures rounds { HasTaken gpu.now job.now acquire.old acquire.new }
     ensures all { HoldsAll job.now (kept_of acquire.new.seat.held.items) }
-    ensures only { HoldsNoMore job.now acquire.old.seat.held.items acquire.new.seat.held.items }
 {
     for _ in rt.forever() {
         let Some(contended) = lock_declared(gpu, acquire, job, rt) else {
@@ -279,7 +277,7 @@ impl Gpu {
         requires pass { pass.gpu ≡ self.now }
         requires buffer { buffer < length self.now.spec.buffers }
         ensures begun { IfOk result (λ r. r.buffer ≡ buffer) }
-        ensures ticket { IfOk result (λ r. (t : ℕ) × IsNewTicket pass t × ClaimsMore t (draws t pass) r.pass) }
+        ensures ticket { IfOk result (λ r. (t : ℕ) × (waited : List ℕ) × IsNewTicket pass t × (r.pass ≡ claims_one t buffer waited (draws t pass))) }
         ensures tickets_left { IfOk result (λ _. pass.tickets_out ≡ false) }
         ensures refused { IfErr result (IsBackFromRead pass) }
     {
@@ -396,9 +394,10 @@ impl<'g> Locking<'g> {
         release_all(gpu, &mut self.acquire);
     }
 
-    /// Locks every buffer that the job declares, and no other, and begins anew with the one for which it had to back off.
+    /// Locks every buffer that the job declares, and no other. Where it is told to back off it gives back everything
+    /// that it holds, and begins anew with the buffer that was contended, for whose holder it waits.
     pub fn lock_all<R: Wait>(self, rt: &R) -> Locked<'g>
-        ensures same { GoesOn self.entry result }
+        ensures rounds { LocksAll self.entry result }
         ensures holds { HoldsAll result.job result.held }
         ensures only { HoldsNoMore result.job self.entry.held result.held }
     {

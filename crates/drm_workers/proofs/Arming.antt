@@ -15,7 +15,7 @@ use Rattle.drm_gpu.specs.Answers.{CountsAre, FinishIs, PickIs, StepIs, TimeoutIs
 use Rattle.drm_gpu.specs.Laws.{reflexive, transitive}
 use Rattle.drm_gpu.specs.Passes.{Calls, GrowsTo, PassState}
 use Rattle.drm_gpu.specs.Running.{RunningState, Starts}
-use Rattle.drm_gpu.specs.Submissions.{ArmIs, ArmRefused, GoesOn, Submission, draws}
+use Rattle.drm_gpu.specs.Submissions.{ArmIs, ArmRefused, LocksAll, Submission, draws}
 use Rattle.drm_report.specs.Armings.{ArmedJobsStay, OnlyArmingsArm, armings}
 use Rattle.drm_report.specs.Jobs.{JobAt}
 use Rattle.drm_workers.specs.Armings.{ArmsNoMore, HasArmed}
@@ -89,8 +89,8 @@ draw_arms ticket old new is = stays old new (ap (λ p. p.gpu) is) (ap (λ p. p.l
 pub told_arms : (old new : PassState) → new ≡ record old { tickets_out = true } → HasArmed [] old new
 told_arms old new is = stays old new (ap (λ p. p.gpu) is) (ap (λ p. p.last) is) (ap (λ p. p.calls) is)
 
-pub locks_arm : (old new : Submission) → GoesOn old new → HasArmed [] old.pass new.pass
-locks_arm old new on = stays old.pass new.pass (ap (λ p. p.gpu) on.2.pass) (ap (λ p. p.last) on.2.pass) (ap (λ p. p.calls) on.2.pass)
+pub locks_arm : (old new : Submission) → LocksAll old new → HasArmed [] old.pass new.pass
+locks_arm old new on = stays old.pass new.pass (ap (λ p. p.gpu) on.pass) (ap (λ p. p.last) on.pass) (ap (λ p. p.calls) on.pass)
 
 pub packet_arms : OnlyArmingsArm → (ring : ℕ) (x : Result Stepped StepError) (old new : PassState) (out : RunningState) → Starts ring old out → Calls (StepIs out.ring x) out.pass new → ArmsNoMore old new
 packet_arms law ring x old new out s c = nothing_then old out.pass new (s.gpu, ap (λ (p : PassState). armings p.calls) s.pass) (step_arms law out.ring x out.pass new c)
