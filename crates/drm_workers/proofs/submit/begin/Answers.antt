@@ -15,5 +15,5 @@ returns-then-not-make-clause-back g c =
     let back = subst (λ e. IsBack c.loop.pass c.loop.job e) c.in-Err-Memory.field-0-is c.in-Err-Memory.ensures.refused in
     same_pass c.args.pass c.in-Err-Memory.same (back.0 ∙ c.loop.invariant.0)
 
-pub returns-clause-begun : goal.returns-clause-begun
-returns-clause-begun g c = (draw_arms c.in-Ok.locking.ticket c.args.pass c.in-Ok.locking.pass (c.in-Ok.ensures.begun.0 ∙ ap (draws c.in-Ok.locking.ticket) c.loop.invariant.0), c.in-Ok.ensures.begun.1 ∙ c.loop.invariant.1)
+pub returns-in-Ok-clause-begun : goal.returns-in-Ok-clause-begun
+returns-in-Ok-clause-begun g c = (draw_arms c.in-Ok.locking.ticket c.args.pass c.in-Ok.locking.pass (c.in-Ok.ensures.begun.0 ∙ ap (draws c.in-Ok.locking.ticket) c.loop.invariant.0), c.in-Ok.ensures.begun.1 ∙ c.loop.invariant.1)
