@@ -25,12 +25,12 @@ held_over s p d e good_d good_e grows f g =
     the_same x y is = let pair : ◌≡◌ {A = ℕ × Reservation} (s.buffer, x) (s.buffer, y) = cc (is) in ap (λ (p : ℕ × Reservation). p.1) pair
 
 pub agree : BytesStay → ReadbacksAgree
-agree stays s a b u (Ok v) old new kept found one other =
-    let grows : GrowsTo one.found other.found = subst (λ d. GrowsTo d other.found) one.event.3 other.later in
-    let held = held_over s a one.found other.found one.lawful other.lawful grows one.event.4 other.event.4 in
+agree stays s a b c u (Ok v) old new kept found one looked other =
+    let grows : GrowsTo one.found other.found = subst (λ d. GrowsTo d other.found) (ap (λ (p : PassState). p.last) looked.1 ∙ one.event.3) other.later in
+    let held = held_over s b one.found other.found one.lawful other.lawful grows one.event.4 other.event.4 in
     (refl, other.event.2 ∙ (stays.bytes s.buffer one.event.4.0 one.found.state other.found.state held one.event.1 ∙ sym one.event.2))
-agree stays s a b u (Err (Busy f)) old new kept found one other =
-    let grows : GrowsTo one.found other.found = subst (λ d. GrowsTo d other.found) one.event.3 other.later in
-    let held = held_over s a one.found other.found one.lawful other.lawful grows one.event.4 other.event.5 in
+agree stays s a b c u (Err (Busy f)) old new kept found one looked other =
+    let grows : GrowsTo one.found other.found = subst (λ d. GrowsTo d other.found) (ap (λ (p : PassState). p.last) looked.1 ∙ one.event.3) other.later in
+    let held = held_over s b one.found other.found one.lawful other.lawful grows one.event.4 other.event.5 in
     absurd (other.event.1 (stays.ended s.buffer one.event.4.0 one.found.state other.found.state held one.event.1))
-agree stays s a b u (Err r) old new kept found one other = absurd other.event
+agree stays s a b c u (Err r) old new kept found one looked other = absurd other.event

@@ -1,8 +1,8 @@
 -- What a call tells of its pass.
 use Rattle.std.proofs.Common.{◌≡◌, ℕ, [], ◌∷◌, ◌++◌, refl, sym, ap, ◌∙◌, subst, ⊎_elim, Some, None, Result, Ok, Err}
-use Rattle.std.specs.Prelude.{◌||◌, Option, IfOk, IfErr, OnOk, IsPermutation}
+use Rattle.std.specs.Prelude.{◌||◌, IfOk, IfErr, OnOk, IsPermutation}
 use Rattle.atomic_table.specs.Seated.{TableId}
-use Rattle.ww_lock.specs.Begun.{IsJoined, sees}
+use Rattle.ww_lock.specs.Seats.{IsJoined, sees}
 use Rattle.ww_lock.specs.Fences.{NotBack}
 use Rattle.ww_lock.specs.Parts.{IsWhole}
 use Rattle.ww_lock.specs.Rule.{In}
@@ -13,12 +13,12 @@ use Rattle.drm_state.specs.declared.errors.CancelError.{CancelError}
 use Rattle.drm_state.specs.declared.errors.PickError.{PickError}
 use Rattle.drm_state.specs.Errors.{refusal_of_cancel, refusal_of_pick}
 use Rattle.drm_state.specs.Answers.{picked}
-use Rattle.drm_sched.specs.Marks.{MarkedDevice, Task, IsBusy}
+use Rattle.drm_sched.specs.Marks.{MarkedDevice, IsBusy}
 use Rattle.drm_state.specs.Outcomes.{pick_outcome, cancelled_device}
 use Rattle.drm_state.specs.Refusals.{pick_refusal, cancel_refusal}
 use Rattle.drm_gpu.specs.declared.running.OutPacket.{OutPacket}
 use Rattle.drm_gpu.specs.Answers.{PickIs, CancelIs}
-use Rattle.drm_gpu.specs.Passes.{GpuState, PassState, Seeing, DeviceSeat, Knows, KnowsWith, IsJoinedOf, IsPassSeat, HasWaited, IsFound, IsGood, IsSameBut, Adds, Calls, CallsAs, GrowsTo, word_shown, last_of, gpu_of, pass_of}
+use Rattle.drm_gpu.specs.Passes.{GpuState, PassState, Seeing, DeviceSeat, Noted, Knows, Seated, IsJoinedOf, HasWaited, IsFound, IsGood, IsSameBut, Adds, Calls, CallsAs, GrowsTo, word_shown, last_of, gpu_of, noted, pass_of}
 use Rattle.drm_gpu.specs.Running.{GoesOut, Starts}
 use Rattle.drm_gpu.proofs.Chains.{saw}
 use Rattle.drm_gpu.proofs.Grown.{grows_itself, grows_trans}
@@ -26,15 +26,19 @@ use Rattle.drm_gpu.proofs.Grown.{grows_itself, grows_trans}
 same_gpu : (gpu : GpuState) (h : TableId) (s : DeviceSpec) → h ≡ gpu.home → s ≡ gpu.spec → record { home = h; spec = s } ≡ gpu
 same_gpu gpu h s e f = ap (λ h. record { home = h; spec = s }) e ∙ ap (λ s. record { home = gpu.home; spec = s }) f
 
-pub at_gpu : (gpu : GpuState) (t : DeviceSeat) → IsPassSeat gpu t → gpu_of t.place.table_id (sees t) ≡ gpu
-at_gpu gpu t k = same_gpu gpu t.place.table_id (last_of (sees t)).state.spec k.idle.0.0 k.knows.described
+-- the device that a seat of it is at
+pub at_gpu : (gpu : GpuState) (t : DeviceSeat) → Seated gpu t → gpu_of t.place.table_id (sees t) ≡ gpu
+at_gpu gpu t k = same_gpu gpu t.place.table_id (last_of (sees t)).state.spec k.sits.seated k.knows.described
+
+pub of_gpu : (gpu : GpuState) (v : Seeing) → Knows gpu.spec (last_of v) v → gpu_of gpu.home v ≡ gpu
+of_gpu gpu v k = same_gpu gpu gpu.home (last_of v).state.spec refl k.described
 
 -- who has seen one pivot has seen no other
-only_seen : {task : Option Task} (spec : DeviceSpec) (v : Seeing) (p : MarkedDevice) → KnowsWith task spec (last_of v) v → In p v.pivot.seen → p ≡ last_of v
+only_seen : (spec : DeviceSpec) (v : Seeing) (p : MarkedDevice) → Knows spec (last_of v) v → In p v.pivot.seen → p ≡ last_of v
 only_seen spec v p k seen = ⊎_elim (λ is. is) (λ never. absurd never) (subst (In p) k.seen seen)
 
 -- what a caller is told of the device that it finds
-pub is_found : {task : Option Task} (spec : DeviceSpec) (v : Seeing) (p : MarkedDevice) → KnowsWith task spec (last_of v) v → IsLater IsGood GrowsTo word_shown IsBusy v p → IsFound p v
+pub is_found : (spec : DeviceSpec) (v : Seeing) (p : MarkedDevice) → Knows spec (last_of v) v → IsLater IsGood GrowsTo word_shown IsBusy v p → IsFound p v
 is_found spec v p k later = record {
   lawful = later.fine;
   later = later.grown (last_of v) (saw spec (last_of v) v k);
@@ -49,26 +53,41 @@ waits_not v = (grows_itself (last_of v), λ all. refl)
 pub waited : (d : MarkedDevice) (v w : Seeing) → IsFound d v → last_of w ≡ d → HasWaited v w
 waited d v w f is = (subst (GrowsTo (last_of v)) (sym is) f.later, λ all. is ∙ f.alone all)
 
+-- the part of the device that a caller has is one of what it noted
+whole_on : (v s : Seeing) → noted s ≡ noted v → IsWhole v.part → IsWhole s.part
+whole_on v s same all = subst (λ (n : Noted). IsWhole n.part) (sym same) all
+
+looked_on : (d : MarkedDevice) (v s : Seeing) → noted s ≡ noted v → ((fence word : ℕ) → In (fence, word) s.looked → NotBack word (word_shown d fence)) → (fence word : ℕ) → In (fence, word) v.looked → NotBack word (word_shown d fence)
+looked_on d v s same shows fence word i = shows fence word (subst (λ (n : Noted). In (fence, word) n.looked) (sym same) i)
+
 pub waited_on : (v s t : Seeing) → HasWaited v s → IsSameBut v s → HasWaited s t → HasWaited v t
-waited_on v s t one same two = (grows_trans (last_of v) (last_of s) (last_of t) one.0 two.0, λ all. two.1 (subst IsWhole (sym same.4) all) ∙ one.1 all)
+waited_on v s t one same two = (grows_trans (last_of v) (last_of s) (last_of t) one.0 two.0, λ all. two.1 (whole_on v s same.1 all) ∙ one.1 all)
 
 -- a pass of which only the last device and the calls are others
-pass_is : (gpu : GpuState) (old new : PassState) (found : MarkedDevice) → old.gpu ≡ gpu → new.gpu ≡ gpu → new.calls ≡ old.calls ++ (found, new.last) ∷ [] → new.looked ≡ old.looked
-    → new.had ≡ old.had → new.met ≡ old.met → new.part ≡ old.part → new.tickets_out ≡ old.tickets_out → new ≡ record old { last = new.last; calls = old.calls ++ (found, new.last) ∷ [] }
-pass_is gpu old new found at same calls looked had met part tickets =
-    λ i. record { gpu = (same ∙ sym at) i; last = new.last; calls = calls i; looked = looked i; had = had i; met = met i; tickets_out = tickets i; part = part i }
+pass_is : (gpu : GpuState) (old new : PassState) (found : MarkedDevice) (v t : Seeing) (home after : TableId) → pass_of home v ≡ old → new ≡ pass_of after t → old.gpu ≡ gpu → new.gpu ≡ gpu
+    → t.pivot.mine ≡ v.pivot.mine ++ (found, last_of t) ∷ [] → noted t ≡ noted v → new ≡ record old { last = new.last; calls = old.calls ++ (found, new.last) ∷ [] }
+pass_is gpu old new found v t home after was is at same mine note =
+    let all : new.looked ≡ old.looked = ap (λ (p : PassState). p.looked) is ∙ (ap (λ (n : Noted). n.looked) note ∙ ap (λ (p : PassState). p.looked) was) in
+    let had : new.had ≡ old.had = ap (λ (p : PassState). p.had) is ∙ (ap (λ (n : Noted). n.had) note ∙ ap (λ (p : PassState). p.had) was) in
+    let met : new.met ≡ old.met = ap (λ (p : PassState). p.met) is ∙ (ap (λ (n : Noted). n.met) note ∙ ap (λ (p : PassState). p.met) was) in
+    let drew : new.drew ≡ old.drew = ap (λ (p : PassState). p.drew) is ∙ (ap (λ (n : Noted). n.drew) note ∙ ap (λ (p : PassState). p.drew) was) in
+    let out : new.tickets_out ≡ old.tickets_out = ap (λ (p : PassState). p.tickets_out) is ∙ (ap (λ (n : Noted). n.tickets_out) note ∙ ap (λ (p : PassState). p.tickets_out) was) in
+    let part : new.part ≡ old.part = ap (λ (p : PassState). p.part) is ∙ (ap (λ (n : Noted). n.part) note ∙ ap (λ (p : PassState). p.part) was) in
+    let calls : new.calls ≡ old.calls ++ (found, new.last) ∷ [] =
+    ap (λ (p : PassState). p.calls) is ∙ (mine ∙ (ap (λ (p : PassState). p.calls ++ (found, last_of t) ∷ []) was ∙ ap (λ (p : PassState). old.calls ++ (found, p.last) ∷ []) (sym is))) in
+    λ i. record { gpu = (same ∙ sym at) i; last = new.last; calls = calls i; looked = all i; had = had i; met = met i; drew = drew i; tickets_out = out i; part = part i }
 
 -- nothing but what was seen last has changed, twice
 pub same_trans : (v s t : Seeing) → IsSameBut v s → IsSameBut s t → IsSameBut v t
-same_trans v s t a b = (b.0 ∙ a.0, b.1 ∙ a.1, b.2 ∙ a.2, b.3 ∙ a.3, b.4 ∙ a.4, b.5 ∙ a.5)
+same_trans v s t a b = (b.0 ∙ a.0, b.1 ∙ a.1)
 
 -- what a caller finds that has seen more meanwhile
 pub found_back : (d : MarkedDevice) (v s : Seeing) → HasWaited v s → IsSameBut v s → IsFound d s → IsFound d v
 found_back d v s on same f = record {
   lawful = f.lawful;
   later = grows_trans (last_of v) (last_of s) d on.0 f.later;
-  shows = λ fence word i. f.shows fence word (subst (In (fence, word)) (sym same.1) i);
-  alone = λ all. f.alone (subst IsWhole (sym same.4) all) ∙ on.1 all;
+  shows = looked_on d v s same.1 f.shows;
+  alone = λ all. f.alone (whole_on v s same.1 all) ∙ on.1 all;
 }
 
 -- a caller that saw v entered and saw s, found d and left e, and sees t
@@ -85,10 +104,6 @@ calls_as does v s t d f e found same is on out adds holds =
       adds = (
         adds.0 ∙ (ap (λ cs. cs ++ (f, e) ∷ []) same.0 ∙ (ap (λ x. v.pivot.mine ++ (x, e) ∷ []) is ∙ ap (λ x. v.pivot.mine ++ (d, x) ∷ []) last)),
         adds.1 ∙ same.1,
-        adds.2 ∙ same.2,
-        adds.3 ∙ same.3,
-        adds.4 ∙ same.4,
-        adds.5 ∙ same.5,
       );
     }
 
@@ -99,11 +114,11 @@ calls_after does v s t on left same c = record {
   found = c.found;
   lawful = c.lawful;
   later = grows_trans (last_of v) (last_of s) c.found on c.later;
-  shows = λ fence word i. c.shows fence word (subst (In (fence, word)) (sym same.1) i);
-  alone = λ all. c.alone (subst IsWhole (sym same.4) all) ∙ left all;
+  shows = looked_on c.found v s same.1 c.shows;
+  alone = λ all. c.alone (whole_on v s same.1 all) ∙ left all;
   event = c.event;
   onward = c.onward;
-  adds = (c.adds.0 ∙ ap (λ cs. cs ++ (c.found, last_of t) ∷ []) same.0, c.adds.1 ∙ same.1, c.adds.2 ∙ same.2, c.adds.3 ∙ same.3, c.adds.4 ∙ same.4, c.adds.5 ∙ same.5);
+  adds = (c.adds.0 ∙ ap (λ cs. cs ++ (c.found, last_of t) ∷ []) same.0, c.adds.1 ∙ same.1);
 }
 
 -- what a caller that saw v and sees t tells of its pass, which was old
@@ -118,21 +133,16 @@ calls_are does gpu old home after v t view belongs at c = record {
   event = c.event;
   onward = c.onward;
   gpu = at ∙ sym belongs;
-  pass = pass_is gpu old (pass_of after t) c.found belongs at
-      (c.adds.0 ∙ ap (λ (o : PassState). o.calls ++ (c.found, last_of t) ∷ []) view)
-      (c.adds.1 ∙ ap (λ (o : PassState). o.looked) view)
-      (c.adds.2 ∙ ap (λ (o : PassState). o.had) view)
-      (c.adds.3 ∙ ap (λ (o : PassState). o.met) view)
-      (c.adds.4 ∙ ap (λ (o : PassState). o.part) view)
-      (c.adds.5 ∙ ap (λ (o : PassState). o.tickets_out) view);
+  pass = pass_is gpu old (pass_of after t) c.found v t home after view refl belongs at c.adds.0 c.adds.1;
 }
 
 -- the same where a packet of a ring went out
 pub started_of : (gpu : GpuState) (old : PassState) (home : TableId) (ring : ℕ) (out : OutPacket) (v : Seeing) (s : DeviceSeat) → pass_of home v ≡ old → old.gpu ≡ gpu → GoesOut gpu ring out v s
     → Starts ring old (record { pass = pass_of gpu.home (sees s); ring = out.ring; fence = out.fence; packet = out.packet })
 started_of gpu old home ring out v s view belongs o =
-    let at : gpu_of gpu.home (sees s) ≡ gpu = same_gpu gpu gpu.home (last_of (sees s)).state.spec refl o.has.seat.knows.described in
+    let at : gpu_of gpu.home (sees s) ≡ gpu = of_gpu gpu (sees s) o.has.seated.knows in
     let new = pass_of gpu.home (sees s) in
+    let note = o.same.1 in
     record {
       found = o.found;
       lawful = o.is_found.lawful;
@@ -149,11 +159,12 @@ started_of gpu old home ring out v s view belongs o =
         gpu = (at ∙ sym belongs) i;
         last = new.last;
         calls = (o.same.0 ∙ ap (λ (p : PassState). p.calls) view) i;
-        looked = (o.same.1 ∙ ap (λ (p : PassState). p.looked) view) i;
-        had = (o.same.2 ∙ ap (λ (p : PassState). p.had) view) i;
-        met = (o.same.3 ∙ ap (λ (p : PassState). p.met) view) i;
-        tickets_out = (o.same.5 ∙ ap (λ (p : PassState). p.tickets_out) view) i;
-        part = (o.same.4 ∙ ap (λ (p : PassState). p.part) view) i;
+        looked = (ap (λ (n : Noted). n.looked) note ∙ ap (λ (p : PassState). p.looked) view) i;
+        had = (ap (λ (n : Noted). n.had) note ∙ ap (λ (p : PassState). p.had) view) i;
+        met = (ap (λ (n : Noted). n.met) note ∙ ap (λ (p : PassState). p.met) view) i;
+        drew = (ap (λ (n : Noted). n.drew) note ∙ ap (λ (p : PassState). p.drew) view) i;
+        tickets_out = (ap (λ (n : Noted). n.tickets_out) note ∙ ap (λ (p : PassState). p.tickets_out) view) i;
+        part = (ap (λ (n : Noted). n.part) note ∙ ap (λ (p : PassState). p.part) view) i;
       };
     }
 
@@ -165,7 +176,7 @@ calls_of does gpu old home after v s t d f e view belongs found same is on at ou
 
 -- a seat r that a pass was opened to entered as s, found d and left e as t
 pub called : (does : MarkedDevice → MarkedDevice → Type 0) (gpu : GpuState) (old : PassState) (home : TableId) (r s t : DeviceSeat) (d f e : MarkedDevice) → pass_of home (sees r) ≡ old → old.gpu ≡ gpu
-    → IsFound d (sees r) → IsSameBut (sees r) (sees s) → f ≡ d → GrowsTo d e → IsPassSeat gpu t × (last_of (sees t) ≡ e) → Adds f e (sees s) (sees t) → does d e
+    → IsFound d (sees r) → IsSameBut (sees r) (sees s) → f ≡ d → GrowsTo d e → Seated gpu t × (last_of (sees t) ≡ e) → Adds f e (sees s) (sees t) → does d e
     → Calls does old (pass_of t.place.table_id (sees t))
 called does gpu old home r s t d f e view belongs found same is on out adds holds =
     calls_of does gpu old home t.place.table_id (sees r) (sees s) (sees t) d f e view belongs found same is on (at_gpu gpu t out.0) out.1 adds holds
@@ -182,7 +193,7 @@ cancel_is d e entity (Err x) ok err marks = err
 
 -- what a joined pass shows, where the first pass was opened to v, the other to u, and the joined seat is t
 pub joined_of : (gpu : GpuState) (one other : PassState) (h k : TableId) (v u : Seeing) (t : DeviceSeat) → pass_of h v ≡ one → pass_of k u ≡ other → one.gpu ≡ gpu → Knows gpu.spec (last_of v) v → Knows gpu.spec (last_of u) u
-    → IsPassSeat gpu t → (j : IsJoined GrowsTo v u (sees t)) → IsJoinedOf one other (pass_of t.place.table_id (sees t))
+    → Seated gpu t → (j : IsJoined GrowsTo v u (sees t)) → IsJoinedOf one other (pass_of t.place.table_id (sees t))
 joined_of gpu one other h k v u t first second belongs kv ku seat j =
     let last : last_of (sees t) ≡ j.0 = ap (λ (z : Seeing). last_of z) j.2 in
     let mine : (sees t).pivot.mine ≡ j.1 = ap (λ (z : Seeing). z.pivot.mine) j.2 in
@@ -199,6 +210,7 @@ joined_of gpu one other h k v u t first second belongs kv ku seat j =
       looked = ap (λ (z : Seeing). z.looked) j.2 ∙ (ap (λ (o : PassState). o.looked ++ u.looked) first ∙ ap (λ (o : PassState). one.looked ++ o.looked) second);
       had = ap (λ (z : Seeing). z.lock.had) j.2 ∙ (ap (λ (o : PassState). o.had ++ u.lock.had) first ∙ ap (λ (o : PassState). one.had ++ o.had) second);
       met = ap (λ (z : Seeing). z.lock.met) j.2 ∙ (ap (λ (o : PassState). o.met ++ u.lock.met) first ∙ ap (λ (o : PassState). one.met ++ o.met) second);
+      drew = ap (λ (z : Seeing). z.lock.drew) j.2 ∙ (ap (λ (o : PassState). o.drew ++ u.lock.drew) first ∙ ap (λ (o : PassState). one.drew ++ o.drew) second);
       tickets_out = ap (λ (z : Seeing). z.lock.ended) j.2 ∙ (ap (λ (o : PassState). o.tickets_out || u.lock.ended) first ∙ ap (λ (o : PassState). one.tickets_out || o.tickets_out) second);
       part = ap (λ (z : Seeing). z.part) j.2 ∙ (ap (λ (o : PassState). o.part ++ u.part) first ∙ ap (λ (o : PassState). one.part ++ o.part) second);
     }

@@ -1,24 +1,22 @@
 -- What a caller that holds values knows goes on to hold.
-use Rattle.std.proofs.Common.{◌≡◌, ◌<◌, ℕ, length, slice_index_or, arith, List, [], ◌∷◌, ◌++◌, map, refl, sym, ap, ◌∙◌, subst, ⊎_elim, inl, inr, false}
-use Rattle.std.specs.Prelude.{Bool, true, not, ◌&&◌, ◌==◌, if◌then◌else◌}
-use Rattle.ww_lock.specs.Acquiring.{HoldsInside, HoldsOutside, IsAsOwed, view}
-use Rattle.ww_lock.specs.Held.{IsSameKeys, IsApart, HasAt}
+use Rattle.std.proofs.Common.{◌≡◌, ◌<◌, ◌≤◌, ◌+◌, ℕ, length, slice_index_or, arith, List, [], ◌∷◌, map, refl, sym, ap, ◌∙◌, subst, ⊎_elim, inl, inr, false, vec_capacity}
+use Rattle.std.specs.Prelude.{Bool, true, None, ◌==◌, if◌then◌else◌}
+use Rattle.ww_lock.specs.Acquiring.{HasTicket, Holds, HoldsOutside, view}
+use Rattle.ww_lock.specs.Held.{IsSameKeys, HasAt}
 use Rattle.ww_lock.specs.Rule.{In}
-use Rattle.ww_lock.specs.Steps.{with_exit, with_post, with_release, without, calls_with, number_of}
-use Rattle.ww_lock.specs.declared.board.TaskChange.TheVariants.{Same}
-use Rattle.ww_lock.specs.Begun.{IsOutside}
-use Rattle.drm_types.specs.declared.spec.DeviceSpec.{DeviceSpec}
+use Rattle.ww_lock.specs.Seats.{IsAsOwed, Sits, sees}
+use Rattle.ww_lock.specs.Steps.{with_release, without, number_of}
 use Rattle.drm_job.specs.declared.Draft.{Draft}
 use Rattle.drm_resv.specs.Reservation.{Reservation, WithRoom}
 use Rattle.drm_state.specs.Held.{kept_of, HoldsAll, AllFit}
-use Rattle.drm_state.specs.Keeps.{KeepsArmed}
+use Rattle.drm_state.specs.Keeps.{KeepsArmed, KeepsBut}
 use Rattle.drm_state.specs.Reservation.{Fits}
 use Rattle.drm_sched.specs.Marks.{MarkedDevice}
-use Rattle.drm_gpu.specs.Passes.{Seeing, DeviceSeat, IsPassSeat, GpuState, PassState, Knows, IsFound, IsSameBut, Adds, Calls, GrowsTo, first_or, blank, last_of, pass_of}
-use Rattle.drm_gpu.specs.Submissions.{DeviceAcquire, Holding, EnteredWith, Fitting, KeepsOthers}
-use Rattle.drm_gpu.proofs.Chains.{knows_called, knows_same, last_is}
-use Rattle.drm_gpu.proofs.Called.{calls_of}
-use Rattle.drm_gpu.proofs.Lists.{elem_of, key_in, in_without, at_of, in_of, contained_in, one_value}
+use Rattle.drm_gpu.specs.Passes.{IsPassSeat, Seeing, DeviceSeat, GpuState, PassState, Knows, Seated, Entered, FitsDevice, Fitting, HoldsOn, IsFound, IsSameBut, Adds, Calls, GrowsTo, last_of, pass_of}
+use Rattle.drm_gpu.specs.Submissions.{DeviceAcquire, Holding, KeepsOthers}
+use Rattle.drm_gpu.proofs.Chains.{knows_same, owes_nothing}
+use Rattle.drm_gpu.proofs.Called.{calls_of, of_gpu}
+use Rattle.drm_gpu.proofs.Lists.{elem_of, key_in, in_without, at_of, in_of, contained_in}
 
 -- ---- what is held, with its room and without
 
@@ -35,13 +33,13 @@ in_kept_of b x (y ∷ hs) h = ⊎_elim (λ e. inl (λ i. ((e i).0, (e i).1.kept)
 pub fits_kept_of : (d : MarkedDevice) (hs : List (ℕ × WithRoom)) → Fitting d (kept_of hs) → (b : ℕ) (x : WithRoom) → In (b, x) hs → Fits b d.state.journal x.kept
 fits_kept_of d hs fit b x h = fit b x.kept (in_kept_of b x hs h)
 
--- what is held fits the device that was found
-pub held_fits : (gpu : GpuState) (a : DeviceAcquire) (d : MarkedDevice) → Holding gpu a → ((b : ℕ) (y : WithRoom) → In (b, y) (view a).lock.owes → Fits b d.state.journal y.kept)
-    → (b : ℕ) (x : Reservation) → In (b, x) (kept_of a.held.items) → Fits b d.state.journal x
-held_fits gpu a d holding owes b x has =
-    let r = in_kept b x a.held.items has in
-    let y = key_in a.held.items (view a).lock.owes (sym holding.holds.keys) b r.0 r.1 in
-    subst (Fits b d.state.journal) r.2 (holding.owed b y.0 r.0 y.1 r.1 d (owes b y.0 y.1))
+-- what a seat holds fits the device that was found
+pub held_fits : (s : DeviceSeat) (d : MarkedDevice) → IsSameKeys (sees s).lock.owes s.held.items → IsAsOwed FitsDevice s → ((b : ℕ) (y : WithRoom) → In (b, y) (sees s).lock.owes → FitsDevice b d y)
+    → (b : ℕ) (x : Reservation) → In (b, x) (kept_of s.held.items) → Fits b d.state.journal x
+held_fits s d keys owed owes b x has =
+    let r = in_kept b x s.held.items has in
+    let y = key_in s.held.items (sees s).lock.owes (sym keys) b r.0 r.1 in
+    subst (Fits b d.state.journal) r.2 (owed b y.0 r.0 y.1 r.1 d (owes b y.0 y.1))
 
 -- a buffer that is not owed is not held
 pub not_held : (b : ℕ) (owes held : List (ℕ × WithRoom)) → IsSameKeys owes held → ((y : WithRoom) → In (b, y) owes → ⊥) → (y : Reservation) → In (b, y) (kept_of held) → ⊥
@@ -77,62 +75,56 @@ keeps_others job fence d e old new all keys k = record {
   words = k.words;
 }
 
--- ---- entering and leaving
+-- a call that shows a fence, of one that holds nothing or what fits on
+pub keeps_but : (fence word : ℕ) (d e : MarkedDevice) (held : List (ℕ × Reservation)) → KeepsBut fence word d.state e.state → KeepsOthers held fence word d e
+keeps_but fence word d e held k = record { place = k.place; fits = λ b x none f. k.fits b x f; word = k.word; words = k.words }
 
--- one that found p and left q, owing xs
-pub left_view : (spec : DeviceSpec) (p q r : MarkedDevice) (xs : List (ℕ × WithRoom)) (v w : Seeing) → Knows spec p v → v.pivot.posted ≡ false → GrowsTo p q → v.pivot.seen ≡ r ∷ []
-    → w ≡ with_exit true Same r q xs v → (Knows spec (last_of w) w × (last_of w ≡ q)) × Adds p q v w
-left_view spec p q r xs v w k fresh on e view =
-    let is : r ≡ p = ap (first_or blank) (sym e ∙ k.seen) in
-    let mine : w.pivot.mine ≡ v.pivot.mine ++ (p, q) ∷ [] =
-    ap (λ (z : Seeing). z.pivot.mine) view ∙ (ap (λ b. calls_with (true && not b) v.pivot.mine r q) fresh ∙ ap (λ n. v.pivot.mine ++ (n, q) ∷ []) is) in
-    let knows : Knows spec q w = knows_called spec p q v w k on (ap (λ (z : Seeing). z.pivot.seen) view) mine (ap (λ (z : Seeing). z.task) view ∙ k.waits) in
-    let last : last_of w ≡ q = last_is spec q w knows in
-    ((subst (λ d. Knows spec d w) (sym last) knows, last), (mine, ap (λ (z : Seeing). z.looked) view, ap (λ (z : Seeing). z.lock.had) view, ap (λ (z : Seeing). z.lock.met) view, ap (λ (z : Seeing). z.part) view, ap (λ (z : Seeing). z.lock.ended) view))
+-- what fitted the device found fits the one that such a call leaves
+pub fits_but : (fence word : ℕ) (d e : MarkedDevice) (held : List (ℕ × Reservation)) → KeepsBut fence word d.state e.state → Fitting d held → Fitting e held
+fits_but fence word d e held k fit b x h = k.fits b x (fit b x h)
 
--- the same, where it has shown q before
-pub shown_view : (spec : DeviceSpec) (p q r r' : MarkedDevice) (xs ys : List (ℕ × WithRoom)) (v u w : Seeing) → Knows spec p v → GrowsTo p q → v.pivot.seen ≡ r ∷ []
-    → u ≡ with_post r q xs v → w ≡ with_exit true Same r' q ys u → (Knows spec (last_of w) w × (last_of w ≡ q)) × Adds p q v w
-shown_view spec p q r r' xs ys v u w k on e post view =
-    let is : r ≡ p = ap (first_or blank) (sym e ∙ k.seen) in
-    let mine : w.pivot.mine ≡ v.pivot.mine ++ (p, q) ∷ [] =
-    ap (λ (z : Seeing). z.pivot.mine) view ∙ (ap (λ (z : Seeing). calls_with (true && not z.pivot.posted) z.pivot.mine r' q) post ∙ ap (λ n. v.pivot.mine ++ (n, q) ∷ []) is) in
-    let knows : Knows spec q w = knows_called spec p q v w k on (ap (λ (z : Seeing). z.pivot.seen) view) mine (ap (λ (z : Seeing). z.task) view ∙ (ap (λ (z : Seeing). z.task) post ∙ k.waits)) in
-    let last : last_of w ≡ q = last_is spec q w knows in (
-      (subst (λ d. Knows spec d w) (sym last) knows, last),
-      (
-        mine,
-        ap (λ (z : Seeing). z.looked) view ∙ ap (λ (z : Seeing). z.looked) post,
-        ap (λ (z : Seeing). z.lock.had) view ∙ ap (λ (z : Seeing). z.lock.had) post,
-        ap (λ (z : Seeing). z.lock.met) view ∙ ap (λ (z : Seeing). z.lock.met) post,
-        ap (λ (z : Seeing). z.part) view ∙ ap (λ (z : Seeing). z.part) post,
-        ap (λ (z : Seeing). z.lock.ended) view ∙ ap (λ (z : Seeing). z.lock.ended) post,
-      ),
-    )
+-- ---- holding on
 
--- one that owes what it holds
-pub owes_held : (fits : ℕ → MarkedDevice → WithRoom → Type 0) (a : DeviceAcquire) → IsApart a.held.items → (view a).lock.owes ≡ a.held.items → IsAsOwed fits a
-owes_held fits a apart e b x y i j p f = subst (fits b p) (one_value b x y a.held.items apart (subst (In (b, x)) e i) j) f
+-- a caller that holds, as the lock has it
+pub holds : (gpu : GpuState) (a : DeviceAcquire) → Holding gpu a → HoldsOutside gpu.home a
+holds gpu a k = record { sits = k.seat.sits; own = k.own }
+
+-- its ticket is its own at a later state of the seat
+pub own_on : (gpu : GpuState) (a : DeviceAcquire) (t : DeviceSeat) → HasTicket gpu.home a → HoldsOn a.seat t → HasTicket gpu.home (record a { seat = t })
+own_on gpu a t own on = record {
+  drawn = on.0.2 ∙ own.drawn;
+  counted = own.counted;
+  room = λ unsealed. subst (λ (h : _). gpu.home.slots ≤ vec_capacity h + 1) (sym on.0.1) (own.room unsealed);
+}
+
+pub holding_on : (gpu : GpuState) (a : DeviceAcquire) (t : DeviceSeat) → HasTicket gpu.home a → (view a).task ≡ None → HoldsOn a.seat t → Seated gpu t → Holding gpu (record a { seat = t })
+holding_on gpu a t own idle on k = record { seat = k; own = own_on gpu a t own on; idle = on.1 ∙ idle }
+
+-- a caller that has entered holds, as the lock has it
+pub inside_still : (gpu : GpuState) (found : MarkedDevice) (a : DeviceAcquire) (t : DeviceSeat) → HasTicket gpu.home a → HoldsOn a.seat t → Entered gpu found t → Holds true gpu.home (record a { seat = t })
+inside_still gpu found a t own on k = record { sits = k.sits; own = own_on gpu a t own on }
 
 -- what a caller entered with goes on where it has put back other values for the same buffers
-pub put_back : (gpu : GpuState) (found : MarkedDevice) (a b : DeviceAcquire) → EnteredWith gpu found a → view b ≡ view a → HoldsInside gpu.home b → EnteredWith gpu found b
-put_back gpu found a b k e h = record { holds = h; knows = subst (Knows gpu.spec found) (sym e) k.knows; fresh = ap (λ (z : Seeing). z.pivot.posted) e ∙ k.fresh }
+pub put_back : (gpu : GpuState) (found : MarkedDevice) (s t : DeviceSeat) → Entered gpu found s → sees t ≡ sees s → Sits true gpu.home t → Entered gpu found t
+put_back gpu found s t k e h = record { sits = h; knows = subst (Knows gpu.spec found) (sym e) k.knows; fresh = ap (λ (z : Seeing). z.pivot.posted) e ∙ k.fresh }
 
 -- a caller that saw v entered and saw s, found d and left e, and sees t
 pub called_with : (does : MarkedDevice → MarkedDevice → Type 0) (gpu : GpuState) (old : PassState) (v s t : Seeing) (d f e : MarkedDevice) → pass_of gpu.home v ≡ old → Knows gpu.spec (last_of v) v
-    → IsFound d v → IsSameBut v s → f ≡ d → GrowsTo d e → Knows gpu.spec (last_of t) t × (last_of t ≡ e) → Adds f e s t → does d e → Calls does old (pass_of gpu.home t)
-called_with does gpu old v s t d f e view before found same is on out adds holds =
-    calls_of does gpu old gpu.home gpu.home v s t d f e view
-    (sym (ap (λ (o : PassState). o.gpu) view) ∙ ap (λ (z : DeviceSpec). record { home = gpu.home; spec = z }) before.described)
-    found same is on (ap (λ (z : DeviceSpec). record { home = gpu.home; spec = z }) out.0.described) out.1 adds holds
+    → IsFound d v → IsSameBut v s → f ≡ d → GrowsTo d e → Knows gpu.spec (last_of t) t → last_of t ≡ e → Adds f e s t → does d e → Calls does old (pass_of gpu.home t)
+called_with does gpu old v s t d f e view before found same is on after out adds does_it =
+    calls_of does gpu old gpu.home gpu.home v s t d f e view (sym (ap (λ (o : PassState). o.gpu) view) ∙ of_gpu gpu v before) found same is on (of_gpu gpu t after) out adds does_it
 
 -- a caller that holds and owes what it did goes on to hold
-pub still_holds : (gpu : GpuState) (a a' : DeviceAcquire) → Holding gpu a → HoldsOutside gpu.home a' → (view a').pivot ≡ (view a).pivot → (view a').task ≡ (view a).task → (view a').lock.owes ≡ (view a).lock.owes → a'.held ≡ a.held
+pub still_holds : (gpu : GpuState) (a a' : DeviceAcquire) → Holding gpu a → HoldsOutside gpu.home a' → (view a').pivot ≡ (view a).pivot → (view a').task ≡ (view a).task → (view a').lock.owes ≡ (view a).lock.owes → a'.seat.held ≡ a.seat.held
     → Holding gpu a'
 still_holds gpu a a' k h pivot task owes held = record {
-  holds = h;
-  knows = knows_same gpu.spec (last_of (view a)) (view a) (view a') k.knows pivot task;
-  owed = λ d y w i j p f. k.owed d y w (subst (In (d, y)) owes i) (subst (λ l. In (d, w) l.items) held j) p f;
+  seat = record {
+    sits = h.sits;
+    knows = knows_same gpu.spec (view a) (view a') k.seat.knows pivot;
+    owed = λ d y w i j p f. k.seat.owed d y w (subst (In (d, y)) owes i) (subst (λ l. In (d, w) l.items) held j) p f;
+  };
+  own = h.own;
+  idle = task ∙ k.idle;
 }
 
 -- ---- giving back
@@ -143,16 +135,21 @@ first_at [] d some = absurd (omega arith)
 first_at (x ∷ xs) d some = (x.1, refl)
 
 -- a caller that has given one value back goes on to hold the others
-pub released : (gpu : GpuState) (b : ℕ) (a a' : DeviceAcquire) → Holding gpu a → HoldsOutside gpu.home a' → view a' ≡ with_release b (view a) → a'.held.items ≡ without b a.held.items → Holding gpu a'
+pub released : (gpu : GpuState) (b : ℕ) (a a' : DeviceAcquire) → Holding gpu a → HoldsOutside gpu.home a' → view a' ≡ with_release b (view a) → a'.seat.held.items ≡ without b a.seat.held.items → Holding gpu a'
 released gpu b a a' k h v e = record {
-  holds = h;
-  knows = knows_same gpu.spec (last_of (view a)) (view a) (view a') k.knows (ap (λ (z : Seeing). z.pivot) v) (ap (λ (z : Seeing). z.task) v);
-  owed = λ d y w i j p f. k.owed d y w (in_without b (d, y) (view a).lock.owes (subst (λ (z : Seeing). In (d, y) z.lock.owes) v i)).0 (in_without b (d, w) a.held.items (subst (In (d, w)) e j)).0 p f;
+  seat = record {
+    sits = h.sits;
+    knows = knows_same gpu.spec (view a) (view a') k.seat.knows (ap (λ (z : Seeing). z.pivot) v);
+    owed = λ d y w i j p f.
+        k.seat.owed d y w (in_without b (d, y) (view a).lock.owes (subst (λ (z : Seeing). In (d, y) z.lock.owes) v i)).0 (in_without b (d, w) a.seat.held.items (subst (In (d, w)) e j)).0 p f;
+  };
+  own = h.own;
+  idle = ap (λ (z : Seeing). z.task) v ∙ k.idle;
 }
 
 -- a caller that holds nothing has given its ticket up
-pub ended : (gpu : GpuState) (a : DeviceAcquire) (s : DeviceSeat) → Holding gpu a → s.place ≡ a.place → IsOutside gpu.home s → IsPassSeat gpu s
-ended gpu a s k e out = record { idle = (out, ap (λ p. p.me.0.task) e ∙ k.knows.waits); knows = subst (λ v. Knows gpu.spec (last_of v) v) (sym (ap (λ p. p.me.0) e)) k.knows }
+pub ended : (gpu : GpuState) (a : DeviceAcquire) (s : DeviceSeat) → Holding gpu a → a.seat.held.items ≡ [] → s ≡ a.seat → IsPassSeat gpu s
+ended gpu a s k none e = subst (IsPassSeat gpu) (sym e) (record { seated = k.seat; none = none; idle = k.idle })
 
 -- what is given back one by one is given back with its room or without
 pub kept_without : (b : ℕ) (xs : List (ℕ × WithRoom)) → kept_of (without b xs) ≡ without b (kept_of xs)
@@ -168,9 +165,9 @@ pub has_at : (b : ℕ) (x : Reservation) (xs : List (ℕ × WithRoom)) → In (b
 has_at b x xs h = let r = in_kept b x xs h in let k = elem_of xs (b, r.0) r.1 in (k.0, (r.0, k.1))
 
 -- a caller that has drawn a ticket and holds nothing
-pub holds_nothing : (gpu : GpuState) (v : Seeing) (a : DeviceAcquire) → HoldsOutside gpu.home a → Knows gpu.spec (last_of v) v → (view a).pivot ≡ v.pivot → (view a).task ≡ v.task → a.held.items ≡ [] → Holding gpu a
-holds_nothing gpu v a h k pivot task none = record {
-  holds = h;
-  knows = knows_same gpu.spec (last_of v) v (view a) k pivot task;
-  owed = λ b x y i j p f. absurd (subst (In (b, y)) none j);
+pub holds_nothing : (gpu : GpuState) (v : Seeing) (a : DeviceAcquire) → HoldsOutside gpu.home a → Knows gpu.spec (last_of v) v → v.task ≡ None → (view a).pivot ≡ v.pivot → (view a).task ≡ v.task → a.seat.held.items ≡ [] → Holding gpu a
+holds_nothing gpu v a h k idle pivot task none = record {
+  seat = record { sits = h.sits; knows = knows_same gpu.spec v (view a) k pivot; owed = owes_nothing a.seat none };
+  own = h.own;
+  idle = task ∙ idle;
 }

@@ -4,7 +4,8 @@ pub mod Chains
 pub mod Packets
 pub mod Called
 pub mod Holders
-pub mod Claims
+pub mod Rounds
+mod Claims
 pub mod Rooms
 pub mod Read
 pub mod Statuses

@@ -7,7 +7,7 @@ use mathlib.Core.Logic.{dite}
 use mathlib.Core.Option.{some, some-injective, some-ne-none}
 use native.Mathlib.Decide.{ℕ_discrete}
 use lib.ListN.{get_elem?}
-use Rattle.ww_lock.specs.Held.{IsSameKeys, IsApart, Lacks}
+use Rattle.ww_lock.specs.Held.{IsSameKeys, Lacks}
 use Rattle.ww_lock.specs.Rule.{In}
 use Rattle.ww_lock.specs.Steps.{without, number_of}
 
@@ -85,12 +85,10 @@ module _ {A : Type 0} where
       (λ ne. ⊎_elim (λ t. (inl t, λ e. ne (ap (λ (z : ℕ × A). z.0) (sym t) ∙ e))) (λ t. let u = in_without b p xs t in (inr u.0, u.1))
       (subst (λ (k : Bool). In p (if k then without b xs else x ∷ without b xs)) (ne_eqb x.0 b ne) h))
 
-  -- one number, one value
-  pub one_value : (b : ℕ) (x y : A) (xs : List (ℕ × A)) → IsApart xs → In (b, x) xs → In (b, y) xs → x ≡ y
-  one_value b x y [] h i j = absurd i
-  one_value b x y (q ∷ xs) h i j =
-      ⊎_elim (λ s. ⊎_elim (λ t. ap (λ z. z.1) (s ∙ sym t)) (λ t. absurd (h.0 y (subst (λ n. In (n, y) xs) (ap (λ z. z.0) s) t))) j)
-      (λ s. ⊎_elim (λ t. absurd (h.0 x (subst (λ n. In (n, x) xs) (ap (λ z. z.0) t) s))) (λ t. one_value b x y xs h.1 s t) j) i
+-- where nothing is held, nothing is owed
+pub none_owed : {A B : Type 0} (xs : List (ℕ × A)) (ys : List (ℕ × B)) → IsSameKeys xs ys → ys ≡ [] → xs ≡ []
+none_owed [] ys e none = refl
+none_owed (x ∷ xs) ys e none = absurd (let n : suc (length (map number_of xs)) ≡ 0 = ap length (e ∙ ap (map number_of) none) in omega arith)
 
 -- ---- by place
 

@@ -10,7 +10,7 @@ use Rattle.drm_state.specs.declared.journal.JobRecord.{JobRecord}
 use Rattle.drm_state.specs.declared.answer.Refusal.{Refusal}
 use Rattle.drm_state.specs.declared.answer.Refusal.TheVariants.{Idle}
 use Rattle.drm_sched.specs.declared.marked.Begun.TheVariants.{Work}
-use Rattle.drm_sched.specs.Begun.{HasBegun, IsReport, KeepsTasks, MayComeBack, MayRun, out_or}
+use Rattle.drm_sched.specs.Begun.{HasBegun, HasReported, IsReport, KeepsTasks, MayComeBack, MayRun, out_or}
 use Rattle.drm_sched.specs.Marks.{Mark, MarkedDevice, Task, IsBusy, buffer_out, is_in_way, is_out, mark_for, mark_of, out_by, packet_at, ring_out}
 use Rattle.drm_state.specs.Refusals.{step_refusal}
 use Rattle.drm_state.specs.Ring.{current_of}
@@ -101,8 +101,17 @@ has_none d ring free =
       | Some m ↦ λ e. absurd (cc (e))
     ] free
 
-pub nothing_out : (d : MarkedDevice) → ((ring : ℕ) → ring < length d.marks → ring_out d ring ≡ false) → (b : ℕ) → is_out d b ≡ false
-nothing_out d free b = all_in (λ m. list_any (λ o. o == b) (out_by d.state.journal m)) d.marks refl (λ k lt. has_none d k (free k lt))
+-- a ring that is not there has none out
+row_idle : (rows : List (Option Mark)) (ring : ℕ) → ((k : ℕ) → k < length rows → option_map_or (λ o. o) (slice_get rows k) None ≡ None) → option_map_or (λ o. o) (slice_get rows ring) None ≡ None
+row_idle [] ring all = refl
+row_idle (row ∷ rows) zero all = all 0 (suc-le-suc zero-le)
+row_idle (row ∷ rows) (suc ring) all = row_idle rows ring (λ k lt. all (suc k) (suc-le-suc lt))
+
+pub no_ring_out : (d : MarkedDevice) → ((ring : ℕ) → ring < length d.marks → ring_out d ring ≡ false) → (ring : ℕ) → ring_out d ring ≡ false
+no_ring_out d free ring = ap (λ m. not (is_none m)) (row_idle d.marks ring (λ k lt. has_none d k (free k lt)))
+
+pub nothing_out : (d : MarkedDevice) → ((ring : ℕ) → ring_out d ring ≡ false) → (b : ℕ) → is_out d b ≡ false
+nothing_out d free b = all_in (λ m. list_any (λ o. o == b) (out_by d.state.journal m)) d.marks refl (λ k lt. has_none d k (free k))
 
 -- with nothing out, a call is refused as its own refusal says
 pub not_out : (b : Bool) (o x : Option Refusal) → b ≡ false → out_or b o ≡ x → o ≡ x
@@ -123,3 +132,9 @@ job_later d e out is on = record { copy = later (slice_get d.state.journal out.f
 -- and may be reported once it ran
 pub may_report : (d : MarkedDevice) (out : OutPacket) → IsPacketOfItsJob d out → IsBusy d (task_of out) → IsReport d out.ring (written out) out.read
 may_report d out is busy = ((task_of out).mark, out.copy, busy, is.copy, refl, refl)
+
+-- what was reported then is that packet
+pub reported_is : (d e : MarkedDevice) (out : OutPacket) (ran : ℕ × ℕ) → IsBusy d (task_of out) → HasReported d out.ring ran e → HasReported d out.ring (out.fence, out.packet) e
+reported_is d e out ran busy (m, packet, mark, at, is, new, none, step) =
+    let same : (task_of out).mark ≡ m = let both : Some (task_of out).mark ≡ Some m = sym busy ∙ mark in cc (both) in
+    (m, packet, mark, at, ap (λ (x : Mark). (x.fence, x.packet)) same, new, none, step)

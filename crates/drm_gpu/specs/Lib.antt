@@ -1,6 +1,7 @@
 pub mod Passes
 pub mod Laws
 pub mod Answers
+pub mod Rounds
 pub mod Submissions
 pub mod Status
 pub mod Closing

@@ -1,18 +1,19 @@
 -- A device that is shared, its passes, and what a call with one says.
-use Rattle.std.specs.Prelude.{◌≡◌, ◌||◌, ℕ, Bool, false, List, [], ◌∷◌, ◌++◌, Option, Some, None, IsPermutation}
+use Rattle.std.specs.Prelude.{◌≡◌, ◌||◌, ℕ, Bool, true, false, List, [], ◌∷◌, ◌++◌, None, IsPermutation}
 use Rattle.atomic_table.specs.Seated.{TableId}
 use Rattle.ww_lock.specs.declared.board.View.{View}
 use Rattle.ww_lock.specs.declared.seat.Seat.{Seat}
-use Rattle.ww_lock.specs.Begun.{IsIdle, IsOutside, IsInside, sees}
+use Rattle.ww_lock.specs.Seats.{IsAsOwed, IsSameHolder, Sits, sees}
 use Rattle.ww_lock.specs.Fences.{NotBack}
 use Rattle.ww_lock.specs.Parts.{IsWhole}
 use Rattle.ww_lock.specs.Rule.{In}
 use Rattle.ww_lock.specs.Steps.{IsChain}
 use Rattle.drm_types.specs.declared.spec.DeviceSpec.{DeviceSpec}
-use Rattle.drm_resv.specs.Reservation.{WithRoom}
+use Rattle.drm_resv.specs.Reservation.{Reservation, WithRoom}
 use Rattle.drm_state.specs.Keeps.{word_at}
 use Rattle.drm_state.specs.Grows.{Grows}
 use Rattle.drm_state.specs.Lawful.{IsLawfulDevice}
+use Rattle.drm_state.specs.Reservation.{Fits}
 use Rattle.drm_sched.specs.Marks.{MarkedDevice, Task, unmarked}
 use Rattle.drm_state.specs.State.{opened_device}
 
@@ -34,8 +35,9 @@ pub record GpuState : Type 0 where
   pub spec : DeviceSpec
 
 -- a pass: its device, the state of that device which it saw last, its calls as (found, left), the fence words that it
--- looked at, the claims that it made, the holders that its tries met, whether it was told that all tickets are drawn, and its part of
--- the device: pieces, each told by how often it was halved. The parts of all passes make up the whole
+-- looked at, the claims that it made, the holders that its tries met, the tickets that it drew, whether it was told
+-- that none is left, and its part of the device: pieces, each told by how often it was halved. The parts of all
+-- passes make up the whole
 pub record PassState : Type 0 where
   pub gpu : GpuState
   pub last : MarkedDevice
@@ -43,6 +45,7 @@ pub record PassState : Type 0 where
   pub looked : List (ℕ × ℕ)
   pub had : List (ℕ × ℕ)
   pub met : List (ℕ × ℕ)
+  pub drew : List ℕ
   pub tickets_out : Bool
   pub part : List ℕ
 
@@ -76,57 +79,71 @@ pass_of home v = record {
   looked = v.looked;
   had = v.lock.had;
   met = v.lock.met;
+  drew = v.lock.drew;
   tickets_out = v.lock.ended;
   part = v.part;
 }
 
 -- a pass that has done nothing, to a device that was just built
 abbrev pub first_pass : GpuState → PassState
-first_pass gpu = record { gpu = gpu; last = unmarked (opened_device gpu.spec); calls = []; looked = []; had = []; met = []; tickets_out = false; part = 0 ∷ [] }
+first_pass gpu = record { gpu = gpu; last = unmarked (opened_device gpu.spec); calls = []; looked = []; had = []; met = []; drew = []; tickets_out = false; part = 0 ∷ [] }
 
--- one device of this description was seen last. The calls are a chain, what each left grows to what was seen, and this task is the seat's
-pub record KnowsWith (task : Option Task) (spec : DeviceSpec) (last : MarkedDevice) (v : Seeing) : Type 0 where
+-- one device of this description was seen last. The calls are a chain, and what each left grows to what was seen
+pub record Knows (spec : DeviceSpec) (last : MarkedDevice) (v : Seeing) : Type 0 where
   pub seen : v.pivot.seen ≡ last ∷ []
   pub described : last.state.spec ≡ spec
   pub chain : IsChain GrowsTo v.pivot.mine
   pub lefts : (c : MarkedDevice × MarkedDevice) → In c v.pivot.mine → GrowsTo c.1 last
-  pub waits : v.task ≡ task
 
--- the same of a seat that has no task
-abbrev pub Knows : DeviceSpec → MarkedDevice → Seeing → Type 0
-Knows = KnowsWith None
+-- a reservation, with its room, fits the device as that of buffer b
+abbrev pub FitsDevice : ℕ → MarkedDevice → WithRoom → Type 0
+FitsDevice b d r = Fits b d.state.journal r.kept
 
--- a seat of the device that is outside, holds nothing and waits for no task
-pub record Seated (gpu : GpuState) (last : MarkedDevice) (s : DeviceSeat) : Type 0 where
-  pub idle : IsIdle gpu.home s
-  pub knows : Knows gpu.spec last (sees s)
+-- each of these reservations fits the device
+abbrev pub Fitting : MarkedDevice → List (ℕ × Reservation) → Type 0
+Fitting d held = (b : ℕ) (x : Reservation) → In (b, x) held → Fits b d.state.journal x
 
-abbrev pub IsPassSeat : GpuState → DeviceSeat → Type 0
-IsPassSeat gpu s = Seated gpu (last_of (sees s)) s
+-- a seat of the device that is outside, and owes what it holds as it is but for its room
+pub record Seated (gpu : GpuState) (s : DeviceSeat) : Type 0 where
+  pub sits : Sits false gpu.home s
+  pub knows : Knows gpu.spec (last_of (sees s)) (sees s)
+  pub owed : IsAsOwed FitsDevice s
 
--- a seat of the device that is outside, holds nothing and has this packet out
-pub record SeatedWith (task : Task) (gpu : GpuState) (last : MarkedDevice) (s : DeviceSeat) : Type 0 where
-  pub outside : IsOutside gpu.home s
-  pub knows : KnowsWith (Some task) gpu.spec last (sees s)
+-- the seat of a pass: it holds nothing and waits for no packet
+pub record IsPassSeat (gpu : GpuState) (s : DeviceSeat) : Type 0 where
+  pub seated : Seated gpu s
+  pub none : s.held.items ≡ []
+  pub idle : (sees s).task ≡ None
 
--- one that has entered and found this device
-pub record EnteredWithTask (task : Option Task) (gpu : GpuState) (found : MarkedDevice) (s : DeviceSeat) : Type 0 where
-  pub inside : IsInside gpu.home s
-  pub knows : KnowsWith task gpu.spec found (sees s)
+-- a seat that has entered and found this device
+pub record Entered (gpu : GpuState) (found : MarkedDevice) (s : DeviceSeat) : Type 0 where
+  pub sits : Sits true gpu.home s
+  pub knows : Knows gpu.spec found (sees s)
   pub fresh : (sees s).pivot.posted ≡ false
 
-abbrev pub Entered : GpuState → MarkedDevice → DeviceSeat → Type 0
-Entered = EnteredWithTask None
+-- the seat holds what it did, by the same ticket, and waits for the same packet
+abbrev pub HoldsOn : DeviceSeat → DeviceSeat → Type 0
+HoldsOn s t = IsSameHolder s t × ((sees t).task ≡ (sees s).task)
+
+-- what a seat has noted beside the devices that it saw
+pub record Noted : Type 0 where
+  pub looked : List (ℕ × ℕ)
+  pub had : List (ℕ × ℕ)
+  pub met : List (ℕ × ℕ)
+  pub drew : List ℕ
+  pub tickets_out : Bool
+  pub part : List ℕ
+
+abbrev pub noted : Seeing → Noted
+noted v = record { looked = v.looked; had = v.lock.had; met = v.lock.met; drew = v.lock.drew; tickets_out = v.lock.ended; part = v.part }
 
 -- only what was seen last has changed
 abbrev pub IsSameBut : Seeing → Seeing → Type 0
-IsSameBut v w =
-    (w.pivot.mine ≡ v.pivot.mine) × (w.looked ≡ v.looked) × (w.lock.had ≡ v.lock.had) × (w.lock.met ≡ v.lock.met) × (w.part ≡ v.part) × (w.lock.ended ≡ v.lock.ended)
+IsSameBut v w = (w.pivot.mine ≡ v.pivot.mine) × (noted w ≡ noted v)
 
 -- and one call was added
 abbrev pub Adds : MarkedDevice → MarkedDevice → Seeing → Seeing → Type 0
-Adds found left v w =
-    (w.pivot.mine ≡ v.pivot.mine ++ (found, left) ∷ []) × (w.looked ≡ v.looked) × (w.lock.had ≡ v.lock.had) × (w.lock.met ≡ v.lock.met) × (w.part ≡ v.part) × (w.lock.ended ≡ v.lock.ended)
+Adds found left v w = (w.pivot.mine ≡ v.pivot.mine ++ (found, left) ∷ []) × (noted w ≡ noted v)
 
 -- a device that a caller finds: it is lawful, came of the one that was seen last, and shows no fence earlier than it was looked at. A
 -- caller that has taken in all others finds the very device that it saw last
@@ -166,7 +183,7 @@ pub record CallsAs (does : MarkedDevice → MarkedDevice → Type 0) (v w : Seei
   pub adds : Adds found (last_of w) v w
 
 -- a pass of two: it saw the later of what they saw, its calls are those of both, each as often, in one order, and it has all that
--- they looked at, claimed and met
+-- they looked at, claimed, met and drew
 pub record IsJoinedOf (one other new : PassState) : Type 0 where
   pub gpu : new.gpu ≡ one.gpu
   pub later : GrowsTo one.last new.last × GrowsTo other.last new.last
@@ -176,5 +193,6 @@ pub record IsJoinedOf (one other new : PassState) : Type 0 where
   pub looked : new.looked ≡ one.looked ++ other.looked
   pub had : new.had ≡ one.had ++ other.had
   pub met : new.met ≡ one.met ++ other.met
+  pub drew : new.drew ≡ one.drew ++ other.drew
   pub tickets_out : new.tickets_out ≡ (one.tickets_out || other.tickets_out)
   pub part : new.part ≡ one.part ++ other.part

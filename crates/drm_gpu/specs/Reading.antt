@@ -1,5 +1,5 @@
 -- A readback.
-use Rattle.std.specs.Prelude.{◌≡◌, ℕ, List, [], ◌∷◌, false, Some, Result, Ok, Err}
+use Rattle.std.specs.Prelude.{◌≡◌, ℕ, List, [], ◌∷◌, ◌++◌, false, Some, Result, Ok, Err}
 use Rattle.drm_buffer.specs.Memory.{bytes_of}
 use Rattle.drm_resv.specs.Reservation.{Reservation}
 use Rattle.drm_state.specs.declared.errors.ReadError.{ReadError}
@@ -31,8 +31,13 @@ ReadIs s (Err (Busy f)) old new d e =
     × ((x : Reservation) × In (s.buffer, x) s.held × (busy_fence d.state.journal x ≡ Some f)) × (new ≡ old) × (e ≡ d) × HoldsFitting s d
 ReadIs s (Err r) old new d e = ⊥
 
--- once a readback was answered, the next of the same reading is too, with the same bytes
+-- the pass has only looked at fences since
+abbrev pub HasOnlyLooked : PassState → PassState → Type 0
+HasOnlyLooked old new = (more : List (ℕ × ℕ)) × (new ≡ record old { looked = old.looked ++ more })
+
+-- once a readback was answered, the next of the same reading is too, with the same bytes, whatever fences its pass
+-- looked at between
 abbrev pub ReadbacksAgree : Type 0
 ReadbacksAgree =
-    (s : ReadingState) (a b : PassState) (u : Unit {0}) (r : Result (Unit {0}) ReadError) (old new kept found : List ℕ)
-    → Calls (ReadIs s (Ok u) old new) s.pass a → Calls (ReadIs (record s { pass = a }) r kept found) a b → (r ≡ Ok u) × (found ≡ new)
+    (s : ReadingState) (a b c : PassState) (u : Unit {0}) (r : Result (Unit {0}) ReadError) (old new kept found : List ℕ)
+    → Calls (ReadIs s (Ok u) old new) s.pass a → HasOnlyLooked a b → Calls (ReadIs (record s { pass = b }) r kept found) b c → (r ≡ Ok u) × (found ≡ new)

@@ -1,5 +1,5 @@
 -- Packets that run outside the lock of the device.
-use Rattle.std.specs.Prelude.{◌≡◌, ◌<◌, ℕ, Bool, IsTrue, false, List, Option, Some, None, Ok, Err, option_map, length}
+use Rattle.std.specs.Prelude.{◌≡◌, ◌<◌, ℕ, Bool, IsTrue, false, List, [], Option, Some, None, Ok, Err, option_map, length}
 use Rattle.drm_packet.specs.Parts.{part_effect, fits_parts}
 use Rattle.drm_types.specs.declared.spec.DeviceSpec.{DeviceSpec}
 use Rattle.drm_state.specs.declared.errors.StepError.TheVariants.{Idle}
@@ -8,11 +8,12 @@ use Rattle.drm_sched.specs.declared.marked.Begun.TheVariants.{Work}
 use Rattle.drm_sched.specs.Begun.{HasBegun}
 use Rattle.drm_sched.specs.Marks.{MarkedDevice, Task, is_in_way, is_out, packet_at, ring_out}
 use Rattle.drm_state.specs.Refusals.{step_refusal}
-use Rattle.ww_lock.specs.Begun.{sees}
+use Rattle.ww_lock.specs.Seats.{sees}
 use Rattle.ww_lock.specs.Fences.{NotBack}
 use Rattle.ww_lock.specs.Parts.{IsWhole}
 use Rattle.ww_lock.specs.Rule.{In}
 use Rattle.drm_gpu.specs.declared.running.OutPacket.{OutPacket}
+use Rattle.drm_gpu.specs.declared.running.RanPacket.{RanPacket}
 use Rattle.drm_gpu.specs.declared.running.Sent.{Sent}
 use Rattle.drm_gpu.specs.declared.running.Sent.TheVariants as sent
 use Rattle.drm_gpu.specs.declared.running.StartError.{StartError}
@@ -20,7 +21,7 @@ use Rattle.drm_gpu.specs.declared.running.StartError.TheVariants as start
 use Rattle.drm_gpu.specs.declared.waiting.Needs.{Needs}
 use Rattle.drm_gpu.specs.declared.waiting.Needs.TheVariants.{Ring, Step, Buffer}
 use Rattle.drm_gpu.specs.Answers.{StepIs}
-use Rattle.drm_gpu.specs.Passes.{Calls, CallsAs, DeviceSeat, GpuState, GrowsTo, IsFound, IsGood, IsPassSeat, IsSameBut, PassState, SeatedWith, Seeing, last_of, word_shown}
+use Rattle.drm_gpu.specs.Passes.{Calls, CallsAs, DeviceSeat, GpuState, GrowsTo, IsFound, IsGood, IsPassSeat, IsSameBut, PassState, Seated, Seeing, last_of, word_shown}
 
 -- a pass that has a packet out: of this ring, of this job, the packet of this number
 pub record RunningState : Type 0 where
@@ -75,10 +76,19 @@ pub record IsPacketOfItsJob (d : MarkedDevice) (out : OutPacket) : Type 0 where
 abbrev pub written : OutPacket → Option (List ℕ)
 written out = option_map (λ bytes. part_effect out.copy bytes out.read) out.write
 
--- a seat that has this packet out
+-- a seat that has this packet out, and holds nothing
 pub record SeatHasOut (gpu : GpuState) (out : OutPacket) (s : DeviceSeat) : Type 0 where
-  pub seat : SeatedWith (task_of out) gpu (last_of (sees s)) s
+  pub seated : Seated gpu s
+  pub none : s.held.items ≡ []
+  pub waits : (sees s).task ≡ Some (task_of out)
   pub job : IsPacketOfItsJob (last_of (sees s)) out
+
+-- a seat whose packet was out and has run
+pub record SeatHasRun (gpu : GpuState) (ran : RanPacket) (s : DeviceSeat) : Type 0 where
+  pub sent : OutPacket
+  pub has : SeatHasOut gpu sent s
+  pub task : ran.task ≡ task_of sent
+  pub bytes : ran.out ≡ record sent { write = written sent }
 
 -- the packet went out of the device that was found
 pub record GoesOut (gpu : GpuState) (ring : ℕ) (out : OutPacket) (v : Seeing) (s : DeviceSeat) : Type 0 where

@@ -1,5 +1,5 @@
 -- The states of a submission.
-use Rattle.std.specs.Prelude.{◌≡◌, ◌≢◌, ◌<◌, ◌⊎◌, ℕ, false, List, [], ◌∷◌, ◌++◌, Some, None, Result, Ok, Err, length, slice_get}
+use Rattle.std.specs.Prelude.{◌≡◌, ◌≢◌, ◌<◌, ◌⊎◌, ℕ, List, [], ◌∷◌, ◌++◌, Some, None, Result, Ok, Err, length, map}
 use Rattle.atomic_table.specs.Seated.{TableId}
 use Rattle.ww_lock.specs.declared.acquire.Acquire.{Acquire}
 use Rattle.ww_lock.specs.declared.locks.TryLockError.{TryLockError}
@@ -7,10 +7,10 @@ use Rattle.ww_lock.specs.declared.locks.TryLockError.TheVariants.{Sealed, Alread
 use Rattle.ww_lock.specs.declared.locks.LockError.{LockError}
 use Rattle.ww_lock.specs.declared.locks.LockError.TheVariants.{Backoff}
 use Rattle.ww_lock.specs.declared.locks.LockError.TheVariants as lock
-use Rattle.ww_lock.specs.Acquiring.{HoldsOutside, HoldsInside, IsAsOwed, view}
+use Rattle.ww_lock.specs.Acquiring.{HasTicket, view}
 use Rattle.ww_lock.specs.Held.{Lacks}
 use Rattle.ww_lock.specs.Rule.{In}
-use Rattle.drm_types.specs.declared.access.Access.{Access}
+use Rattle.ww_lock.specs.Steps.{number_of}
 use Rattle.drm_job.specs.declared.Draft.{Draft}
 use Rattle.drm_resv.specs.Reservation.{Reservation, WithRoom}
 use Rattle.drm_state.specs.declared.errors.ArmError.{ArmError}
@@ -21,7 +21,8 @@ use Rattle.drm_state.specs.Errors.{refusal_of_arm}
 use Rattle.drm_state.specs.Refusals.{arm_refusal}
 use Rattle.drm_state.specs.Reservation.{Fits}
 use Rattle.drm_sched.specs.Marks.{MarkedDevice, Task}
-use Rattle.drm_gpu.specs.Passes.{GpuState, PassState, Knows, last_of, pass_of, word_shown}
+use Rattle.drm_gpu.specs.Passes.{GpuState, PassState, Seated, pass_of, word_shown}
+use Rattle.drm_gpu.specs.Rounds.{Declares, IsGivenUp, IsRound, Lock, Round, TakesAll, all_claims, all_met, buffers_of, claims_of, held_after, holders_of, met_last, met_of}
 
 -- a submission: its pass, its ticket, its job, and what it holds
 pub record Submission : Type 0 where
@@ -34,53 +35,75 @@ abbrev pub DeviceAcquire : Type 0
 DeviceAcquire = Acquire MarkedDevice WithRoom Task
 
 abbrev pub submission_of : TableId → Draft → DeviceAcquire → Submission
-submission_of home job a = record { pass = pass_of home (view a); ticket = a.ticket; job = job; held = kept_of a.held.items }
+submission_of home job a = record { pass = pass_of home (view a); ticket = a.ticket; job = job; held = kept_of a.seat.held.items }
 
 -- a ticket above each that the pass knows of
 abbrev pub IsNewTicket : PassState → ℕ → Type 0
-IsNewTicket pass ticket = ((b t : ℕ) → In (b, t) pass.had → t < ticket) × ((b h : ℕ) → In (b, h) pass.met → h < ticket)
+IsNewTicket pass ticket = ((t : ℕ) → In t pass.drew → t < ticket) × ((b t : ℕ) → In (b, t) pass.had → t < ticket) × ((b h : ℕ) → In (b, h) pass.met → h < ticket)
 
--- the pass has claimed more, each time under this ticket, and has met more holders. Nothing else of it has changed
-pub record ClaimsMore (ticket : ℕ) (old new : PassState) : Type 0 where
-  pub more : List (ℕ × ℕ)
-  pub others : List (ℕ × ℕ)
-  pub own : (b t : ℕ) → In (b, t) more → t ≡ ticket
-  pub pass : new ≡ record old { had = old.had ++ more; met = old.met ++ others }
+-- the pass has drawn this ticket, and nothing else of it has changed
+abbrev pub draws : ℕ → PassState → PassState
+draws ticket pass = record pass { drew = pass.drew ++ ticket ∷ [] }
 
--- each of these fits the device
-abbrev pub Fitting : MarkedDevice → List (ℕ × Reservation) → Type 0
-Fitting d held = (b : ℕ) (x : Reservation) → In (b, x) held → Fits b d.state.journal x
-
--- the job declares the buffer
-abbrev pub Declares : Draft → ℕ → Type 0
-Declares job b = (k : ℕ) × (d : ℕ × Access) × (slice_get job.declared k ≡ Some d) × (d.0 ≡ b)
+-- the pass has claimed this buffer under the ticket, behind tries that found these holders, and nothing else of it
+-- has changed
+abbrev pub claims_one : ℕ → ℕ → List ℕ → PassState → PassState
+claims_one ticket b waited pass = record pass { had = pass.had ++ (b, ticket) ∷ []; met = pass.met ++ holders_of b waited }
 
 -- each buffer that is held is declared by the job, or was held before
 abbrev pub HoldsNoMore : {A : Type 0} → Draft → List (ℕ × A) → List (ℕ × A) → Type 0
 HoldsNoMore {A} job old new = (b : ℕ) (x : A) → In (b, x) new → Declares job b ⊎ ((y : A) × In (b, y) old)
 
--- a caller that holds values of the device, and owes them as they are but for their room
+-- a caller that holds values of the device by its ticket, and waits for no packet
 pub record Holding (gpu : GpuState) (a : DeviceAcquire) : Type 0 where
-  pub holds : HoldsOutside gpu.home a
-  pub knows : Knows gpu.spec (last_of (view a)) (view a)
-  pub owed : IsAsOwed (λ b (d : MarkedDevice) (r : WithRoom). Fits b d.state.journal r.kept) a
+  pub seat : Seated gpu a.seat
+  pub own : HasTicket gpu.home a
+  pub idle : (view a).task ≡ None
 
--- one that has entered and found this device
-pub record EnteredWith (gpu : GpuState) (found : MarkedDevice) (a : DeviceAcquire) : Type 0 where
-  pub holds : HoldsInside gpu.home a
-  pub knows : Knows gpu.spec found (view a)
-  pub fresh : (view a).pivot.posted ≡ false
+-- the buffers that a caller holds
+abbrev pub numbers_of : DeviceAcquire → List ℕ
+numbers_of a = map number_of a.seat.held.items
 
--- what is held is the same, under the same ticket
-abbrev pub IsSameHolder : DeviceAcquire → DeviceAcquire → Type 0
-IsSameHolder a a' = (a'.ticket ≡ a.ticket) × (a'.sealed ≡ a.sealed) × (a'.held ≡ a.held)
-
--- a caller that took locks and gave some back: it goes on to hold, and its pass has claimed more under its ticket
-pub record WentOn (gpu : GpuState) (a a' : DeviceAcquire) : Type 0 where
+-- a caller that has taken these locks more, in one round
+pub record LocksOn (gpu : GpuState) (job : Draft) (a a' : DeviceAcquire) : Type 0 where
+  pub locks : List Lock
   pub holding : Holding gpu a'
   pub ticket : a'.ticket ≡ a.ticket
   pub sealed : a'.sealed ≡ a.sealed
-  pub pass : ClaimsMore a.ticket (pass_of gpu.home (view a)) (pass_of gpu.home (view a'))
+  pub round : IsRound job a.ticket (numbers_of a) locks
+  pub held : numbers_of a' ≡ numbers_of a ++ buffers_of locks
+  pub had : (pass_of gpu.home (view a')) ≡ record (pass_of gpu.home (view a)) { had = (view a).lock.had ++ claims_of a.ticket locks; met = (view a).lock.met ++ met_of locks }
+
+-- one that has taken some, and is told to back off from buffer b
+pub record BacksOff (gpu : GpuState) (job : Draft) (b : ℕ) (a a' : DeviceAcquire) : Type 0 where
+  pub given : Round
+  pub contended : given.contended ≡ b
+  pub holding : Holding gpu a'
+  pub ticket : a'.ticket ≡ a.ticket
+  pub sealed : a'.sealed ≡ a.sealed
+  pub round : IsRound job a.ticket (numbers_of a) given.locks
+  pub up : IsGivenUp job a.ticket (numbers_of a ++ buffers_of given.locks) given
+  pub had : (pass_of gpu.home (view a')) ≡ record (pass_of gpu.home (view a)) { had = (view a).lock.had ++ claims_of a.ticket given.locks; met = (view a).lock.met ++ (met_of given.locks ++ met_last given) }
+
+-- one that held nothing, and has taken buffer b
+pub record LocksFirst (gpu : GpuState) (b : ℕ) (a a' : DeviceAcquire) : Type 0 where
+  pub waited : List ℕ
+  pub holding : Holding gpu a'
+  pub ticket : a'.ticket ≡ a.ticket
+  pub sealed : a'.sealed ≡ a.sealed
+  pub held : (x : WithRoom) × (a'.seat.held.items ≡ (b, x) ∷ [])
+  pub had : pass_of gpu.home (view a') ≡ claims_one a.ticket b waited (pass_of gpu.home (view a))
+
+-- one that has taken locks in rounds
+pub record HasTaken (gpu : GpuState) (job : Draft) (a a' : DeviceAcquire) : Type 0 where
+  pub rounds : List Round
+  pub last : List Lock
+  pub holding : Holding gpu a'
+  pub ticket : a'.ticket ≡ a.ticket
+  pub sealed : a'.sealed ≡ a.sealed
+  pub takes : TakesAll job a.ticket (numbers_of a) rounds last
+  pub held : numbers_of a' ≡ held_after (numbers_of a) rounds last
+  pub had : (pass_of gpu.home (view a')) ≡ record (pass_of gpu.home (view a)) { had = (view a).lock.had ++ all_claims a.ticket rounds last; met = (view a).lock.met ++ all_met rounds last }
 
 -- what fitted fits at each buffer that is not held, and one fence comes to show this word
 pub record KeepsOthers (held : List (ℕ × Reservation)) (fence shown : ℕ) (old new : MarkedDevice) : Type 0 where
@@ -119,9 +142,16 @@ Locks b old new (Err (Backoff h)) =
     Lacks b old.held × (h < old.ticket) × (0 < length old.held)
     × ((ms : List (ℕ × ℕ)) × MayWait b old ms × (new ≡ record old { pass = record old.pass { met = old.pass.met ++ (ms ++ (b, h) ∷ []) } }))
 
--- the submission has gone on, with its job and its ticket: its pass has claimed more under this ticket
-abbrev pub GoesOn : Submission → Submission → Type 0
-GoesOn old new = (new.job ≡ old.job) × (new.ticket ≡ old.ticket) × ClaimsMore old.ticket old.pass new.pass
+-- the submission has taken its locks in rounds, with its job and its ticket. What the pass has claimed and met more
+-- is what the rounds claimed and met, and what is held is what was not given back
+pub record LocksAll (old new : Submission) : Type 0 where
+  pub rounds : List Round
+  pub last : List Lock
+  pub job : new.job ≡ old.job
+  pub ticket : new.ticket ≡ old.ticket
+  pub takes : TakesAll old.job old.ticket (map number_of old.held) rounds last
+  pub held : map number_of new.held ≡ held_after (map number_of old.held) rounds last
+  pub pass : new.pass ≡ record old.pass { had = old.pass.had ++ all_claims old.ticket rounds last; met = old.pass.met ++ all_met rounds last }
 
 -- what an arming that answered this fence found and left. What was planned covers the device that was found
 pub record ArmIs (job : Draft) (deps : List (ℕ × ℕ)) (old new : List (ℕ × Reservation)) (fence : ℕ) (d e : MarkedDevice) : Type 0 where

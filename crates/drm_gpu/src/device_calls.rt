@@ -4,15 +4,13 @@ ghost use Rattle.drm_sched.specs.Marks.{MarkedDevice};
 ghost use Rattle.drm_fence.specs.declared.phase.Phase.TheVariants.{Ended};
 ghost use Rattle.drm_state.specs.Keeps.{word_of};
 ghost use Rattle.drm_job.specs.Fault.{IsJob, job_fault};
-ghost use Rattle.ww_lock.specs.Acquiring.{view};
-ghost use Rattle.drm_gpu.specs.Passes.{Calls, pass_of, word_shown};
+ghost use Rattle.ww_lock.specs.Seats.{sees};
+ghost use Rattle.drm_gpu.specs.Passes.{Calls, HoldsOn, Seated, pass_of, word_shown};
 ghost use Rattle.drm_gpu.specs.Status.{AnswersStatus, LooksAt, TellsStatus};
-ghost use Rattle.drm_gpu.specs.Submissions.{Holding, IsSameHolder};
 ghost use Rattle.drm_gpu.specs.Answers.{PickIs, FinishIs, TimeoutIs, CancelIs, ReapIs, CountsAre, ChangesNothing};
 
 use crate::gpu::Gpu;
-use crate::locking::DeviceAcquire;
-use crate::pass::{NoFence, Pass};
+use crate::pass::{DeviceSeat, NoFence, Pass};
 use crate::waiting::Needs;
 use drm_job::{Draft, Job, JobFault, check};
 use drm_sched::{CancelError, Expired, FinishError, Finished, PickError, Picked, ReapError};
@@ -201,50 +199,32 @@ impl Gpu {
         requires { pass.old.gpu ≡ self.now }
         ensures { AnswersStatus self.now.spec.max_jobs fence result pass.old pass.new }
     {
+        self.status_at(&mut pass.seat, fence)
+    }
+
+    // The status of a fence, by a seat in whatever state its caller is.
+    pub(crate) fn status_at(&self, seat: &mut DeviceSeat, fence: FenceId) -> Result<i32, NoFence>
+        requires { Seated self.now seat.old }
+        ensures seat { Seated self.now seat.new }
+        ensures holds { HoldsOn seat.old seat.new }
+        ensures status { AnswersStatus self.now.spec.max_jobs fence result (pass_of self.now.home (sees seat.old)) (pass_of self.now.home (sees seat.new)) }
+    {
         if fence >= self.board.posts() {
-            self.look_at(pass, 0);
+            self.look_at(seat, 0);
             return Err(NoFence { fence });
         }
-        let word = self.look_at(pass, fence);
+        let word = self.look_at(seat, fence);
         status_by_word(fence, word)
     }
 
     // Looks at the word of a fence.
-    fn look_at(&self, pass: &mut Pass, fence: FenceId) -> u64
-        requires pass { pass.old.gpu ≡ self.now }
+    fn look_at(&self, seat: &mut DeviceSeat, fence: FenceId) -> u64
+        requires seat { Seated self.now seat.old }
         requires fence { fence < self.now.spec.max_jobs }
-        ensures { (d : MarkedDevice) × LooksAt fence d pass.old pass.new × (result ≡ word_shown d fence) }
+        ensures seat { Seated self.now seat.new }
+        ensures holds { HoldsOn seat.old seat.new }
+        ensures look { (d : MarkedDevice) × LooksAt fence d (pass_of self.now.home (sees seat.old)) (pass_of self.now.home (sees seat.new)) × (result ≡ word_shown d fence) }
     {
-        self.board.look(&mut pass.seat, fence)
-    }
-
-    // `status` for a caller that holds values.
-    pub(crate) fn status_with(
-        &self,
-        acquire: &mut DeviceAcquire,
-        fence: FenceId,
-    ) -> Result<i32, NoFence>
-        requires { Holding self.now acquire.old }
-        ensures holding { Holding self.now acquire.new }
-        ensures same { IsSameHolder acquire.old acquire.new }
-        ensures status { AnswersStatus self.now.spec.max_jobs fence result (pass_of self.now.home (view acquire.old)) (pass_of self.now.home (view acquire.new)) }
-    {
-        if fence >= self.board.posts() {
-            self.look_at_with(acquire, 0);
-            return Err(NoFence { fence });
-        }
-        let word = self.look_at_with(acquire, fence);
-        status_by_word(fence, word)
-    }
-
-    // `look_at` for a caller that holds values.
-    fn look_at_with(&self, acquire: &mut DeviceAcquire, fence: FenceId) -> u64
-        requires holding { Holding self.now acquire.old }
-        requires fence { fence < self.now.spec.max_jobs }
-        ensures holding { Holding self.now acquire.new }
-        ensures same { IsSameHolder acquire.old acquire.new }
-        ensures look { (d : MarkedDevice) × LooksAt fence d (pass_of self.now.home (view acquire.old)) (pass_of self.now.home (view acquire.new)) × (result ≡ word_shown d fence) }
-    {
-        self.board.look_with(acquire, fence)
+        self.board.look(seat, fence)
     }
 }

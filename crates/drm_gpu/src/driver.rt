@@ -1,7 +1,6 @@
 //! What the board keeps of a device and its reservations.
 ghost use Rattle.drm_sched.specs.Marks.{IsBusy};
-ghost use Rattle.drm_state.specs.Reservation.{Fits};
-ghost use Rattle.drm_gpu.specs.Passes.{IsGood, GrowsTo, word_shown};
+ghost use Rattle.drm_gpu.specs.Passes.{FitsDevice, IsGood, GrowsTo, word_shown};
 ghost use Rattle.drm_gpu.specs.Laws as laws;
 
 use drm_buffer::Buffer;
@@ -42,7 +41,7 @@ impl Ward for Driver {
 
     ghost good = { IsGood };
 
-    ghost fits = { λ b d r. Fits b d.state.journal r.kept };
+    ghost fits = { FitsDevice };
 
     ghost grows = { GrowsTo };
 

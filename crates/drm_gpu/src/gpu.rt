@@ -2,7 +2,7 @@
 ghost use Rattle.std.specs.Prelude.{◌≡◌, ℕ, true, false, [], map, replicate, None, IfOk, IfErr};
 ghost use Rattle.drm_types.specs.Limits.{spec_fault};
 ghost use Rattle.drm_table.specs.Building.{RefusesToBuild};
-ghost use Rattle.drm_sched.specs.Marks.{is_out, ring_out};
+ghost use Rattle.drm_sched.specs.Marks.{ring_out};
 ghost use Rattle.ww_lock.specs.Parts.{halved};
 ghost use Rattle.drm_gpu.specs.Closing.{Leaves, GivesBack};
 ghost use Rattle.drm_gpu.specs.Passes.{IsJoinedOf, first_pass};
@@ -73,7 +73,7 @@ fn new_reservations(alloc: Global, count: usize) -> Result<Vec<Resv>, AllocError
 
 // Whether a packet is out.
 fn has_packet_out(device: &Device) -> bool
-    ensures inside { result ≡ false → (b : ℕ) → is_out device.now b ≡ false }
+    ensures idle { result ≡ false → (ring : ℕ) → ring_out device.now ring ≡ false }
     ensures out { result ≡ true → (ring : ℕ) × (ring_out device.now ring ≡ true) }
 {
     device.facts();
@@ -121,7 +121,7 @@ impl Gpu {
     pub fn split(&self, pass: Pass) -> (Pass, Pass)
         requires { pass.gpu ≡ self.now }
         ensures first { result.0 ≡ record pass { part = halved pass.part } }
-        ensures second { result.1 ≡ record pass { calls = []; had = []; met = []; tickets_out = false; part = halved pass.part } }
+        ensures second { result.1 ≡ record pass { calls = []; had = []; met = []; drew = []; tickets_out = false; part = halved pass.part } }
     {
         let Pass { seat } = pass;
         let (one, other) = self.board.split(seat);

@@ -1,5 +1,5 @@
 //! A submission that takes its locks.
-ghost use Rattle.std.specs.Prelude.{◌≡◌, ◌<◌, ◌∷◌, ◌⊎◌, ℕ, [], length, true, false, IfOk, IfErr, IfSome, MatchOption, option_map, slice_get};
+ghost use Rattle.std.specs.Prelude.{◌≡◌, ◌<◌, ℕ, List, [], length, true, false, IfOk, IfErr, MatchOption, option_map, slice_get};
 ghost use Rattle.ww_lock.specs.Held.{Lacks};
 ghost use Rattle.ww_lock.specs.Rule.{In};
 ghost use Rattle.ww_lock.specs.Steps.{without};
@@ -8,7 +8,9 @@ ghost use Rattle.drm_state.specs.Held.{kept_of, HoldsAll};
 ghost use Rattle.drm_job.specs.Fault.{IsJob};
 ghost use Rattle.ww_lock.specs.Acquiring.{view};
 ghost use Rattle.drm_gpu.specs.Passes.{pass_of};
-ghost use Rattle.drm_gpu.specs.Submissions.{Declares, Holding, HoldsNoMore, IsNewTicket, TriesLock, Claims, ClaimsMore, Locks, GoesOn, WentOn};
+ghost use Rattle.drm_job.specs.declared.Draft.{Draft};
+ghost use Rattle.drm_gpu.specs.Rounds.{Declares};
+ghost use Rattle.drm_gpu.specs.Submissions.{BacksOff, Claims, HasTaken, Holding, HoldsNoMore, IsNewTicket, Locks, LocksAll, LocksFirst, LocksOn, TriesLock, claims_one, draws, numbers_of};
 ghost use Rattle.drm_gpu.specs.Status.{AnswersStatus};
 ghost use Rattle.drm_gpu.specs.Begun.{IsBack, IsBackFromRead};
 
@@ -83,13 +85,13 @@ impl<'g> Model for Locked<'g> {
 
     ghost view = { λ l. submission_of l.gpu.now.home l.job l.acquire };
 
-    ghost invariant = { λ l. Holding l.gpu.now l.acquire × (l.acquire.sealed ≡ true) × IsJob l.gpu.now.spec l.job × HoldsAll l.job (kept_of l.acquire.held.items) };
+    ghost invariant = { λ l. Holding l.gpu.now l.acquire × (l.acquire.sealed ≡ true) × IsJob l.gpu.now.spec l.job × HoldsAll l.job (kept_of l.acquire.seat.held.items) };
 }
 
 // Gives back everything that is held.
 pub(crate) fn release_all(gpu: &Gpu, acquire: &mut DeviceAcquire)
     requires { Holding gpu.now acquire.old }
-    ensures holding { Holding gpu.now acquire.new × (acquire.new.held.items ≡ []) }
+    ensures holding { Holding gpu.now acquire.new × (acquire.new.seat.held.items ≡ []) }
     ensures same { (acquire.new.ticket ≡ acquire.old.ticket) × (acquire.new.sealed ≡ acquire.old.sealed) }
     ensures pass { pass_of gpu.now.home (view acquire.new) ≡ pass_of gpu.now.home (view acquire.old) }
 {
@@ -115,10 +117,9 @@ pub(crate) fn give_up(gpu: &Gpu, acquire: DeviceAcquire) -> Pass
 fn hold<R: Wait>(gpu: &Gpu, acquire: &mut DeviceAcquire, buffer: BufferId, rt: &R) -> bool
     requires holding { Holding gpu.now acquire.old × (acquire.old.sealed ≡ false) }
     requires buffer { buffer < length gpu.now.spec.buffers }
-    ensures on { WentOn gpu.now acquire.old acquire.new }
-    ensures keeps { (d : ℕ) (x : WithRoom) → In (d, x) acquire.old.held.items → In (d, x) acquire.new.held.items }
-    ensures only { (d : ℕ) (x : WithRoom) → In (d, x) acquire.new.held.items → (d ≡ buffer) ⊎ In (d, x) acquire.old.held.items }
-    ensures held { result ≡ true → (x : WithRoom) × In (buffer, x) acquire.new.held.items }
+    ensures held { result ≡ true → In buffer (numbers_of acquire.new) }
+    ensures locked { result ≡ true → (job : Draft) → Declares job buffer → LocksOn gpu.now job acquire.old acquire.new }
+    ensures backs_off { result ≡ false → (job : Draft) → Declares job buffer → BacksOff gpu.now job buffer acquire.old acquire.new }
 {
     match gpu.board.lock(acquire, buffer, rt) {
         Ok(()) => true,
@@ -130,10 +131,9 @@ fn hold<R: Wait>(gpu: &Gpu, acquire: &mut DeviceAcquire, buffer: BufferId, rt: &
 
 // Locks a buffer for one who holds nothing, and waits for whoever holds it.
 fn lock_first<R: Wait>(gpu: &Gpu, acquire: &mut DeviceAcquire, buffer: BufferId, rt: &R)
-    requires holding { Holding gpu.now acquire.old × (acquire.old.sealed ≡ false) × (acquire.old.held.items ≡ []) }
+    requires holding { Holding gpu.now acquire.old × (acquire.old.sealed ≡ false) × (acquire.old.seat.held.items ≡ []) }
     requires buffer { buffer < length gpu.now.spec.buffers }
-    ensures on { WentOn gpu.now acquire.old acquire.new }
-    ensures held { (x : WithRoom) × (acquire.new.held.items ≡ (buffer, x) ∷ []) }
+    ensures { LocksFirst gpu.now buffer acquire.old acquire.new }
 {
     let Ok(()) = gpu.board.lock_slow(acquire, buffer, rt) else {
         unreachable!()
@@ -149,10 +149,8 @@ fn lock_declared<R: Wait>(
 ) -> Option<BufferId>
     requires holding { Holding gpu.now acquire.old × (acquire.old.sealed ≡ false) }
     requires job { IsJob gpu.now.spec job.now }
-    ensures on { WentOn gpu.now acquire.old acquire.new }
-    ensures locked { MatchOption result (HoldsAll job.now (kept_of acquire.new.held.items)) (λ b. b < length gpu.now.spec.buffers) }
-    ensures contended { IfSome result (Declares job.now) }
-    ensures only { HoldsNoMore job.now acquire.old.held.items acquire.new.held.items }
+    ensures on { MatchOption result (LocksOn gpu.now job.now acquire.old acquire.new) (λ b. BacksOff gpu.now job.now b acquire.old acquire.new) }
+    ensures there { MatchOption result (HoldsAll job.now (kept_of acquire.new.seat.held.items)) (λ b. b < length gpu.now.spec.buffers) }
 {
     jobs_are_the_sound_drafts();
     for place in 0..job.declared().len() {
@@ -191,13 +189,13 @@ fn holds_all(held: &[(BufferId, Resv)], job: &Job) -> bool
     true
 }
 
-// Locks every buffer that the job declares, and begins anew with the one for which it had to back off.
+// Locks every buffer that the job declares. Where it has to back off it gives everything back, and begins anew with the
+// buffer that was contended.
 fn hold_all<R: Wait>(gpu: &Gpu, acquire: &mut DeviceAcquire, job: &Job, rt: &R)
     requires holding { Holding gpu.now acquire.old × (acquire.old.sealed ≡ false) }
     requires job { IsJob gpu.now.spec job.now }
-    ensures on { WentOn gpu.now acquire.old acquire.new }
-    ensures all { HoldsAll job.now (kept_of acquire.new.held.items) }
-    ensures only { HoldsNoMore job.now acquire.old.held.items acquire.new.held.items }
+    ensures rounds { HasTaken gpu.now job.now acquire.old acquire.new }
+    ensures all { HoldsAll job.now (kept_of acquire.new.seat.held.items) }
 {
     for _ in rt.forever() {
         let Some(contended) = lock_declared(gpu, acquire, job, rt) else {
@@ -210,6 +208,28 @@ fn hold_all<R: Wait>(gpu: &Gpu, acquire: &mut DeviceAcquire, job: &Job, rt: &R)
 }
 
 impl Gpu {
+    // Draws the one ticket of a submission or a readback.
+    fn draw<R: Wait>(
+        &self,
+        alloc: Global,
+        pass: Pass,
+        rt: &R,
+    ) -> Result<DeviceAcquire, BeginReadError>
+        requires { pass.gpu ≡ self.now }
+        ensures holding { IfOk result (λ a. Holding self.now a × (a.sealed ≡ false) × (a.seat.held.items ≡ [])) }
+        ensures pass { IfOk result (λ a. pass_of self.now.home (view a) ≡ draws a.ticket pass) }
+        ensures ticket { IfOk result (λ a. IsNewTicket pass a.ticket) }
+        ensures tickets_left { IfOk result (λ _. pass.tickets_out ≡ false) }
+        ensures refused { IfErr result (IsBackFromRead pass) }
+    {
+        let Pass { seat } = pass;
+        match self.board.begin(seat, rt, alloc) {
+            Ok(acquire) => Ok(acquire),
+            Err(TicketError::Memory(seat)) => Err(BeginReadError::Memory(Pass { seat })),
+            Err(TicketError::TicketsOut(seat)) => Err(BeginReadError::TicketsOut(Pass { seat })),
+        }
+    }
+
     /// Begins the submission of a job: draws its ticket (`ww_acquire_init`).
     ///
     /// # Errors
@@ -225,44 +245,19 @@ impl Gpu {
     ) -> Result<Locking<'g>, BeginError>
         requires pass { pass.gpu ≡ self.now }
         requires job { IsJob self.now.spec job }
-        ensures begun { IfOk result (λ l. (l.pass ≡ pass) × (l.job ≡ job) × (l.held ≡ [])) }
+        ensures begun { IfOk result (λ l. (l.pass ≡ draws l.ticket pass) × (l.job ≡ job) × (l.held ≡ [])) }
         ensures ticket { IfOk result (λ l. IsNewTicket pass l.ticket) }
         ensures tickets_left { IfOk result (λ _. pass.tickets_out ≡ false) }
         ensures refused { IfErr result (λ e. IsBack pass job e) }
     {
-        let Pass { seat } = pass;
-        match self.board.begin(seat, rt, alloc) {
+        match self.draw(alloc, pass, rt) {
             Ok(acquire) => Ok(Locking {
                 gpu: self,
                 acquire,
                 job,
             }),
-            Err(TicketError::Memory(seat)) => Err(BeginError::Memory(Pass { seat }, job)),
-            Err(TicketError::TicketsOut(seat)) => {
-                Err(BeginError::TicketsOut(Pass { seat }, job))
-            }
-        }
-    }
-
-    // Draws a ticket for a readback.
-    fn draw<R: Wait>(
-        &self,
-        alloc: Global,
-        pass: Pass,
-        rt: &R,
-    ) -> Result<DeviceAcquire, BeginReadError>
-        requires { pass.gpu ≡ self.now }
-        ensures holding { IfOk result (λ a. Holding self.now a × (a.sealed ≡ false) × (a.held.items ≡ [])) }
-        ensures pass { IfOk result (λ a. pass_of self.now.home (view a) ≡ pass) }
-        ensures ticket { IfOk result (λ a. IsNewTicket pass a.ticket) }
-        ensures tickets_left { IfOk result (λ _. pass.tickets_out ≡ false) }
-        ensures refused { IfErr result (IsBackFromRead pass) }
-    {
-        let Pass { seat } = pass;
-        match self.board.begin(seat, rt, alloc) {
-            Ok(acquire) => Ok(acquire),
-            Err(TicketError::Memory(seat)) => Err(BeginReadError::Memory(Pass { seat })),
-            Err(TicketError::TicketsOut(seat)) => Err(BeginReadError::TicketsOut(Pass { seat })),
+            Err(BeginReadError::Memory(pass)) => Err(BeginError::Memory(pass, job)),
+            Err(BeginReadError::TicketsOut(pass)) => Err(BeginError::TicketsOut(pass, job)),
         }
     }
 
@@ -282,7 +277,7 @@ impl Gpu {
         requires pass { pass.gpu ≡ self.now }
         requires buffer { buffer < length self.now.spec.buffers }
         ensures begun { IfOk result (λ r. r.buffer ≡ buffer) }
-        ensures ticket { IfOk result (λ r. (t : ℕ) × IsNewTicket pass t × ClaimsMore t pass r.pass) }
+        ensures ticket { IfOk result (λ r. (t : ℕ) × (waited : List ℕ) × IsNewTicket pass t × (r.pass ≡ claims_one t buffer waited (draws t pass))) }
         ensures tickets_left { IfOk result (λ _. pass.tickets_out ≡ false) }
         ensures refused { IfErr result (IsBackFromRead pass) }
     {
@@ -322,7 +317,7 @@ impl<'g> Locking<'g> {
         ensures same { self.new ≡ record self.old { pass = self.new.pass } }
     {
         let gpu = self.gpu;
-        gpu.status_with(&mut self.acquire, fence)
+        gpu.status_at(&mut self.acquire.seat, fence)
     }
 
     /// Whether the buffer is held.
@@ -399,9 +394,10 @@ impl<'g> Locking<'g> {
         release_all(gpu, &mut self.acquire);
     }
 
-    /// Locks every buffer that the job declares, and no other, and begins anew with the one for which it had to back off.
+    /// Locks every buffer that the job declares, and no other. Where it is told to back off it gives back everything
+    /// that it holds, and begins anew with the buffer that was contended, for whose holder it waits.
     pub fn lock_all<R: Wait>(self, rt: &R) -> Locked<'g>
-        ensures same { GoesOn self.entry result }
+        ensures rounds { LocksAll self.entry result }
         ensures holds { HoldsAll result.job result.held }
         ensures only { HoldsNoMore result.job self.entry.held result.held }
     {
@@ -464,7 +460,7 @@ impl<'g> Locked<'g> {
         ensures same { self.new ≡ record self.old { pass = self.new.pass } }
     {
         let gpu = self.gpu;
-        gpu.status_with(&mut self.acquire, fence)
+        gpu.status_at(&mut self.acquire.seat, fence)
     }
 
     /// Gives everything back, and the job unchanged.

@@ -23,7 +23,7 @@ pub struct Pass {
 }
 
 impl Model for Pass {
-    ghost use Rattle.ww_lock.specs.Begun.{sees};
+    ghost use Rattle.ww_lock.specs.Seats.{sees};
     ghost use Rattle.drm_gpu.specs.Passes.{PassState, IsPassSeat, gpu_of, pass_of};
 
     ghost Value = { PassState };

@@ -34,9 +34,9 @@ impl<'g> Model for Reading<'g> {
 
     ghost Value = { ReadingState };
 
-    ghost view = { λ r. record { pass = pass_of r.gpu.now.home (view_of r.acquire); buffer = r.buffer; held = kept_of r.acquire.held.items } };
+    ghost view = { λ r. record { pass = pass_of r.gpu.now.home (view_of r.acquire); buffer = r.buffer; held = kept_of r.acquire.seat.held.items } };
 
-    ghost invariant = { λ r. Holding r.gpu.now r.acquire × (r.acquire.sealed ≡ false) × (r.buffer < length r.gpu.now.spec.buffers) × ((x : WithRoom) × (r.acquire.held.items ≡ (r.buffer, x) ∷ [])) };
+    ghost invariant = { λ r. Holding r.gpu.now r.acquire × (r.acquire.sealed ≡ false) × (r.buffer < length r.gpu.now.spec.buffers) × ((x : WithRoom) × (r.acquire.seat.held.items ≡ (r.buffer, x) ∷ [])) };
 }
 
 impl<'g> Reading<'g> {
@@ -53,11 +53,11 @@ impl<'g> Reading<'g> {
         ensures same { self.new ≡ record self.old { pass = self.new.pass } }
     {
         let gpu = self.gpu;
-        let device = gpu.enter_for_with(&mut self.acquire, &Needs::Buffer(self.buffer), rt);
+        let device = gpu.enter_for(&mut self.acquire.seat, &Needs::Buffer(self.buffer), rt);
         let found = Snapshot::of(&device);
         device.facts();
         let answer = device.read_into(self.buffer, &self.acquire.held()[0].1, out);
-        gpu.leave_with(&mut self.acquire, device, &found);
+        gpu.leave(&mut self.acquire.seat, device, &found);
         answer
     }
 
@@ -72,7 +72,7 @@ impl<'g> Reading<'g> {
         ensures same { self.new ≡ record self.old { pass = self.new.pass } }
     {
         let gpu = self.gpu;
-        gpu.status_with(&mut self.acquire, fence)
+        gpu.status_at(&mut self.acquire.seat, fence)
     }
 
     /// Gives the buffer back.
@@ -88,8 +88,8 @@ impl<'g> Reading<'g> {
     }
 }
 
-/// Once a readback was answered, the next one of the same reading is answered too, and with the same bytes: nobody arms a
-/// writer of a buffer while its `dma_resv` is held.
+/// Once a readback was answered, the next one of the same reading is answered too, and with the same bytes, whatever
+/// fences the reader looks at between: nobody arms a writer of a buffer while its `dma_resv` is held.
 pub fn readbacks_agree()
     ensures { ReadbacksAgree }
 {

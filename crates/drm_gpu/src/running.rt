@@ -1,11 +1,11 @@
 //! Packets that run outside the device's lock, on their own buffers.
 ghost use Rattle.std.specs.Prelude.{◌≡◌, ◌<◌, ℕ, List, Some, IsTrue, length, Ok, IfOk, IfErr};
 ghost use Rattle.drm_packet.specs.Parts.{fits_parts};
-ghost use Rattle.ww_lock.specs.Begun.{sees};
+ghost use Rattle.ww_lock.specs.Seats.{sees};
 ghost use Rattle.drm_state.specs.declared.answer.Stepped.TheVariants.{Ran};
 ghost use Rattle.drm_gpu.specs.Answers.{StepIs};
 ghost use Rattle.drm_gpu.specs.Passes.{Calls, CallsAs, IsPassSeat};
-ghost use Rattle.drm_gpu.specs.Running.{SeatHasOut, IsSent, RunsNothing, Starts, task_of, written};
+ghost use Rattle.drm_gpu.specs.Running.{SeatHasOut, SeatHasRun, IsSent, RunsNothing, Starts, task_of, written};
 
 use crate::driver::Task;
 use crate::gpu::Gpu;
@@ -28,6 +28,13 @@ pub(crate) struct OutPacket {
     pub(crate) copy: Packet,
     pub(crate) write: Option<Buffer>,
     pub(crate) read: Option<Buffer>,
+}
+
+/// A packet that has run and is to be reported, with what the device waits for. Only `OutPacket::run` makes one.
+#[derive(Drop)]
+pub(crate) struct RanPacket {
+    out: OutPacket,
+    task: Task,
 }
 
 /// What came of a step that a caller began.
@@ -60,7 +67,7 @@ pub struct Running<'g> {
 }
 
 impl<'g> Model for Running<'g> {
-    ghost use Rattle.ww_lock.specs.Begun.{sees};
+    ghost use Rattle.ww_lock.specs.Seats.{sees};
     ghost use Rattle.drm_gpu.specs.Passes.{pass_of};
     ghost use Rattle.drm_gpu.specs.Running.{SeatHasOut, RunningState};
 
@@ -85,14 +92,19 @@ impl OutPacket {
         }
     }
 
-    // Runs the packet on its buffers.
-    fn run(&mut self)
-        requires { (bytes : List ℕ) → self.old.write ≡ Some bytes → IsTrue (fits_parts self.old.copy bytes self.old.read) }
-        ensures { self.new ≡ record self.old { write = written self.old } }
+    // Runs the packet on its own buffers. It is handed neither the device nor the lock, and nothing else makes what a
+    // report wants: so a packet that is reported has run beside the device.
+    fn run(self) -> RanPacket
+        requires { (bytes : List ℕ) → self.write ≡ Some bytes → IsTrue (fits_parts self.copy bytes self.read) }
+        ensures task { result.task ≡ task_of self }
+        ensures bytes { result.out ≡ record self { write = written self } }
     {
-        if let Some(write) = &mut self.write {
-            self.copy.run_parts(write, self.read.as_ref());
+        let task = self.task();
+        let mut out = self;
+        if let Some(write) = &mut out.write {
+            out.copy.run_parts(write, out.read.as_ref());
         }
+        RanPacket { out, task }
     }
 }
 
@@ -137,17 +149,15 @@ impl Gpu {
         }
     }
 
-    // Runs a packet that is out, and takes it back.
-    fn run_out<R: Wait>(&self, seat: &mut DeviceSeat, out: OutPacket, rt: &R) -> Stepped
-        requires { SeatHasOut self.now out seat.old }
-        ensures ran { result ≡ Ran out.fence out.packet }
+    // Takes a packet back that was out and has run.
+    fn take_back<R: Wait>(&self, seat: &mut DeviceSeat, ran: RanPacket, rt: &R) -> Stepped
+        requires { SeatHasRun self.now ran seat.old }
+        ensures ran { result ≡ Ran ran.out.fence ran.out.packet }
         ensures seat { IsPassSeat self.now seat.new }
-        ensures call { CallsAs (StepIs out.ring (Ok (Ran out.fence out.packet))) (sees seat.old) (sees seat.new) }
+        ensures call { CallsAs (StepIs ran.out.ring (Ok (Ran ran.out.fence ran.out.packet))) (sees seat.old) (sees seat.new) }
     {
-        let task = out.task();
-        let mut out = out;
-        out.run();
-        let mut device = self.enter_again(seat, &task, rt);
+        let RanPacket { out, task } = ran;
+        let mut device = self.enter(seat, rt);
         let found = Snapshot::of(&device);
         let OutPacket {
             ring,
@@ -203,7 +213,7 @@ impl Gpu {
         ensures call { Calls (StepIs ring result) pass.old pass.new }
     {
         match self.send_out(&mut pass.seat, ring, rt) {
-            Sent::Out(out) => Ok(self.run_out(&mut pass.seat, out, rt)),
+            Sent::Out(out) => Ok(self.take_back(&mut pass.seat, out.run(), rt)),
             Sent::Stalled(fence) => Ok(Stepped::Stalled { fence }),
             Sent::Idle => Err(StepError::Idle),
         }
@@ -225,7 +235,7 @@ impl<'g> Running<'g> {
         ensures call { Calls (StepIs self.entry.ring (Ok result.1)) self.entry.pass result.0 }
     {
         let Running { gpu, mut seat, out } = self;
-        let ran = gpu.run_out(&mut seat, out, rt);
+        let ran = gpu.take_back(&mut seat, out.run(), rt);
         (Pass { seat }, ran)
     }
 }

@@ -39,7 +39,7 @@ impl<'g> Model for Planned<'g> {
     ghost view = { λ l. record { submission = submission_of l.gpu.now.home l.plan.job l.acquire; deps = l.plan.deps } };
 
     ghost invariant = { λ l. Holding l.gpu.now l.acquire × (l.acquire.sealed ≡ true) × IsJob l.gpu.now.spec l.plan.job
-        × HoldsAll l.plan.job (kept_of l.acquire.held.items) × CoverWhereFit l.plan.job (kept_of l.acquire.held.items) l.plan.deps × HaveRoom l.plan.job l.acquire.held.items };
+        × HoldsAll l.plan.job (kept_of l.acquire.seat.held.items) × CoverWhereFit l.plan.job (kept_of l.acquire.seat.held.items) l.plan.deps × HaveRoom l.plan.job l.acquire.seat.held.items };
 }
 
 /// A submission whose job is armed.
@@ -59,7 +59,7 @@ impl<'g> Model for Armed<'g> {
 
     ghost Value = { ArmedSubmission };
 
-    ghost view = { λ l. record { pass = pass_of l.gpu.now.home (view_of l.acquire); held = kept_of l.acquire.held.items; fence = l.fence } };
+    ghost view = { λ l. record { pass = pass_of l.gpu.now.home (view_of l.acquire); held = kept_of l.acquire.seat.held.items; fence = l.fence } };
 
     ghost invariant = { λ l. Holding l.gpu.now l.acquire × (l.acquire.sealed ≡ true) };
 }
@@ -128,14 +128,14 @@ impl<'g> Planned<'g> {
             mut acquire,
             plan,
         } = self;
-        let mut device = gpu.enter_with(&mut acquire, rt);
+        let mut device = gpu.enter(&mut acquire.seat, rt);
         let found = Snapshot::of(&device);
         let mut held: Held = acquire.take_values();
         let answer = device.arm(plan, &mut held);
         acquire.put_values(held);
         match answer {
             Ok(fence) => {
-                gpu.show_and_leave_with(&mut acquire, device, &found, fence, 1);
+                gpu.show_and_leave(&mut acquire.seat, device, &found, fence, 1);
                 Ok(Armed {
                     gpu,
                     acquire,
@@ -143,7 +143,7 @@ impl<'g> Planned<'g> {
                 })
             }
             Err((plan, error)) => {
-                gpu.leave_with(&mut acquire, device, &found);
+                gpu.leave(&mut acquire.seat, device, &found);
                 Err((Planned { gpu, acquire, plan }, error))
             }
         }
@@ -167,7 +167,7 @@ impl<'g> Planned<'g> {
         ensures same { self.new ≡ record self.old { submission = record self.old.submission { pass = self.new.submission.pass } } }
     {
         let gpu = self.gpu;
-        gpu.status_with(&mut self.acquire, fence)
+        gpu.status_at(&mut self.acquire.seat, fence)
     }
 
     /// Gives everything back, and the job unchanged.
@@ -199,7 +199,7 @@ impl<'g> Armed<'g> {
         ensures same { self.new ≡ record self.old { pass = self.new.pass } }
     {
         let gpu = self.gpu;
-        gpu.status_with(&mut self.acquire, fence)
+        gpu.status_at(&mut self.acquire.seat, fence)
     }
 
     /// Gives the reservations back (`drm_exec_fini`).

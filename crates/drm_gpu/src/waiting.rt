@@ -1,14 +1,11 @@
 //! How a caller waits for a packet that is out and takes the device once it is back.
 ghost use Rattle.std.specs.Prelude.{◌≡◌, false, true, length, MatchOption};
-ghost use Rattle.ww_lock.specs.Acquiring.{view};
-ghost use Rattle.ww_lock.specs.Begun.{sees};
+ghost use Rattle.ww_lock.specs.Seats.{sees};
 ghost use Rattle.drm_state.specs.Held.{kept_of};
-ghost use Rattle.drm_gpu.specs.Passes.{Entered, HasWaited, IsFound, IsPassSeat, IsSameBut};
+ghost use Rattle.drm_gpu.specs.Passes.{Entered, Fitting, HasWaited, HoldsOn, IsFound, IsSameBut, Seated};
 ghost use Rattle.drm_gpu.specs.Running.{IsThere, is_kept};
-ghost use Rattle.drm_gpu.specs.Submissions.{EnteredWith, Fitting, Holding, IsSameHolder};
 
 use crate::gpu::Gpu;
-use crate::locking::DeviceAcquire;
 use crate::pass::DeviceSeat;
 use drm_sched::Device;
 use drm_types::{BufferId, RingId};
@@ -47,10 +44,11 @@ impl Needs {
 impl Gpu {
     // Takes the device if no packet keeps the caller from what it needs. Else it is at home again.
     fn try_enter<R: Wait>(&self, seat: &mut DeviceSeat, needs: &Needs, rt: &R) -> Option<Device>
-        requires seat { IsPassSeat self.now seat.old }
+        requires seat { Seated self.now seat.old }
         requires there { IsThere needs.now self.now.spec }
-        ensures entered { MatchOption result (IsPassSeat self.now seat.new × HasWaited (sees seat.old) (sees seat.new))
-            (λ d. Entered self.now d seat.new × IsFound d (sees seat.old) × (is_kept needs.now d ≡ false)) }
+        ensures entered { MatchOption result (Seated self.now seat.new × HasWaited (sees seat.old) (sees seat.new))
+            (λ d. Entered self.now d seat.new × IsFound d (sees seat.old) × Fitting d (kept_of seat.new.held.items) × (is_kept needs.now d ≡ false)) }
+        ensures holds { HoldsOn seat.old seat.new }
         ensures same { IsSameBut (sees seat.old) (sees seat.new) }
     {
         let device = self.enter(seat, rt);
@@ -62,67 +60,21 @@ impl Gpu {
         None
     }
 
-    // Waits until no packet keeps the caller from what it needs, and takes the device.
+    // Waits until no packet keeps the caller from what it needs, and takes the device. What the caller holds fits it.
     pub(crate) fn enter_for<R: Wait>(&self, seat: &mut DeviceSeat, needs: &Needs, rt: &R) -> Device
-        requires seat { IsPassSeat self.now seat.old }
+        requires seat { Seated self.now seat.old }
         requires there { IsThere needs.now self.now.spec }
         ensures entered { Entered self.now result seat.new }
         ensures found { IsFound result (sees seat.old) }
+        ensures fit { Fitting result (kept_of seat.new.held.items) }
         ensures free { is_kept needs.now result ≡ false }
+        ensures holds { HoldsOn seat.old seat.new }
         ensures same { IsSameBut (sees seat.old) (sees seat.new) }
     {
         let mut entry = WaitEntry::new();
         for _ in rt.forever() {
             self.packets.prepare(&mut entry);
             if let Some(device) = self.try_enter(seat, needs, rt) {
-                return device;
-            }
-            self.packets.sleep(&mut entry, rt);
-        }
-        unreachable!()
-    }
-
-    // `try_enter` for a caller that holds values.
-    fn try_enter_with<R: Wait>(
-        &self,
-        acquire: &mut DeviceAcquire,
-        needs: &Needs,
-        rt: &R,
-    ) -> Option<Device>
-        requires holding { Holding self.now acquire.old }
-        requires there { IsThere needs.now self.now.spec }
-        ensures entered { MatchOption result (Holding self.now acquire.new × HasWaited (view acquire.old) (view acquire.new))
-            (λ d. EnteredWith self.now d acquire.new × IsFound d (view acquire.old) × Fitting d (kept_of acquire.old.held.items) × (is_kept needs.now d ≡ false)) }
-        ensures same { IsSameHolder acquire.old acquire.new × IsSameBut (view acquire.old) (view acquire.new) }
-    {
-        let device = self.enter_with(acquire, rt);
-        if !needs.is_kept(&device) {
-            return Some(device);
-        }
-        let found = Snapshot::of(&device);
-        self.leave_as_found_with(acquire, device, &found);
-        None
-    }
-
-    // `enter_for` for a caller that holds values.
-    pub(crate) fn enter_for_with<R: Wait>(
-        &self,
-        acquire: &mut DeviceAcquire,
-        needs: &Needs,
-        rt: &R,
-    ) -> Device
-        requires holding { Holding self.now acquire.old }
-        requires there { IsThere needs.now self.now.spec }
-        ensures entered { EnteredWith self.now result acquire.new }
-        ensures found { IsFound result (view acquire.old) }
-        ensures fit { Fitting result (kept_of acquire.old.held.items) }
-        ensures free { is_kept needs.now result ≡ false }
-        ensures same { IsSameHolder acquire.old acquire.new × IsSameBut (view acquire.old) (view acquire.new) }
-    {
-        let mut entry = WaitEntry::new();
-        for _ in rt.forever() {
-            self.packets.prepare(&mut entry);
-            if let Some(device) = self.try_enter_with(acquire, needs, rt) {
                 return device;
             }
             self.packets.sleep(&mut entry, rt);

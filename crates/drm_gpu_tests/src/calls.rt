@@ -39,7 +39,7 @@ pub fn begun<'g, R: Wait + Abort>(
 ) -> Locking<'g>
     requires pass { IsPair gpu.now.spec × (pass.gpu ≡ gpu.now) }
     requires job { IsJob (pair_of 8) job }
-    ensures { (result.pass ≡ pass) × (result.job ≡ job) × (result.held ≡ []) }
+    ensures { (result.pass.gpu ≡ pass.gpu) × (result.job ≡ job) × (result.held ≡ []) }
 {
     let Ok(locking) = gpu.begin(alloc, pass, job, rt) else {
         panic!(rt; "no ticket")

@@ -30,6 +30,8 @@ mod recovery;
 #[cfg(test)]
 mod refusals;
 #[cfg(test)]
+mod stalls;
+#[cfg(test)]
 mod submitting;
 #[cfg(test)]
 mod threads;

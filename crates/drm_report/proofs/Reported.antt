@@ -73,10 +73,12 @@ module _ {V : Type 0} (items : V → List ℕ) (spec : DeviceSpec) (jobs : List 
 pub reported : (spec : DeviceSpec) (jobs : List Draft) (n : ℕ) (r : Report) → HasRun (λ v. v.items) spec jobs n r.closed r.armed.items
     → IsComplete (length jobs) r.closed r.picked.items r.finished.items → IsReport spec jobs n r
 reported spec jobs n r run complete = record {
+  closed = record { pass = run.pass; leaves = run.leaves; whole = run.whole; described = run.described };
   device = run.leaves.spec.1 ∙ run.described;
   bytes = bytes (λ v. v.items) spec jobs n r.closed r.armed.items run;
   inside = inside (λ v. v.items) spec jobs n r.closed r.armed.items run;
   places = places (λ v. v.items) spec jobs n r.closed r.armed.items run;
+  all = run.leaves.all run.whole;
   fit = fit (λ v. v.items) spec jobs n r.closed r.armed.items run;
   sound = sound (λ v. v.items) spec jobs n r.closed r.armed.items run;
   armed = all_armed (λ v. v.items) spec jobs n r.closed r.armed.items run complete.count;

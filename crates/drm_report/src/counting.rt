@@ -1,9 +1,13 @@
 //! Counting records.
-ghost use Rattle.std.specs.Prelude.{◌≡◌, ◌<◌, ◌≤◌, ◌^◌, ℕ, ◌↔◌, IsTrue, All, Some, length, slice_get};
+ghost use Rattle.std.specs.Prelude.{◌≡◌, ◌≢◌, ◌<◌, ◌≤◌, ◌^◌, ℕ, ◌↔◌, IsTrue, All, Some, length, slice_get};
 ghost use Rattle.drm_fence.specs.Phases.{has_ended};
+ghost use Rattle.drm_fence.specs.declared.phase.Phase.TheVariants.{Ended};
+ghost use Rattle.drm_types.specs.declared.outcome.Outcome.TheVariants.{Stopped};
 ghost use Rattle.drm_report.specs.Reports.{records_of, AreCounts};
 
+use drm_fence::Phase;
 use drm_sched::JobRecord;
+use drm_types::Outcome;
 
 /// How many rings a device has at most.
 pub(crate) const MOST_RINGS: usize = 8;
@@ -14,6 +18,18 @@ pub(crate) fn have_ended(records: &[JobRecord]) -> bool
 {
     for record in records {
         if !record.phase.is_ended() {
+            return false;
+        }
+    }
+    true
+}
+
+/// Whether no job was stopped before it ran.
+pub(crate) fn none_stopped(records: &[JobRecord]) -> bool
+    ensures { IsTrue result ↔ All (λ r. r.phase ≢ Ended Stopped) records.now }
+{
+    for record in records {
+        if record.phase == Phase::Ended(Outcome::Stopped) {
             return false;
         }
     }

@@ -3,7 +3,7 @@ ghost use Rattle.std.specs.Prelude.{◌≡◌, ◌≤◌, ℕ, List, None, lengt
 ghost use Rattle.drm_types.specs.Limits.{spec_fault};
 ghost use Rattle.drm_report.specs.Reports.{HasRun, IsComplete, IsReport};
 
-use crate::counting::{are_counts, count_rings, have_ended};
+use crate::counting::{are_counts, count_rings, have_ended, none_stopped};
 use drm_gpu::Closed;
 use drm_types::FenceId;
 
@@ -22,12 +22,14 @@ pub struct Report {
     pub resets: u32,
 }
 
-/// The report of a run of so many jobs, where all of them were armed and have their outcomes, and the jobs that were picked
-/// and finished on each ring are as many as its records. The work is in proportion to the records.
+/// The report of a run of so many jobs, where all of them were armed and have their outcomes, none was stopped, and
+/// the jobs that were picked and finished on each ring are as many as its records. The work is in proportion to the
+/// records.
 ///
 /// # Errors
 ///
-/// Where a job is missing, has no outcome, or was counted otherwise. What the device left comes back.
+/// Where a job is missing, has no outcome, was stopped before it ran, or was counted otherwise. What the device left
+/// comes back.
 pub fn tell(
     closed: Closed,
     armed: Vec<Vec<FenceId>>,
@@ -43,7 +45,7 @@ pub fn tell(
     ensures refused { IfErr result (λ c. (c ≡ closed) × (IsComplete jobs closed picked.items finished.items → ⊥)) }
 {
     let records = closed.records.as_slice();
-    if records.len() != jobs as usize || !have_ended(records) {
+    if records.len() != jobs as usize || !have_ended(records) || !none_stopped(records) {
         return Err(closed);
     }
     let rings = closed.spec.rings.len();

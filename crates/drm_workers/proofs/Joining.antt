@@ -8,8 +8,8 @@ use Rattle.drm_workers.specs.Works.{AllWorked, Worked, jobs_of}
 use Rattle.drm_workers.specs.Charges.{AreCharges, AreKept, IsCharge, IsKept}
 
 -- what a thread gives back is what its worker should
-kept : (gpu : GpuState) (w : Worker) (c : Charge) (d : Done) → IsCharge gpu w c → IsKept c d → Worked gpu (jobs_of w.duty) d
-kept gpu w c d i k = subst (λ v. Worked gpu (jobs_of v.duty) d) i.by (subst (λ s. Worked s (jobs_of c.worker.value.duty) d) i.device k)
+kept : (gpu : GpuState) (w : Worker) (c : Charge) (d : Done) → IsCharge gpu w c → IsKept c d → Worked gpu w.pass.part (jobs_of w.duty) d
+kept gpu w c d i k = subst (λ v. Worked gpu v.pass.part (jobs_of v.duty) d) i.by (subst (λ s. Worked s c.worker.value.pass.part (jobs_of c.worker.value.duty) d) i.device k)
 
 pub all_worked : {H : Type 0} → (charge : H → Charge) (gpu : GpuState) (ws : List Worker) (hs : List H) (ds : List Done) → AreCharges charge gpu ws hs → AreKept charge hs ds → AllWorked gpu ws ds
 all_worked charge gpu [] [] [] a k = tt

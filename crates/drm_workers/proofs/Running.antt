@@ -17,8 +17,9 @@ use Rattle.drm_report.specs.Reports.{HasRun, all_items}
 use Rattle.drm_report.specs.Shares.{AreShares}
 use Rattle.drm_workers.specs.declared.work.Done.{Done}
 use Rattle.drm_workers.specs.declared.work.Worker.{Worker}
-use Rattle.drm_workers.specs.Gathers.{Gathers}
-use Rattle.drm_workers.specs.Works.{AllWorked, Tells, jobs_of}
+use Rattle.ww_lock.specs.Parts.{IsWhole}
+use Rattle.drm_workers.specs.Gathers.{Gathers, shares_of}
+use Rattle.drm_workers.specs.Works.{AllWorked, HaveAll, Tells, jobs_of, parts_of}
 
 pub as_many : (gpu : GpuState) (ws : List Worker) (ds : List Done) → AllWorked gpu ws ds → length ds ≡ length ws
 as_many gpu [] [] k = refl
@@ -125,10 +126,21 @@ few_workers n rings gpu shares ws ds count few small hired worked =
       small,
     )
 
-pub has_run : ArmedJobsStay → (spec : DeviceSpec) (list : List Draft) (n rings : ℕ) (gpu : GpuState) (shares : List (Vec Job Global)) (ws : List Worker) (ds : List Done) (pass : PassState)
+-- the parts that workers give back are those that they were given
+same_parts : (gpu : GpuState) (ws : List Worker) (ds : List Done) → AllWorked gpu ws ds → shares_of ds ≡ parts_of ws
+same_parts gpu [] [] k = refl
+same_parts gpu [] (d ∷ ds) k = absurd k
+same_parts gpu (w ∷ ws) [] k = absurd k
+same_parts gpu (w ∷ ws) (d ∷ ds) k = ap (λ p. p ++ shares_of ds) k.0.part ∙ ap (λ p. w.pass.part ++ p) (same_parts gpu ws ds k.1)
+
+-- so who has joined all has taken in all
+pub all_whole : (gpu : GpuState) (own : List ℕ) (ws : List Worker) (ds : List Done) (pass : PassState) → AllWorked gpu ws ds → Gathers gpu own ds pass → HaveAll own ws → IsWhole pass.part
+all_whole gpu own ws ds pass worked gathers have = subst IsWhole (sym (gathers.part ∙ ap (λ p. own ++ p) (same_parts gpu ws ds worked))) have
+
+pub has_run : ArmedJobsStay → (own : List ℕ) (spec : DeviceSpec) (list : List Draft) (n rings : ℕ) (gpu : GpuState) (shares : List (Vec Job Global)) (ws : List Worker) (ds : List Done) (pass : PassState)
     (closed : Closed) (armed : List (Vec ℕ Global)) → 0 < n → gpu.spec ≡ spec → AreShares (λ share. share.items) n list shares → map (λ w. jobs_of w.duty) ws ≡ lists_of rings shares
-    → AllWorked gpu ws ds → All (λ d. d.is_done ≡ true) ds → Gathers gpu ds pass → armed ≡ firsts n ds → Leaves pass closed → HasRun (λ v. v.items) spec list n closed armed
-has_run law spec list n rings gpu shares ws ds pass closed armed some described dealt hired worked all gathers cut leaves =
+    → AllWorked gpu ws ds → All (λ d. d.is_done ≡ true) ds → Gathers gpu own ds pass → HaveAll own ws → armed ≡ firsts n ds → Leaves pass closed → HasRun (λ v. v.items) spec list n closed armed
+has_run law own spec list n rings gpu shares ws ds pass closed armed some described dealt hired worked all gathers have cut leaves =
     let records = pass.last.state.journal in
     let lists : List (List Draft) = map (λ (share : Vec Job Global). share.items) shares in
     let rest : List (List Draft) = replicate rings [] ++ (replicate rings [] ++ [] ∷ []) in
@@ -140,6 +152,7 @@ has_run law spec list n rings gpu shares ws ds pass closed armed some described 
     record {
       pass = pass;
       leaves = leaves;
+      whole = all_whole gpu own ws ds pass worked gathers have;
       described = ap (λ (g : GpuState). g.spec) gathers.device ∙ described;
       ordered = gathers.ordered;
       submitters = some;

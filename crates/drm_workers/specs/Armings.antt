@@ -5,15 +5,17 @@ use Rattle.drm_gpu.specs.Passes.{GrowsTo, PassState}
 use Rattle.drm_report.specs.Armings.{armings}
 use Rattle.drm_report.specs.Jobs.{JobAt}
 
--- the pass is of the same device and has armed nothing more
+-- the pass is of the same device, of which it has the same part, and has armed nothing more
 abbrev pub ArmsNoMore : PassState → PassState → Type 0
-ArmsNoMore old new = (new.gpu ≡ old.gpu) × (armings new.calls ≡ armings old.calls)
+ArmsNoMore old new = (new.gpu ≡ old.gpu) × (armings new.calls ≡ armings old.calls) × (new.part ≡ old.part)
 
--- the pass is of the same device, has seen what came of that which it saw, and has armed these numbers more
+-- the pass is of the same device, of which it has the same part, has seen what came of that which it saw, and has
+-- armed these numbers more
 pub record HasArmed (numbers : List ℕ) (old new : PassState) : Type 0 where
   pub gpu : new.gpu ≡ old.gpu
   pub later : GrowsTo old.last new.last
   pub armed : armings new.calls ≡ armings old.calls ++ numbers
+  pub part : new.part ≡ old.part
 
 -- a submission is done: the job is armed under this number. Or the pass came back, and nothing is armed
 abbrev pub Submits : PassState → Draft → Result (PassState × ℕ) PassState → Type 0

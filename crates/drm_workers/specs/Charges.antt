@@ -20,7 +20,7 @@ AreCharges charge gpu (w ∷ ws) (h ∷ hs) = IsCharge gpu w (charge h) × AreCh
 
 -- the promise is kept
 abbrev pub IsKept : Charge → Done → Type 0
-IsKept c d = Worked c.gpu.value (jobs_of c.worker.value.duty) d
+IsKept c d = Worked c.gpu.value c.worker.value.pass.part (jobs_of c.worker.value.duty) d
 
 -- the promise of each handle is kept
 abbrev pub AreKept : {H : Type 0} → (H → Charge) → List H → List Done → Type 0

@@ -1,8 +1,9 @@
 -- What a worker may begin with, and what it gives back.
-use Rattle.std.specs.Prelude.{◌≡◌, ◌<◌, ◌≤◌, ◌++◌, All, true, length, map, vec_len, vec_capacity, List, [], ◌∷◌}
+use Rattle.std.specs.Prelude.{◌≡◌, ℕ, ◌<◌, ◌≤◌, ◌++◌, All, true, length, map, vec_len, vec_capacity, List, [], ◌∷◌}
 use Rattle.drm_types.specs.declared.spec.DeviceSpec.{DeviceSpec}
 use Rattle.drm_job.specs.declared.Draft.{Draft}
 use Rattle.drm_job.specs.Fault.{IsJob}
+use Rattle.ww_lock.specs.Parts.{IsWhole}
 use Rattle.drm_gpu.specs.Passes.{GpuState}
 use Rattle.drm_workers.specs.declared.work.Duty.{Duty}
 use Rattle.drm_workers.specs.declared.work.Duty.TheVariants as duty
@@ -31,9 +32,11 @@ pub record MayWork (gpu : GpuState) (worker : Worker) : Type 0 where
   pub fresh : armings worker.pass.calls ≡ []
   pub can : CanDo gpu.spec worker.duty
 
--- a worker with these jobs is over: it has armed the numbers that it tells, and where it is done, they are those of its jobs in order
-pub record Worked (gpu : GpuState) (jobs : List Draft) (done : Done) : Type 0 where
+-- a worker with this part of the device and these jobs is over: it has the part still, has armed the numbers that it
+-- tells, and where it is done, they are those of its jobs in order
+pub record Worked (gpu : GpuState) (own : List ℕ) (jobs : List Draft) (done : Done) : Type 0 where
   pub pass : done.pass.gpu ≡ gpu
+  pub part : done.pass.part ≡ own
   pub armings : armings done.pass.calls ≡ done.armed.items
   pub order : done.is_done ≡ true → AreJobsOf done.pass.last.state.journal done.armed.items jobs
 
@@ -46,9 +49,18 @@ abbrev pub AllWorked : GpuState → List Worker → List Done → Type 0
 AllWorked gpu [] [] = Unit {0}
 AllWorked gpu [] (done ∷ dones) = ⊥
 AllWorked gpu (worker ∷ workers) [] = ⊥
-AllWorked gpu (worker ∷ workers) (done ∷ dones) = Worked gpu (jobs_of worker.duty) done × AllWorked gpu workers dones
+AllWorked gpu (worker ∷ workers) (done ∷ dones) = Worked gpu worker.pass.part (jobs_of worker.duty) done × AllWorked gpu workers dones
 
 -- workers with these lists of jobs were hired behind those that there were. Each may begin where those may
 abbrev pub Hires : GpuState → List (List Draft) → List Worker → List Worker → Type 0
 Hires gpu lists old new =
     (map (λ w. jobs_of w.duty) new ≡ map (λ w. jobs_of w.duty) old ++ lists) × (All (MayWork gpu) old → All (MayWork gpu) new)
+
+-- the parts of the device that workers have
+abbrev pub parts_of : List Worker → List ℕ
+parts_of [] = []
+parts_of (worker ∷ workers) = worker.pass.part ++ parts_of workers
+
+-- a pass and these workers have the whole device
+abbrev pub HaveAll : List ℕ → List Worker → Type 0
+HaveAll part workers = IsWhole (part ++ parts_of workers)

@@ -1,6 +1,7 @@
 //! A run of jobs from a description to its report.
 ghost use Rattle.std.specs.Prelude.{◌≡◌, ◌<◌, ◌≤◌, ℕ, List, [], All, IfErr, IfOk, None, length, vec_len};
 ghost use Rattle.drm_types.specs.Limits.{spec_fault};
+ghost use Rattle.ww_lock.specs.Parts.{IsWhole};
 ghost use Rattle.drm_job.specs.declared.Draft.{Draft};
 ghost use Rattle.drm_job.specs.Fault.{IsJob};
 ghost use Rattle.drm_gpu.specs.declared.gpu.Closed.{Closed};
@@ -33,6 +34,7 @@ fn take_apart(
     jobs: u32,
 ) -> Result<Report, RunFault>
     requires pass { pass.gpu ≡ gpu }
+    requires whole { IsWhole pass.part }
     requires described { spec_fault gpu.spec ≡ None }
     ensures report { IfOk result (λ report. (list : List Draft) (n : ℕ) → length list ≡ jobs
         → ((closed : Closed) → Leaves pass closed → HasRun (λ v. v.items) gpu.spec list n closed armed.items) → IsReport gpu.spec list n report) }
@@ -66,7 +68,7 @@ fn drive<R: Threads + Wait + Sync, C: Clock + Sync, G: Gate + Sync>(
     gate: &G,
     rt: &R,
 ) -> Result<Report, RunFault>
-    requires pass { (pass.gpu ≡ gpu) × (pass.calls ≡ []) }
+    requires pass { (pass.gpu ≡ gpu) × (pass.calls ≡ []) × IsWhole pass.part }
     requires described { spec_fault gpu.spec ≡ None }
     requires jobs { All (IsJob gpu.spec) jobs.items × (vec_len jobs ≡ limits.jobs) }
     requires submitters { (0 < submitters) × (submitters ≤ 16) }

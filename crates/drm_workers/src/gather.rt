@@ -75,7 +75,7 @@ pub(crate) fn gather(
     requires pass { (pass.gpu ≡ gpu.now) × (pass.calls ≡ []) }
     requires dones { All (Tells gpu.now) dones.items }
     requires room { (armed.old.items ≡ []) × (vec_len dones ≤ vec_capacity armed.old) }
-    ensures gathered { Gathers gpu.now dones.items result }
+    ensures gathered { Gathers gpu.now pass.part dones.items result }
     ensures lists { armed.new.items ≡ map (λ d. d.armed) dones.items }
 {
     joined_armings();

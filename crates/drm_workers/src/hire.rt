@@ -2,7 +2,8 @@
 ghost use Rattle.std.specs.Prelude.{◌≡◌, ◌<◌, ◌≤◌, ◌++◌, ◌∷◌, [], All, IfOk, OnOk, length, map, replicate, vec_len};
 ghost use Rattle.drm_types.specs.declared.spec.DeviceSpec.{DeviceSpec};
 ghost use Rattle.drm_job.specs.Fault.{IsJob};
-ghost use Rattle.drm_workers.specs.Works.{CanDo, Hires, MayWork, jobs_of};
+ghost use Rattle.ww_lock.specs.Parts.{IsWhole};
+ghost use Rattle.drm_workers.specs.Works.{CanDo, HaveAll, Hires, MayWork, jobs_of};
 
 use crate::work::{Duty, Worker};
 use drm_gpu::{Gpu, Pass};
@@ -22,6 +23,7 @@ fn hire(
     requires duty { CanDo gpu.now.spec duty }
     ensures pass { IfOk result (λ p. (p.gpu ≡ gpu.now) × (p.calls ≡ [])) }
     ensures hired { OnOk result (Hires gpu.now (jobs_of duty ∷ []) workers.old.items workers.new.items) }
+    ensures whole { IfOk result (λ p. HaveAll pass.part workers.old.items → HaveAll p.part workers.new.items) }
 {
     let (kept, given) = gpu.split(pass);
     workers.push(Worker {
@@ -44,6 +46,7 @@ fn hire_submitters(
     requires jobs { All (λ share. All (IsJob gpu.now.spec) share.items) shares.items }
     ensures pass { IfOk result (λ p. (p.gpu ≡ gpu.now) × (p.calls ≡ [])) }
     ensures hired { OnOk result (Hires gpu.now (map (λ share. share.items) shares.items) workers.old.items workers.new.items) }
+    ensures whole { IfOk result (λ p. HaveAll pass.part workers.old.items → HaveAll p.part workers.new.items) }
 {
     let mut pass = pass;
     let mut number = 0u32;
@@ -80,6 +83,7 @@ fn hire_on_rings(
     requires rings { rings ≡ length gpu.now.spec.rings }
     ensures pass { IfOk result (λ p. (p.gpu ≡ gpu.now) × (p.calls ≡ [])) }
     ensures hired { OnOk result (Hires gpu.now (replicate rings []) workers.old.items workers.new.items) }
+    ensures whole { IfOk result (λ p. HaveAll pass.part workers.old.items → HaveAll p.part workers.new.items) }
 {
     let mut pass = pass;
     for ring in 0..rings {
@@ -114,6 +118,7 @@ pub fn hire_all(
     requires rings { rings ≡ length gpu.now.spec.rings }
     ensures pass { IfOk result (λ t. (t.0.gpu ≡ gpu.now) × (t.0.calls ≡ [])) }
     ensures workers { IfOk result (λ t. All (MayWork gpu.now) t.1.items) }
+    ensures whole { IfOk result (λ t. IsWhole pass.part → HaveAll t.0.part t.1.items) }
     ensures jobs { IfOk result (λ t. map (λ w. jobs_of w.duty) t.1.items ≡ ((map (λ share. share.items) shares.items ++ replicate rings []) ++ replicate rings []) ++ [] ∷ []) }
 {
     let submitters = shares.len() as u32;

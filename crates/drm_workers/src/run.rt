@@ -85,7 +85,7 @@ pub fn run_workers<R: Threads + Wait + Sync, C: Clock + Sync, G: Gate + Sync>(
                     promise,
                     move || -> Done
                         requires { MayWork gpu.now worker × (limits.rings ≡ length gpu.now.spec.rings) }
-                        ensures { Worked gpu.entry.now (jobs_of worker.duty) result }
+                        ensures { Worked gpu.entry.now worker.pass.part (jobs_of worker.duty) result }
                     { work(gpu, alloc, worker, limits, off, clock, gate, rt) },
                 );
                 match started {

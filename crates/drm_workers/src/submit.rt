@@ -25,7 +25,7 @@ fn begin<'g, R: Wait>(
 ) -> Result<Locking<'g>, Pass>
     requires pass { pass.gpu ≡ gpu.now }
     requires job { IsJob gpu.now.spec job }
-    ensures begun { IfOk result (λ l. (l.pass ≡ pass) × (l.job ≡ job)) }
+    ensures begun { IfOk result (λ l. HasArmed [] pass l.pass × (l.job ≡ job)) }
     ensures back { IfErr result (HasArmed [] pass) }
 {
     let mut pass = pass;
@@ -136,6 +136,7 @@ pub(crate) fn submit_all<R: Wait, G: Gate>(
     requires room { (armed.old.items ≡ []) × (vec_len jobs ≤ vec_capacity armed.old) }
     ensures pass { result.0.gpu ≡ gpu.now }
     ensures armings { armings result.0.calls ≡ armed.new.items }
+    ensures part { result.0.part ≡ pass.part }
     ensures jobs { result.1 ≡ true → AreJobsOf result.0.last.state.journal armed.new.items jobs.items }
 {
     armed_jobs_stay();

@@ -84,7 +84,7 @@ pub(crate) struct Charge {
 impl Promise<Done> for Charge {
     ghost use Rattle.drm_workers.specs.Works.{Worked, jobs_of};
 
-    ghost kept_by = { λ p d. Worked p.gpu.value (jobs_of p.worker.value.duty) d };
+    ghost kept_by = { λ p d. Worked p.gpu.value p.worker.value.pass.part (jobs_of p.worker.value.duty) d };
 }
 
 /// Does what the worker is for, until it is done or has no turn left.
@@ -100,7 +100,7 @@ pub(crate) fn work<R: Wait, C: Clock, G: Gate>(
 ) -> Done
     requires worker { MayWork gpu.now worker }
     requires rings { limits.rings ≡ length gpu.now.spec.rings }
-    ensures { Worked gpu.now (jobs_of worker.duty) result }
+    ensures { Worked gpu.now worker.pass.part (jobs_of worker.duty) result }
 {
     let Worker { number, pass, duty } = worker;
     let mut pass = pass;

@@ -46,7 +46,8 @@ pub(crate) fn run<R: Threads + Wait + Abort + Sync, C: Clock + Sync, G: Gate + S
     run_all(alloc, spec, jobs, submitters, turns, clock, gate, rt)
 }
 
-// Each ring was given and has finished so many jobs, no hang was met, and the buffers hold these bytes.
+// Each ring was given and has finished so many jobs, no hang was met, each buffer has its reservation, and the
+// buffers hold these bytes.
 fn is_reported<R: Abort>(report: &Report, each: u32, bytes: [u8; 2], rt: &R)
     requires { (b : ℕ) → b < 2 → slice_get report.now.closed.buffers.out b ≡ Some false }
 {
@@ -54,6 +55,7 @@ fn is_reported<R: Abort>(report: &Report, each: u32, bytes: [u8; 2], rt: &R)
     assert_eq!(rt; report.finished.as_slice(), [each, each].as_slice());
     assert_eq!(rt; report.resets, 0);
     assert_eq!(rt; report.closed.records.len(), 2 * each as usize);
+    assert!(rt; report.closed.resvs.iter().all(|resv| resv.is_some()));
     let buffers = &report.closed.buffers;
     assert!(rt; buffers.bytes(BufferId::new(0)) == [bytes[0]; 4].as_slice());
     assert!(rt; buffers.bytes(BufferId::new(1)) == [bytes[1]; 4].as_slice());

@@ -1,6 +1,6 @@
 //! Rounds that take work out of the device: a thread begins a packet inside, leaves, and reports it inside.
 ghost use Rattle.std.specs.Prelude.{◌≡◌, ◌↔◌, All, IsTrue, Some, true, false, slice_get};
-ghost use Rattle.ww_lock.specs.Begun.{IsIdle, IsOutside, sees};
+ghost use Rattle.ww_lock.specs.Seats.{IsIdle, IsOutside, sees};
 ghost use Rattle.ww_lock.specs.Boards.{table_of};
 
 use crate::shares::{Share, shares_of};

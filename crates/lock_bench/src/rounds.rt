@@ -4,7 +4,7 @@ ghost use Rattle.atomic_table.specs.Seated.{TableId};
 ghost use Rattle.std.specs.List.Sorted.{IsPermutation};
 ghost use Rattle.ww_lock.specs.Acquiring.{IsReady};
 ghost use Rattle.ww_lock.specs.Boards.{table_of};
-ghost use Rattle.ww_lock.specs.Begun.{IsIdle, seat_back};
+ghost use Rattle.ww_lock.specs.Seats.{IsIdle, seat_back};
 
 use drm_types::BufferId;
 use std::alloc::{AllocError, Global};
@@ -117,7 +117,7 @@ fn lock_others<R: Wait>(
 fn release_all(board: &Board<Counters>, acquire: &mut Counting)
     requires { IsReady (λ _ _ _. Unit {0}) (table_of board.now) acquire.old }
     ensures ready { IsReady (λ _ _ _. Unit {0}) (table_of board.now) acquire.new }
-    ensures empty { acquire.new.held.items ≡ [] }
+    ensures empty { acquire.new.seat.held.items ≡ [] }
 {
     while acquire.held().len() > 0 {
         let (buffer, _) = acquire.held()[0];

@@ -1,7 +1,7 @@
 //! Rounds that threads share.
 ghost use Rattle.std.specs.Prelude.{◌≡◌, All, IfOk};
 ghost use Rattle.ww_lock.specs.Boards.{table_of};
-ghost use Rattle.ww_lock.specs.Begun.{IsIdle};
+ghost use Rattle.ww_lock.specs.Seats.{IsIdle};
 
 use std::alloc::{AllocError, Global};
 use ww_lock::{Board, Seat, Ward};

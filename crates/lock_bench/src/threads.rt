@@ -1,7 +1,7 @@
 //! Rounds over counters that threads share.
 ghost use Rattle.std.specs.Prelude.{◌≡◌, ◌≤◌, All};
 ghost use Rattle.ww_lock.specs.Boards.{table_of};
-ghost use Rattle.ww_lock.specs.Begun.{IsIdle};
+ghost use Rattle.ww_lock.specs.Seats.{IsIdle};
 
 use crate::rounds::{Counters, Pause, order_of, round};
 use crate::shares::{Share, shares_of};

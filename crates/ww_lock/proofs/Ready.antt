@@ -1,5 +1,5 @@
 -- What a caller that may lock keeps at each call.
-use Rattle.std.proofs.Common.{◌≡◌, ℕ, ◌<◌, ◌≤◌, suc, List, [], ◌∷◌, ◌++◌, length, sym, ap, ◌∙◌, subst, ⊎_elim, arith, eq-eqb, ne_eqb, Bool, false, None, Result, Ok, Err}
+use Rattle.std.proofs.Common.{◌≡◌, ℕ, ◌<◌, ◌≤◌, suc, List, [], ◌∷◌, ◌++◌, length, map, refl, sym, ap, ◌∙◌, subst, ⊎_elim, arith, eq-eqb, ne_eqb, Bool, false, None, Result, Ok, Err}
 use Rattle.std.specs.Prelude.{if◌then◌else◌}
 use mathlib.Core.Logic.{dite}
 use native.Mathlib.Decide.{ℕ_discrete}
@@ -9,11 +9,11 @@ use Rattle.ww_lock.specs.declared.locks.TryLockError.TheVariants.{Sealed, Alread
 use Rattle.atomic_table.specs.Seated.{TableId}
 use Rattle.ww_lock.specs.Rule.{In}
 use Rattle.ww_lock.specs.declared.board.View.{View}
-use Rattle.ww_lock.specs.Steps.{with_release, with_ticket, without}
-use Rattle.ww_lock.specs.Held.{IsApart, Lacks}
+use Rattle.ww_lock.specs.Steps.{number_of, with_release, with_ticket, without}
+use Rattle.ww_lock.specs.Held.{IsApart, Lacks, emptied}
 use Rattle.ww_lock.specs.Acquiring.{HoldsOutside, IsReady, IsSameAcquire, Claimed, AnswersTry, view}
 use Rattle.ww_lock.specs.declared.seat.Seat.{Seat}
-use Rattle.ww_lock.specs.Begun.{IsOutside, IsIdle, GivesBack, seat_back, sees}
+use Rattle.ww_lock.specs.Seats.{IsAsOwed, IsOutside, IsIdle, GivesBack, Sits, behind_pivot, seat_back, sees}
 use Rattle.ww_lock.specs.declared.begin.BeginError.{BeginError}
 use Rattle.ww_lock.specs.declared.begin.BeginError.TheVariants.{Memory, TicketsOut}
 use Rattle.ww_lock.proofs.Lists.{in_last, in_without}
@@ -41,30 +41,61 @@ module _ {A : Type 0} where
       (λ ne. let r = without_fewer b x xs (⊎_elim (λ s. absurd (ne (ap (λ z. z.0) (sym s)))) (λ s. s) h) in
       subst (λ (k : Bool). length (if k then without b xs else q ∷ without b xs) < suc (length xs)) (sym (ne_eqb q.0 b ne)) (omega arith))
 
+-- a seat at the same slots that holds the same
+pub sits_on : {P X T : Type 0} (inside : Bool) (z : TableId) (s t : Seat P X T) → Sits inside z s → t.place.table_id ≡ s.place.table_id → t.place.me.1 ≡ s.place.me.1 → (sees t).lock.owes ≡ (sees s).lock.owes → (sees t).pivot ≡ (sees s).pivot
+    → t.held.items ≡ s.held.items → Sits inside z t
+sits_on {P} {X} {T} inside z s t st table slots owes pivot held = record {
+  seated = table ∙ st.seated;
+  keys = ap (map number_of) owes ∙ (st.keys ∙ ap (map number_of) (sym held));
+  apart = subst (IsApart {A = X}) (sym held) st.apart;
+  within = λ b x h. st.within b x (subst (In (b, x)) held h);
+  hands = slots ∙ (st.hands ∙ ap (λ xs. behind_pivot inside (emptied xs)) (sym held));
+  inside = ap (λ p. p.inside) pivot ∙ st.inside;
+  saw = (st.saw.0, st.saw.1, ap (λ p. p.seen) pivot ∙ st.saw.2);
+}
+
 -- a seat that got no ticket
 pub idle_back : {P X T : Type 0} (z : TableId) (s : Seat P X T) (e : BeginError P X T) → IsOutside z s → GivesBack s e → (sees s).task ≡ None → IsIdle z (seat_back e)
 idle_back z s (Memory t) o e i = (
-  (e.0 ∙ o.0, ap (λ m. m.1) e.2 ∙ o.1, ap (λ m. m.0.lock.owes) e.2 ∙ o.2, ap (λ m. m.0.pivot.inside) e.2 ∙ o.3, (o.4.0, o.4.1, ap (λ m. m.0.pivot.seen) e.2 ∙ o.4.2)),
-  ap (λ m. m.0.task) e.2 ∙ i,
+  record {
+    sits = sits_on false z s t o.sits (ap (λ p. p.table_id) e.0) (ap (λ p. p.me.1) e.0) (ap (λ p. p.me.0.lock.owes) e.0) (ap (λ p. p.me.0.pivot) e.0) e.1;
+    none = e.1 ∙ o.none;
+  },
+  ap (λ p. p.me.0.task) e.0 ∙ i,
 )
 idle_back z s (TicketsOut t) o e i = (
-  (e.0 ∙ o.0, ap (λ m. m.1) e.2 ∙ o.1, ap (λ m. m.0.lock.owes) e.2 ∙ o.2, ap (λ m. m.0.pivot.inside) e.2 ∙ o.3, (o.4.0, o.4.1, ap (λ m. m.0.pivot.seen) e.2 ∙ o.4.2)),
+  record {
+    sits = sits_on false z s t o.sits e.0 (ap (λ m. m.1) e.2) (ap (λ m. m.0.lock.owes) e.2) (ap (λ m. m.0.pivot) e.2) e.3;
+    none = e.3 ∙ o.none;
+  },
   ap (λ m. m.0.task) e.2 ∙ i,
 )
 
+no_numbers : {A : Type 0} (xs : List (ℕ × A)) → map number_of xs ≡ [] → xs ≡ []
+no_numbers [] e = refl
+no_numbers (x ∷ xs) e = let n = ap length e in absurd (omega arith)
+
+-- one that holds nothing owes nothing
+pub none_owed : {P X T : Type 0} (z : TableId) (s : Seat P X T) → IsOutside z s → (sees s).lock.owes ≡ []
+none_owed z s o = no_numbers (sees s).lock.owes (o.sits.keys ∙ ap (map number_of) o.none)
+
+-- one that owes what it holds, as it is
+pub owes_held : {P X T : Type 0} (fits : ℕ → P → X → Type 0) (s : Seat P X T) → IsApart s.held.items → (sees s).lock.owes ≡ s.held.items → IsAsOwed fits s
+owes_held fits s apart e b x y i j p f = subst (fits b p) (one_value b x y s.held.items apart (subst (In (b, x)) e i) j) f
+
 module _ {P X T : Type 0} (fits : ℕ → P → X → Type 0) (z : TableId) where
   -- one who has taken one more value
-  pub took : (b : ℕ) (x : X) (a a' : Acquire P X T) → IsReady fits z a → HoldsOutside z a' → Lacks b a.held.items → a'.sealed ≡ a.sealed → (view a').lock.owes ≡ (view a).lock.owes ++ (b, x) ∷ [] → (view a').task ≡ (view a).task
-      → a'.held.items ≡ a.held.items ++ (b, x) ∷ [] → IsReady fits z a'
+  pub took : (b : ℕ) (x : X) (a a' : Acquire P X T) → IsReady fits z a → HoldsOutside z a' → Lacks b a.seat.held.items → a'.sealed ≡ a.sealed → (view a').lock.owes ≡ (view a).lock.owes ++ (b, x) ∷ [] → (view a').task ≡ (view a).task
+      → a'.seat.held.items ≡ a.seat.held.items ++ (b, x) ∷ [] → IsReady fits z a'
   took b x a a' r h lacks s o t e = record {
     holds = h;
     unsealed = s ∙ r.unsealed;
     owed = λ d y w i j p f.
-        ⊎_elim (λ old. ⊎_elim (λ kept. r.owed d y w old kept p f) (λ new. absurd (lacks_same b a.place.me.0.lock.owes a.held.items r.holds.keys lacks y (subst (λ n. In (n, y) a.place.me.0.lock.owes) (ap (λ q. q.0) new) old)))
-        (in_last (d, w) (b, x) a.held.items (subst (In (d, w)) e j)))
-        (λ new. ⊎_elim (λ kept. absurd (lacks w (subst (λ n. In (n, w) a.held.items) (ap (λ q. q.0) new) kept))) (λ also. subst (fits d p) (ap (λ q. q.1) new ∙ sym (ap (λ q. q.1) also)) f)
-        (in_last (d, w) (b, x) a.held.items (subst (In (d, w)) e j)))
-        (in_last (d, y) (b, x) a.place.me.0.lock.owes (subst (In (d, y)) o i));
+        ⊎_elim (λ old. ⊎_elim (λ kept. r.owed d y w old kept p f) (λ new. absurd (lacks_same b a.seat.place.me.0.lock.owes a.seat.held.items r.holds.sits.keys lacks y (subst (λ n. In (n, y) a.seat.place.me.0.lock.owes) (ap (λ q. q.0) new) old)))
+        (in_last (d, w) (b, x) a.seat.held.items (subst (In (d, w)) e j)))
+        (λ new. ⊎_elim (λ kept. absurd (lacks w (subst (λ n. In (n, w) a.seat.held.items) (ap (λ q. q.0) new) kept))) (λ also. subst (fits d p) (ap (λ q. q.1) new ∙ sym (ap (λ q. q.1) also)) f)
+        (in_last (d, w) (b, x) a.seat.held.items (subst (In (d, w)) e j)))
+        (in_last (d, y) (b, x) a.seat.place.me.0.lock.owes (subst (In (d, y)) o i));
     idle = t ∙ r.idle;
   }
 
@@ -72,7 +103,7 @@ module _ {P X T : Type 0} (fits : ℕ → P → X → Type 0) (z : TableId) wher
   claimed b a a' r h c = took b c.3.0 a a' r h c.1 c.2.1 (ap (λ u. u.lock.owes) c.3.3) (ap (λ u. u.task) c.3.3) c.3.4
 
   -- one who holds and owes what it did
-  pub kept : (a a' : Acquire P X T) → IsReady fits z a → HoldsOutside z a' → a'.sealed ≡ a.sealed → (view a').lock.owes ≡ (view a).lock.owes → (view a').task ≡ (view a).task → a'.held ≡ a.held → IsReady fits z a'
+  pub kept : (a a' : Acquire P X T) → IsReady fits z a → HoldsOutside z a' → a'.sealed ≡ a.sealed → (view a').lock.owes ≡ (view a).lock.owes → (view a').task ≡ (view a).task → a'.seat.held ≡ a.seat.held → IsReady fits z a'
   kept a a' r h s o t e = record {
     holds = h;
     unsealed = s ∙ r.unsealed;
@@ -80,30 +111,21 @@ module _ {P X T : Type 0} (fits : ℕ → P → X → Type 0) (z : TableId) wher
     idle = t ∙ r.idle;
   }
 
-  pub released : (b : ℕ) (a a' : Acquire P X T) → IsReady fits z a → HoldsOutside z a' → IsSameAcquire a a' → view a' ≡ with_release b (view a) → a'.held.items ≡ without b a.held.items → IsReady fits z a'
+  pub released : (b : ℕ) (a a' : Acquire P X T) → IsReady fits z a → HoldsOutside z a' → IsSameAcquire a a' → view a' ≡ with_release b (view a) → a'.seat.held.items ≡ without b a.seat.held.items → IsReady fits z a'
   released b a a' r h s v e = record {
     holds = h;
     unsealed = s.1 ∙ r.unsealed;
-    owed = λ d y w i j p f. r.owed d y w (in_without b (d, y) a.place.me.0.lock.owes (subst (λ u. In (d, y) u.lock.owes) v i)).0 (in_without b (d, w) a.held.items (subst (In (d, w)) e j)).0 p f;
+    owed = λ d y w i j p f. r.owed d y w (in_without b (d, y) a.seat.place.me.0.lock.owes (subst (λ u. In (d, y) u.lock.owes) v i)).0 (in_without b (d, w) a.seat.held.items (subst (In (d, w)) e j)).0 p f;
     idle = ap (λ u. u.task) v ∙ r.idle;
   }
 
   -- one who has just drawn a ticket
-  pub begun : (v : View P X T) (a : Acquire P X T) → v.task ≡ None → HoldsOutside z a → a.sealed ≡ false → a.held.items ≡ [] → view a ≡ with_ticket a.ticket v → IsReady fits z a
+  pub begun : (v : View P X T) (a : Acquire P X T) → v.task ≡ None → HoldsOutside z a → a.sealed ≡ false → a.seat.held.items ≡ [] → view a ≡ with_ticket a.ticket v → IsReady fits z a
   begun v a i h u e s = record {
     holds = h;
     unsealed = u;
     owed = λ d y w l j p f. absurd (subst (In (d, w)) e j);
     idle = ap (λ n. n.task) s ∙ i;
-  }
-
-  -- one who owes what it holds, as it is
-  pub owes_held : (a : Acquire P X T) → HoldsOutside z a → a.sealed ≡ false → (view a).lock.owes ≡ a.held.items → (view a).task ≡ None → IsReady fits z a
-  owes_held a h u e i = record {
-    holds = h;
-    unsealed = u;
-    owed = λ d y w k j n f. subst (fits d n) (one_value d y w a.held.items h.apart (subst (In (d, y)) e k) j) f;
-    idle = i;
   }
 
   -- one who has tried to lock

@@ -4,8 +4,8 @@ pub mod Rule
 pub mod Steps
 pub mod Held
 pub mod Boards
+pub mod Seats
 pub mod Acquiring
 pub mod Lifetime
 pub mod Lending
-pub mod Begun
 pub mod Leaving

@@ -2,28 +2,26 @@
 ghost use Rattle.std.specs.Prelude.{◌≡◌, ◌<◌, ◌≤◌, ◌+◌, ℕ, List, [], ◌∷◌, take, length, slice_index, slice_index_or, vec_len, vec_capacity, true, false, Option, Some, None, MatchOption, IfSome, ◌↔◌, IsTrue, Bool};
 ghost use Rattle.ww_lock.specs.Rule.{In};
 ghost use Rattle.ww_lock.specs.Held.{IsSameKeys, Lacks, HasAt, index_of};
-ghost use Rattle.ww_lock.specs.Acquiring.{Holds, HoldsOutside, HasLent, IsSeatOf, view};
-ghost use Rattle.ww_lock.specs.Begun.{IsOutside};
+ghost use Rattle.ww_lock.specs.Acquiring.{Holds, HoldsOutside, HasLent, view};
+ghost use Rattle.ww_lock.specs.Seats.{IsOutside};
 ghost use Rattle.atomic_table.specs.Seated.{TableId};
 ghost use Rattle.std.specs.Borrow.{sem};
-ghost use Rattle.ww_lock.specs.Lending.{LendsValue, number_at, with_value};
+ghost use Rattle.ww_lock.specs.Lending.{LendsValue, with_value};
 ghost use mathlib.Core.Option.{some};
 ghost use lib.ListN.{get_elem?};
 
-use crate::board::Place;
 use crate::seat::Seat;
 use drm_types::{BufferId, Ticket};
 use std::mem;
 
-/// A seat that has drawn a ticket and locks values (`ww_acquire_ctx`), with the values that it holds.
+/// A seat that has drawn a ticket and locks values (`ww_acquire_ctx`).
 #[derive(Drop)]
 pub struct Acquire<P, X, T> {
-    pub(crate) place: Place<P, X, T>,
+    /// The seat, by which the caller enters, leaves and looks.
+    pub seat: Seat<P, X, T>,
     pub(crate) ticket: Ticket,
     // The caller is done: it locks no more.
     pub(crate) sealed: bool,
-    // In the order of the claims.
-    pub(crate) held: Vec<(BufferId, X)>,
 }
 
 // Where the value of `buffer` lies.
@@ -52,9 +50,9 @@ impl<P, X, T> Acquire<P, X, T> {
 
     /// What is held, in the order of the claims.
     pub fn held(&self) -> &[(BufferId, X)]
-        ensures { result.now ≡ self.now.held.items }
+        ensures { result.now ≡ self.now.seat.held.items }
     {
-        self.held.as_slice()
+        self.seat.held.as_slice()
     }
 
     /// From now on the caller locks no more (`ww_acquire_done`).
@@ -68,61 +66,50 @@ impl<P, X, T> Acquire<P, X, T> {
 
     /// The value of a buffer that is held. What the caller writes to it shows to others only once it is given back.
     pub fn value(&mut self, buffer: BufferId) -> &mut X
-        requires { (i : ℕ) × HasAt buffer i self.old.held.items }
-        ensures* writes_back { sem 𝓛 (LendsValue P.row X.row T.row self.entry (index_of buffer self.old.held.items) buffer result) }
-        ensures value { get_elem? self.old.held.items (index_of buffer self.old.held.items) ≡ some (buffer, result.now) }
-        ensures holds { (inside : Bool) (z : TableId) (x : X) → Holds inside z self.old → Holds inside z (with_value self.old (index_of buffer self.old.held.items) buffer x) }
+        requires { (i : ℕ) × HasAt buffer i self.old.seat.held.items }
+        ensures* writes_back { sem 𝓛 (LendsValue P.row X.row T.row self.entry (index_of buffer self.old.seat.held.items) buffer result) }
+        ensures value { get_elem? self.old.seat.held.items (index_of buffer self.old.seat.held.items) ≡ some (buffer, result.now) }
+        ensures holds { (inside : Bool) (z : TableId) (x : X) → Holds inside z self.old → Holds inside z (with_value self.old (index_of buffer self.old.seat.held.items) buffer x) }
     {
-        let Some(i) = place_of(&self.held, buffer) else {
+        let Some(i) = place_of(&self.seat.held, buffer) else {
             unreachable!()
         };
-        self.value_at(i)
+        self.seat.value_at(i)
     }
 
     /// Takes what is held out of a caller that is done, to be put back before its next call.
     pub fn take_values(&mut self) -> Vec<(BufferId, X)>
         requires { self.old.sealed ≡ true }
-        ensures values { result ≡ self.old.held }
-        ensures left { self.new ≡ record self.old { held = self.new.held } }
+        ensures values { result ≡ self.old.seat.held }
+        ensures left { self.new ≡ record self.old { seat = record self.old.seat { held = self.new.seat.held } } }
         ensures lent { (inside : Bool) (z : TableId) → Holds inside z self.old → HasLent inside z self.new × IsSameKeys (view self.new).lock.owes result.items }
     {
-        let alloc = *self.held.allocator();
-        mem::replace(&mut self.held, Vec::new(alloc))
-    }
-
-    // The value that was claimed as the i-th.
-    pub(crate) fn value_at(&mut self, i: usize) -> &mut X
-        requires { i < vec_len self.old.held }
-        ensures* writes_back { sem 𝓛 (LendsValue P.row X.row T.row self.entry i (number_at self.old i) result) }
-        ensures value { (number_at self.old i, result.now) ≡ slice_index_or self.old.held.items i (number_at self.old i, result.now) }
-    {
-        let entry = &mut self.held[i];
-        &mut entry.1
+        let alloc = *self.seat.held.allocator();
+        mem::replace(&mut self.seat.held, Vec::new(alloc))
     }
 }
 
 impl<P, X: Drop, T> Acquire<P, X, T> {
     /// Gives the ticket up (`ww_acquire_fini`).
     pub fn end(self) -> Seat<P, X, T>
-        requires { (self.held.items ≡ []) × ((view self).pivot.inside ≡ false) }
-        ensures seat { IsSeatOf self result }
+        requires { (self.seat.held.items ≡ []) × ((view self).pivot.inside ≡ false) }
+        ensures seat { result ≡ self.seat }
         ensures outside { (z : TableId) → HoldsOutside z self → IsOutside z result }
     {
         let Acquire {
-            place,
+            seat,
             ticket: _,
             sealed: _,
-            held,
         } = self;
-        Seat { place, spare: held }
+        seat
     }
 
     /// Puts back what was taken out, for the same buffers in the same order.
     pub fn put_values(&mut self, values: Vec<(BufferId, X)>)
         requires { IsSameKeys (view self.old).lock.owes values.items }
-        ensures values { self.new ≡ record self.old { held = values } }
+        ensures values { self.new ≡ record self.old { seat = record self.old.seat { held = values } } }
         ensures holds { (inside : Bool) (z : TableId) → HasLent inside z self.old → Holds inside z self.new }
     {
-        self.held = values;
+        self.seat.held = values;
     }
 }

@@ -1,7 +1,7 @@
 //! How a seat draws a ticket.
 ghost use Rattle.std.specs.Prelude.{◌≡◌, ◌<◌, ◌≤◌, ◌^◌, [], false, None, MatchResult, OnOk, IfOk, IfErr, vec_capacity};
 ghost use Rattle.ww_lock.specs.Acquiring.{HoldsOutside, IsReady, caller_id, view};
-ghost use Rattle.ww_lock.specs.Begun.{IsOutside, IsIdle, GivesBack, seat_back, seat_id, sees};
+ghost use Rattle.ww_lock.specs.Seats.{IsOutside, IsIdle, GivesBack, seat_back, seat_id, sees};
 ghost use Rattle.ww_lock.specs.Boards.{table_of};
 ghost use Rattle.ww_lock.specs.Steps.{with_ticket, IsNext};
 
@@ -23,13 +23,14 @@ pub enum BeginError<P: Drop, X: Drop, T: Drop> {
 }
 
 impl<P, X: Drop, T> Seat<P, X, T> {
-    // Room for so many values, in the list that is there or in a new one.
+    // Room for so many values, in the empty list that is there or in a new one.
     fn take_room(&mut self, alloc: Global, count: usize) -> Result<(), AllocError>
-        ensures same { self.new.place ≡ self.old.place }
-        ensures room { OnOk result (count ≤ vec_capacity self.new.spare) }
+        requires { self.old.held.items ≡ [] }
+        ensures same { (self.new.place ≡ self.old.place) × (self.new.held.items ≡ []) }
+        ensures room { OnOk result (count ≤ vec_capacity self.new.held) }
     {
-        if self.spare.capacity() < count {
-            self.spare = Vec::with_capacity(alloc, count)?;
+        if self.held.capacity() < count {
+            self.held = Vec::with_capacity(alloc, count)?;
         }
         Ok(())
     }
@@ -46,7 +47,7 @@ impl<W: Ward> Board<W> {
     ) -> Result<Acquire<W::Pivot, W::Value, W::Task>, BeginError<W::Pivot, W::Value, W::Task>>
         requires { IsOutside (table_of self.now) seat }
         ensures holds { IfOk result (λ a. HoldsOutside (table_of self.now) a) }
-        ensures fresh { IfOk result (λ a. (a.sealed ≡ false) × (a.held.items ≡ [])) }
+        ensures fresh { IfOk result (λ a. (a.sealed ≡ false) × (a.seat.held.items ≡ [])) }
         ensures same { IfOk result (λ a. caller_id a ≡ seat_id seat) }
         ensures view { IfOk result (λ a. view a ≡ with_ticket a.ticket (sees seat)) }
         ensures next { IfOk result (λ a. IsNext (sees seat) a.ticket) }
@@ -58,24 +59,20 @@ impl<W: Ward> Board<W> {
         if let Err(AllocError) = seat.take_room(alloc, self.buffers as usize) {
             return Err(BeginError::Memory(seat));
         }
-        let Seat {
-            mut place,
-            spare: held,
-        } = seat;
+        let Seat { mut place, held } = seat;
         for _ in rt.forever() {
             let next = self.table.shared.peek(0);
             if next >= 1 << 63 {
                 if exhaust(&self.table.shared, &mut place) == 1 << 63 {
-                    return Err(BeginError::TicketsOut(Seat { place, spare: held }));
+                    return Err(BeginError::TicketsOut(Seat { place, held }));
                 }
                 continue;
             }
             if draw(&self.table.shared, &mut place, next) == next {
                 return Ok(Acquire {
-                    place,
+                    seat: Seat { place, held },
                     ticket: next,
                     sealed: false,
-                    held,
                 });
             }
         }

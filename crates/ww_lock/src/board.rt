@@ -142,7 +142,7 @@ pub struct Board<W: Ward> {
     pub(crate) sleepers: Sleepers,
     // Who waits for the pivot.
     pub(crate) waiters: WaitQueue,
-    // For the list of a caller that holds nothing, which takes no memory.
+    // For the list of a second seat, which takes no memory while it is empty.
     pub(crate) alloc: Global,
     ghost sized: { (table.shared.table_id.words ≡ buffers + 2 + posts) × (table.shared.key.posts ≡ posts) × (table.shared.table_id.slots ≡ buffers + 1) × (buffers ≤ 64) },
 }

@@ -1,18 +1,17 @@
 //! How seats are split and joined, how a caller takes the pivot and brings it home, and how fence words are shown and
 //! read.
-ghost use Rattle.std.specs.Prelude.{◌≡◌, ◌≢◌, ◌<◌, ◌+◌, ℕ, List, [], ◌∷◌, true, false, Option, Some, None, MatchOption, IfSome};
+ghost use Rattle.std.specs.Prelude.{◌≡◌, ◌≢◌, ◌<◌, ◌+◌, ℕ, Bool, List, [], ◌∷◌, true, false, Option, Some, None, MatchOption, IfSome};
+ghost use Rattle.atomic_table.specs.Seated.{TableId};
 ghost use Rattle.atomic_table.specs.Table.{rest};
 ghost use Rattle.ww_lock.specs.Boards.{table_of};
 ghost use Rattle.ww_lock.specs.Fences.{NotBack};
 ghost use Rattle.ww_lock.specs.Rule.{In};
 ghost use Rattle.ww_lock.specs.Held.{IsSameKeys};
-ghost use Rattle.ww_lock.specs.Acquiring.{HoldsOutside, HoldsInside, IsReady, IsSameAcquire, view};
-ghost use Rattle.ww_lock.specs.Begun.{IsSeat, IsSamePass, IsOutside, IsInside, IsIdle, IsJoined, sees};
-ghost use Rattle.ww_lock.specs.Leaving.{MayLeave, MayLeaveWith, MayPost, MayPostWith};
-ghost use Rattle.ww_lock.specs.Steps.{with_entry, with_exit, with_look, with_post, left_half, right_half, task_after, HasSeen, IsLater};
+ghost use Rattle.ww_lock.specs.Seats.{IsAsOwed, IsIdle, IsJoined, IsSameHolder, IsSamePass, IsSeat, Sits, sees};
+ghost use Rattle.ww_lock.specs.Leaving.{MayLeave, MayPost};
+ghost use Rattle.ww_lock.specs.Steps.{with_entry, with_exit, with_look, with_post, left_half, right_half, HasSeen, IsLater};
 ghost use Rattle.ww_lock.specs.declared.board.Slot.TheVariants.{Gone};
 
-use crate::acquire::Acquire;
 use crate::board::{Board, Place, Slot, TaskChange};
 use crate::seat::Seat;
 use crate::steps::{SharedTable, enter, join, leave, look, post, read_back, settle, split};
@@ -101,7 +100,7 @@ fn bring_home<W: Ward>(
 )
     requires table { (place.old.table_id ≡ shared.now.table_id) × (1 < shared.now.table_id.words) }
     requires seat { (place.old.me.0.pivot.inside ≡ true) × (place.old.me.1 ≡ (0, Gone) ∷ rest place.old.me.1) × IsSameKeys place.old.me.0.lock.owes held.now.items }
-    requires facts { MayLeaveWith W.good W.fits W.grows W.posted W.busy place.old.me.0 held.now.items pivot change.now }
+    requires facts { MayLeave W.good W.fits W.grows W.posted W.busy place.old.me.0 held.now.items pivot change.now }
     ensures seat { (place.new.table_id ≡ place.old.table_id) × (place.new.id ≡ place.old.id) }
     ensures left { (p : W.Pivot) × (place.old.me.0.pivot.seen ≡ p ∷ []) × (place.new.me ≡ (with_exit is_call change.now p pivot held.now.items place.old.me.0, rest place.old.me.1)) }
 {
@@ -122,7 +121,7 @@ fn show<W: Ward>(
 )
     requires table { (place.old.table_id ≡ shared.now.table_id) × (at ≡ shared.now.table_id.slots + 1 + fence) × (at < shared.now.table_id.words) × (fence < shared.now.key.posts) }
     requires seat { (place.old.me.0.pivot.inside ≡ true) × IsSameKeys place.old.me.0.lock.owes held.now.items }
-    requires facts { MayPostWith W.good W.fits W.grows W.posted W.busy place.old.me.0 held.now.items pivot.now fence word }
+    requires facts { MayPost W.good W.fits W.grows W.posted W.busy place.old.me.0 held.now.items pivot.now fence word }
     ensures seat { (place.new.table_id ≡ place.old.table_id) × (place.new.id ≡ place.old.id) }
     ensures posted { (p : W.Pivot) × (place.old.me.0.pivot.seen ≡ p ∷ []) × (place.new.me ≡ (with_post p pivot.now held.now.items place.old.me.0, place.old.me.1)) }
 {
@@ -146,13 +145,13 @@ impl<W: Ward> Board<W> {
         ensures right { IsIdle (table_of self.now) result.1 }
         ensures views { (sees result.0 ≡ left_half (sees seat)) × (sees result.1 ≡ right_half (sees seat)) }
     {
-        let Seat { mut place, spare } = seat;
+        let Seat { mut place, held } = seat;
         let other = split(&self.table.shared, &mut place);
         let second = Seat {
             place: other,
-            spare: Vec::new(self.alloc),
+            held: Vec::new(self.alloc),
         };
-        (Seat { place, spare }, second)
+        (Seat { place, held }, second)
     }
 
     /// Makes one seat of two. The calls of both stand in one order, in which each was left before the next was found.
@@ -166,44 +165,32 @@ impl<W: Ward> Board<W> {
         ensures seat { IsIdle (table_of self.now) result }
         ensures view { IsJoined W.grows (sees one) (sees other) (sees result) }
     {
-        let Seat { mut place, spare } = one;
+        let Seat { mut place, held } = one;
         let Seat {
             place: second,
-            spare: _,
+            held: _,
         } = other;
         join(&self.table.shared, &mut place, second);
         settle(&self.table.shared, &mut place);
-        Seat { place, spare }
+        Seat { place, held }
     }
 
-    /// Waits until the pivot is at home, and takes it. Nobody else has it until the caller leaves.
+    /// Waits until the pivot is at home, and takes it. Nobody else has it until the caller leaves. Each value that the caller
+    /// holds fits the pivot found, as it is owed.
     pub fn enter<R: Wait>(&self, seat: &mut Seat<W::Pivot, W::Value, W::Task>, rt: &R) -> W::Pivot
-        requires { IsOutside (table_of self.now) seat.old }
-        ensures seat { IsInside (table_of self.now) seat.new }
+        requires { Sits false (table_of self.now) seat.old }
+        ensures sits { Sits true (table_of self.now) seat.new }
+        ensures same { IsSameHolder seat.old seat.new }
         ensures view { sees seat.new ≡ with_entry result (sees seat.old) }
         ensures later { IsLater W.good W.grows W.posted W.busy (sees seat.old) result }
+        ensures fits { (b : ℕ) (x : W.Value) → In (b, x) (sees seat.old).lock.owes → W.fits b result x }
     {
         take_pivot(&self.table.shared, &self.waiters, &mut seat.place, rt)
     }
 
-    /// `enter` for a caller that holds values: each of them fits the pivot found, as it is owed.
-    pub fn enter_with<R: Wait>(
-        &self,
-        acquire: &mut Acquire<W::Pivot, W::Value, W::Task>,
-        rt: &R,
-    ) -> W::Pivot
-        requires { HoldsOutside (table_of self.now) acquire.old }
-        ensures holds { HoldsInside (table_of self.now) acquire.new }
-        ensures same { IsSameAcquire acquire.old acquire.new × (acquire.new.held ≡ acquire.old.held) }
-        ensures view { view acquire.new ≡ with_entry result (view acquire.old) }
-        ensures later { IsLater W.good W.grows W.posted W.busy (view acquire.old) result }
-        ensures fits { (b : ℕ) (x : W.Value) → In (b, x) (view acquire.old).lock.owes → W.fits b result x }
-    {
-        take_pivot(&self.table.shared, &self.waiters, &mut acquire.place, rt)
-    }
-
-    /// Brings the pivot home. `change` says whether a task begins or ends with this call, and `is_call` whether the
-    /// caller's calls gain one: a call that only waits, or that was posted already, adds none.
+    /// Brings the pivot home. The caller owes what it holds from now on as it is. `change` says whether a task begins or
+    /// ends with this call, and `is_call` whether the caller's calls gain one: a call that only waits, or that was posted
+    /// already, adds none. Where no call is noted, the pivot brought home and the one found grow to one another.
     pub fn leave(
         &self,
         seat: &mut Seat<W::Pivot, W::Value, W::Task>,
@@ -211,44 +198,19 @@ impl<W: Ward> Board<W> {
         change: &TaskChange<W::Task>,
         is_call: bool,
     )
-        requires seat { IsInside (table_of self.now) seat.old }
-        requires facts { MayLeave W.good W.fits W.grows W.posted W.busy (sees seat.old) pivot change.now }
+        requires sits { Sits true (table_of self.now) seat.old }
+        requires facts { MayLeave W.good W.fits W.grows W.posted W.busy (sees seat.old) seat.old.held.items pivot change.now }
         requires posted { (sees seat.old).pivot.posted ≡ true → (sees seat.old).pivot.seen ≡ pivot ∷ [] }
-        ensures seat { IsOutside (table_of self.now) seat.new }
-        ensures view { (p : W.Pivot) × ((sees seat.old).pivot.seen ≡ p ∷ []) × (sees seat.new ≡ with_exit is_call change.now p pivot [] (sees seat.old)) }
+        requires quiet { is_call ≡ false → (p : W.Pivot) → (sees seat.old).pivot.seen ≡ p ∷ [] → W.grows pivot p }
+        ensures sits { Sits false (table_of self.now) seat.new }
+        ensures same { IsSameHolder seat.old seat.new }
+        ensures view { (p : W.Pivot) × ((sees seat.old).pivot.seen ≡ p ∷ []) × (sees seat.new ≡ with_exit is_call change.now p pivot seat.old.held.items (sees seat.old)) }
+        ensures owed { IsAsOwed W.fits seat.new }
     {
-        let owed: Vec<(BufferId, W::Value)> = Vec::new(self.alloc);
+        let owed = &seat.held;
         bring_home(
             &self.table.shared,
             &mut seat.place,
-            pivot,
-            &owed,
-            change,
-            is_call,
-        );
-        self.waiters.wake_one();
-    }
-
-    /// `leave` for a caller that holds values. It owes them from now on as they are.
-    pub fn leave_with(
-        &self,
-        acquire: &mut Acquire<W::Pivot, W::Value, W::Task>,
-        pivot: W::Pivot,
-        change: &TaskChange<W::Task>,
-        is_call: bool,
-    )
-        requires holds { HoldsInside (table_of self.now) acquire.old }
-        requires facts { MayLeaveWith W.good W.fits W.grows W.posted W.busy (view acquire.old) acquire.old.held.items pivot change.now }
-        requires posted { (view acquire.old).pivot.posted ≡ true → (view acquire.old).pivot.seen ≡ pivot ∷ [] }
-        ensures holds { HoldsOutside (table_of self.now) acquire.new }
-        ensures same { IsSameAcquire acquire.old acquire.new × (acquire.new.held ≡ acquire.old.held) }
-        ensures view { (p : W.Pivot) × ((view acquire.old).pivot.seen ≡ p ∷ []) × (view acquire.new ≡ with_exit is_call change.now p pivot acquire.old.held.items (view acquire.old)) }
-        ensures ready { acquire.old.sealed ≡ false → task_after change.now (view acquire.old).task ≡ None → IsReady W.fits (table_of self.now) acquire.new }
-    {
-        let owed = &acquire.held;
-        bring_home(
-            &self.table.shared,
-            &mut acquire.place,
             pivot,
             owed,
             change,
@@ -258,38 +220,24 @@ impl<W: Ward> Board<W> {
     }
 
     /// The word of a fence, by one load: what the pivot shows for it, which is good, came of all that the seat has seen
-    /// and waits for its task. It never goes back: from 0 to 1, and from there to a final word from 2 up.
+    /// and waits for its task. It never goes back: from 0 to 1, and from there to a final word from 2 up. What the seat
+    /// holds and owes stays as it is.
     pub fn look(&self, seat: &mut Seat<W::Pivot, W::Value, W::Task>, fence: FenceId) -> u64
         requires { IsSeat (table_of self.now) seat.old × (fence < self.now.posts) }
         ensures seat { IsSamePass seat.old seat.new }
+        ensures sits { (inside : Bool) (z : TableId) → Sits inside z seat.old → Sits inside z seat.new }
+        ensures same { IsSameHolder seat.old seat.new }
         ensures view { sees seat.new ≡ with_look fence result (sees seat.old) }
         ensures shown { (p : W.Pivot) × IsLater W.good W.grows W.posted W.busy (sees seat.old) p × (result ≡ W.posted p fence) }
         ensures looked { (x : ℕ) → In (fence, x) (sees seat.old).looked → NotBack x result }
+        ensures owed { IsAsOwed W.fits seat.old → IsAsOwed W.fits seat.new }
     {
         let word = self.buffers as usize + 2 + fence as usize;
         look(&self.table.shared, &mut seat.place, word, fence)
     }
 
-    /// `look` for a caller that holds values: outside, with its ticket. What it holds and owes stays as it is.
-    pub fn look_with(
-        &self,
-        acquire: &mut Acquire<W::Pivot, W::Value, W::Task>,
-        fence: FenceId,
-    ) -> u64
-        requires { HoldsOutside (table_of self.now) acquire.old × (fence < self.now.posts) }
-        ensures holds { HoldsOutside (table_of self.now) acquire.new }
-        ensures same { IsSameAcquire acquire.old acquire.new × (acquire.new.held ≡ acquire.old.held) }
-        ensures view { view acquire.new ≡ with_look fence result (view acquire.old) }
-        ensures shown { (p : W.Pivot) × IsLater W.good W.grows W.posted W.busy (view acquire.old) p × (result ≡ W.posted p fence) }
-        ensures looked { (x : ℕ) → In (fence, x) (view acquire.old).looked → NotBack x result }
-        ensures ready { IsReady W.fits (table_of self.now) acquire.old → IsReady W.fits (table_of self.now) acquire.new }
-    {
-        let word = self.buffers as usize + 2 + fence as usize;
-        look(&self.table.shared, &mut acquire.place, word, fence)
-    }
-
     /// Shows what becomes of the pivot by the word of a fence, before the pivot is brought home. At most once before
-    /// the caller leaves, which then leaves this very pivot.
+    /// the caller leaves, which then leaves this very pivot. The caller owes what it holds from now on as it is.
     pub fn post(
         &self,
         seat: &mut Seat<W::Pivot, W::Value, W::Task>,
@@ -297,13 +245,13 @@ impl<W: Ward> Board<W> {
         word: u64,
         pivot: &W::Pivot,
     )
-        requires seat { IsInside (table_of self.now) seat.old × ((sees seat.old).pivot.posted ≡ false) × (fence < self.now.posts) }
-        requires facts { MayPost W.good W.fits W.grows W.posted W.busy (sees seat.old) pivot.now fence word }
-        ensures seat { IsInside (table_of self.now) seat.new }
-        ensures view { (p : W.Pivot) × ((sees seat.old).pivot.seen ≡ p ∷ []) × (sees seat.new ≡ with_post p pivot.now [] (sees seat.old)) }
+        requires sits { Sits true (table_of self.now) seat.old × ((sees seat.old).pivot.posted ≡ false) × (fence < self.now.posts) }
+        requires facts { MayPost W.good W.fits W.grows W.posted W.busy (sees seat.old) seat.old.held.items pivot.now fence word }
+        ensures sits { Sits true (table_of self.now) seat.new }
+        ensures same { IsSameHolder seat.old seat.new }
+        ensures view { (p : W.Pivot) × ((sees seat.old).pivot.seen ≡ p ∷ []) × (sees seat.new ≡ with_post p pivot.now seat.old.held.items (sees seat.old)) }
     {
         let at = self.buffers as usize + 2 + fence as usize;
-        let held: Vec<(BufferId, W::Value)> = Vec::new(self.alloc);
         show(
             &self.table.shared,
             &mut seat.place,
@@ -311,33 +259,7 @@ impl<W: Ward> Board<W> {
             fence,
             word,
             pivot,
-            &held,
-        );
-    }
-
-    /// `post` for a caller that holds values. It owes them from now on as they are.
-    pub fn post_with(
-        &self,
-        acquire: &mut Acquire<W::Pivot, W::Value, W::Task>,
-        fence: FenceId,
-        word: u64,
-        pivot: &W::Pivot,
-    )
-        requires holds { HoldsInside (table_of self.now) acquire.old × ((view acquire.old).pivot.posted ≡ false) × (fence < self.now.posts) }
-        requires facts { MayPostWith W.good W.fits W.grows W.posted W.busy (view acquire.old) acquire.old.held.items pivot.now fence word }
-        ensures holds { HoldsInside (table_of self.now) acquire.new }
-        ensures same { IsSameAcquire acquire.old acquire.new × (acquire.new.held ≡ acquire.old.held) }
-        ensures view { (p : W.Pivot) × ((view acquire.old).pivot.seen ≡ p ∷ []) × (view acquire.new ≡ with_post p pivot.now acquire.old.held.items (view acquire.old)) }
-    {
-        let at = self.buffers as usize + 2 + fence as usize;
-        show(
-            &self.table.shared,
-            &mut acquire.place,
-            at,
-            fence,
-            word,
-            pivot,
-            &acquire.held,
+            &seat.held,
         );
     }
 }

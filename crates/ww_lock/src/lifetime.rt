@@ -6,7 +6,7 @@ ghost use lib.ListN.{get_elem?};
 ghost use Rattle.ww_lock.specs.declared.board.Slot.TheVariants.{Value};
 ghost use Rattle.ww_lock.specs.Rule.{In, newcomer};
 ghost use Rattle.ww_lock.specs.Lifetime.{FitsAll, Filled, AllFit, HasAll, TakesApart};
-ghost use Rattle.ww_lock.specs.Begun.{IsSeat, IsIdle, seat_id, sees};
+ghost use Rattle.ww_lock.specs.Seats.{IsSeat, IsIdle, seat_id, sees};
 ghost use Rattle.ww_lock.specs.Boards.{table_of, first_pivot};
 
 use crate::board::{Board, Place, Slot, Start, Tables};
@@ -103,7 +103,7 @@ impl<W: Ward> Board<W> {
             },
             Seat {
                 place,
-                spare: Vec::new(alloc),
+                held: Vec::new(alloc),
             },
         ))
     }
@@ -145,7 +145,7 @@ impl<W: Ward> Board<W> {
             waiters: _,
             alloc: _,
         } = self;
-        let Seat { place, spare: _ } = seat;
+        let Seat { place, held: _ } = seat;
         let mut closed = table.close_with(place);
         let at = closed.word(1);
         let pivot = closed.take(0);

@@ -58,15 +58,15 @@ impl<W: Ward> Board<W> {
         if sealed {
             return Err(TryLockError::Sealed);
         }
-        if let Some(_) = place_of(&acquire.held, buffer) {
+        if let Some(_) = place_of(&acquire.seat.held, buffer) {
             return Err(TryLockError::Already);
         }
         let shared = &self.table.shared;
         let ticket = acquire.ticket;
-        let found = claim(shared, &mut acquire.place, buffer, ticket);
+        let found = claim(shared, &mut acquire.seat.place, buffer, ticket);
         if found == 0 {
-            let value = pull(shared, &mut acquire.place, buffer);
-            acquire.held.push_reserved((buffer, value));
+            let value = pull(shared, &mut acquire.seat.place, buffer);
+            acquire.seat.held.push_reserved((buffer, value));
             return Ok(());
         }
         if found < ticket {
@@ -101,7 +101,7 @@ impl<W: Ward> Board<W> {
                 TryLockError::Older { holder } => (holder, true),
                 TryLockError::Younger { holder } => (holder, false),
             };
-            let backs_off = is_older && acquire.held.len() > 0;
+            let backs_off = is_older && acquire.seat.held.len() > 0;
             if backs_off {
                 return Err(LockError::Backoff { holder });
             }
@@ -119,7 +119,7 @@ impl<W: Ward> Board<W> {
         buffer: BufferId,
         rt: &R,
     ) -> Result<(), Sealed>
-        requires { HoldsOutside (table_of self.now) acquire.old × (buffer < self.now.buffers) × (acquire.old.held.items ≡ []) }
+        requires { HoldsOutside (table_of self.now) acquire.old × (buffer < self.now.buffers) × (acquire.old.seat.held.items ≡ []) }
         ensures holds { HoldsOutside (table_of self.now) acquire.new }
         ensures answers { MatchResult result (λ _. Claimed buffer acquire.old acquire.new) (λ _. (acquire.old.sealed ≡ true) × (acquire.new ≡ acquire.old)) }
         ensures ready { IsReady W.fits (table_of self.now) acquire.old → IsReady W.fits (table_of self.now) acquire.new }
@@ -135,24 +135,24 @@ impl<W: Ward> Board<W> {
     /// Gives a value back (`ww_mutex_unlock`), and wakes those who wait for it.
     pub fn release(&self, acquire: &mut Acquire<W::Pivot, W::Value, W::Task>, buffer: BufferId)
         requires holds { HoldsOutside (table_of self.now) acquire.old }
-        requires held { (i : ℕ) × HasAt buffer i acquire.old.held.items }
-        requires fits { (x y : W.Value) → In (buffer, x) (view acquire.old).lock.owes → In (buffer, y) acquire.old.held.items → (p : W.Pivot) → W.fits buffer p x → W.fits buffer p y }
+        requires held { (i : ℕ) × HasAt buffer i acquire.old.seat.held.items }
+        requires fits { (x y : W.Value) → In (buffer, x) (view acquire.old).lock.owes → In (buffer, y) acquire.old.seat.held.items → (p : W.Pivot) → W.fits buffer p x → W.fits buffer p y }
         ensures holds { HoldsOutside (table_of self.now) acquire.new }
         ensures same { IsSameAcquire acquire.old acquire.new }
         ensures view { view acquire.new ≡ with_release buffer (view acquire.old) }
-        ensures held { acquire.new.held.items ≡ without buffer acquire.old.held.items }
-        ensures fewer { length acquire.new.held.items < length acquire.old.held.items }
+        ensures held { acquire.new.seat.held.items ≡ without buffer acquire.old.seat.held.items }
+        ensures fewer { length acquire.new.seat.held.items < length acquire.old.seat.held.items }
         ensures ready { IsReady W.fits (table_of self.now) acquire.old → IsReady W.fits (table_of self.now) acquire.new }
     {
-        let Some(i) = place_of(&acquire.held, buffer) else {
+        let Some(i) = place_of(&acquire.seat.held, buffer) else {
             unreachable!()
         };
         let shared = &self.table.shared;
-        let (_, value) = acquire.held.remove(i);
-        bring(&mut acquire.place, i);
-        release(shared, &mut acquire.place, buffer, value);
-        let later = acquire.held.len() - i;
-        bring(&mut acquire.place, later);
+        let (_, value) = acquire.seat.held.remove(i);
+        bring(&mut acquire.seat.place, i);
+        release(shared, &mut acquire.seat.place, buffer, value);
+        let later = acquire.seat.held.len() - i;
+        bring(&mut acquire.seat.place, later);
         self.sleepers.wake_all(shared, buffer.number() as usize + 2);
     }
 }

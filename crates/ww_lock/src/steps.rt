@@ -3,7 +3,7 @@ ghost use Rattle.std.specs.Prelude.{◌≡◌, ◌≢◌, ◌<◌, ◌≤◌, �
 ghost use Rattle.ww_lock.specs.Rule.{In};
 ghost use Rattle.ww_lock.specs.Held.{IsSameKeys, turned_by};
 ghost use Rattle.ww_lock.specs.Steps.{drawn, exhausted, claimed, entered, settled, with_exit, with_release, with_post, with_look, left_half, right_half, joined, HasSeen, IsLater};
-ghost use Rattle.ww_lock.specs.Leaving.{MayLeaveWith};
+ghost use Rattle.ww_lock.specs.Leaving.{MayLeave};
 ghost use Rattle.atomic_table.specs.Table.{step, rest};
 ghost use Rattle.ww_lock.specs.declared.board.Slot.TheVariants.{Pivot, Value, Gone};
 ghost use mathlib.Core.Option.{none};
@@ -30,7 +30,8 @@ pub(crate) fn draw<W: Ward>(
     place: &mut Place<W::Pivot, W::Value, W::Task>,
     old: u64,
 ) -> u64
-    requires { (place.old.table_id ≡ shared.now.table_id) × (1 < shared.now.table_id.words) × (old < 2 ^ 63) × (place.old.me.0.lock.owes ≡ []) × HasSeen place.old.me.0 }
+    requires ready { (place.old.table_id ≡ shared.now.table_id) × (1 < shared.now.table_id.words) × (old < 2 ^ 63) × HasSeen place.old.me.0 }
+    requires none { place.old.me.0.lock.owes ≡ [] }
     ensures seat { (place.new.table_id ≡ place.old.table_id) × (place.new.id ≡ place.old.id) }
     ensures drawn { drawn (step shared.now.table_id.slots 0 old (old + 1) none) place.old.me result place.new.me }
 {
@@ -98,7 +99,9 @@ pub(crate) fn join<W: Ward>(
     place: &mut Place<W::Pivot, W::Value, W::Task>,
     other: Place<W::Pivot, W::Value, W::Task>,
 )
-    requires { (place.old.table_id ≡ shared.now.table_id) × (other.table_id ≡ shared.now.table_id) × (other.me.1 ≡ []) × (1 < shared.now.table_id.words) × (other.me.0.lock.owes ≡ []) × (other.me.0.pivot.inside ≡ false) × (place.old.me.0.pivot.inside ≡ false) }
+    requires table { (place.old.table_id ≡ shared.now.table_id) × (other.table_id ≡ shared.now.table_id) × (1 < shared.now.table_id.words) }
+    requires outside { (place.old.me.0.pivot.inside ≡ false) × (other.me.0.pivot.inside ≡ false) }
+    requires none { (other.me.0.lock.owes ≡ []) × (other.me.1 ≡ []) }
     ensures { (place.new.table_id ≡ place.old.table_id) × (place.new.id ≡ place.old.id) × (place.new.me ≡ (joined place.old.me.0 other.me.0, place.old.me.1)) }
 {
     shared.join_seat::<Halves>(place, other);
@@ -128,7 +131,7 @@ pub(crate) fn leave<W: Ward>(
 )
     requires table { (place.old.table_id ≡ shared.now.table_id) × (1 < shared.now.table_id.words) }
     requires seat { (place.old.me.0.pivot.inside ≡ true) × (place.old.me.1 ≡ (0, Pivot pivot.value) ∷ rest place.old.me.1) × IsSameKeys place.old.me.0.lock.owes held.now.items }
-    requires facts { MayLeaveWith W.good W.fits W.grows W.posted W.busy place.old.me.0 held.now.items pivot.value change.now }
+    requires facts { MayLeave W.good W.fits W.grows W.posted W.busy place.old.me.0 held.now.items pivot.value change.now }
     ensures seat { (place.new.table_id ≡ place.old.table_id) × (place.new.id ≡ place.old.id) }
     ensures left { (p : W.Pivot) × (place.old.me.0.pivot.seen ≡ p ∷ []) × (place.new.me ≡ (with_exit is_call change.now p pivot.value held.now.items place.old.me.0, rest place.old.me.1)) }
 {

@@ -2,7 +2,7 @@
 ghost use Rattle.std.specs.Prelude.{◌≡◌, ◌<◌, ◌≤◌, ℕ, All, [], ◌∷◌, ◌++◌, vec_len, vec_capacity, Bool};
 ghost use Rattle.atomic_table.specs.Seated.{TableId};
 ghost use Rattle.ww_lock.specs.Acquiring.{Holds, IsSameAcquire, view};
-ghost use Rattle.ww_lock.specs.Begun.{IsIdle};
+ghost use Rattle.ww_lock.specs.Seats.{IsIdle};
 ghost use Rattle.ww_lock.specs.Boards.{table_of};
 ghost use Rattle.ww_lock.specs.Held.{HasAt, IsApart, IsSameKeys, Lacks};
 ghost use Rattle.ww_lock_tests.specs.Numbers.{Counts, count_of};
@@ -60,12 +60,12 @@ type AppendingSeat = Seat<Vec<BufferId>, Appended, ()>;
 
 // Appends the number of a buffer that is held, and counts it.
 fn append(acquire: &mut Appender, pivot: &mut Vec<BufferId>, buffer: BufferId)
-    requires held { (i : ℕ) × HasAt buffer i acquire.old.held.items }
-    requires counts { IsApart acquire.old.held.items × Counts (λ x. x.times) pivot.old.items acquire.old.held.items }
+    requires held { (i : ℕ) × HasAt buffer i acquire.old.seat.held.items }
+    requires counts { IsApart acquire.old.seat.held.items × Counts (λ x. x.times) pivot.old.items acquire.old.seat.held.items }
     requires room { vec_len pivot.old < vec_capacity pivot.old }
     ensures pushed { (pivot.new.items ≡ pivot.old.items ++ buffer ∷ []) × (vec_capacity pivot.new ≡ vec_capacity pivot.old) }
-    ensures counts { Counts (λ x. x.times) pivot.new.items acquire.new.held.items }
-    ensures keys { IsSameKeys acquire.new.held.items acquire.old.held.items }
+    ensures counts { Counts (λ x. x.times) pivot.new.items acquire.new.seat.held.items }
+    ensures keys { IsSameKeys acquire.new.seat.held.items acquire.old.seat.held.items }
     ensures same { IsSameAcquire acquire.old acquire.new × (view acquire.new ≡ view acquire.old) }
     ensures holds { (inside : Bool) (z : TableId) → Holds inside z acquire.old → Holds inside z acquire.new }
 {
@@ -76,10 +76,10 @@ fn append(acquire: &mut Appender, pivot: &mut Vec<BufferId>, buffer: BufferId)
 
 // Appends the number of each buffer that is held, where there is room for all.
 fn append_held(acquire: &mut Appender, pivot: &mut Vec<BufferId>)
-    requires counts { IsApart acquire.old.held.items × Counts (λ x. x.times) pivot.old.items acquire.old.held.items }
-    ensures counts { Counts (λ x. x.times) pivot.new.items acquire.new.held.items }
+    requires counts { IsApart acquire.old.seat.held.items × Counts (λ x. x.times) pivot.old.items acquire.old.seat.held.items }
+    ensures counts { Counts (λ x. x.times) pivot.new.items acquire.new.seat.held.items }
     ensures grown { IsPrefix pivot.old.items pivot.new.items }
-    ensures others { (b : ℕ) → Lacks b acquire.old.held.items → count_of b pivot.new.items ≡ count_of b pivot.old.items }
+    ensures others { (b : ℕ) → Lacks b acquire.old.seat.held.items → count_of b pivot.new.items ≡ count_of b pivot.old.items }
     ensures same { IsSameAcquire acquire.old acquire.new × (view acquire.new ≡ view acquire.old) }
     ensures holds { (inside : Bool) (z : TableId) → Holds inside z acquire.old → Holds inside z acquire.new }
 {
@@ -110,9 +110,9 @@ fn append_round<R: Wait>(
         Err(BeginError::TicketsOut(seat)) => return seat,
     };
     lock_all(board, &mut acquire, order, rt);
-    let mut pivot = board.enter_with(&mut acquire, rt);
+    let mut pivot = board.enter(&mut acquire.seat, rt);
     append_held(&mut acquire, &mut pivot);
-    board.leave_with(&mut acquire, pivot, &TaskChange::Same, true);
+    board.leave(&mut acquire.seat, pivot, &TaskChange::Same, true);
     release_all(board, &mut acquire);
     acquire.end()
 }

@@ -1,7 +1,7 @@
 //! Rounds of many threads, none of which is lost.
 ghost use Rattle.std.specs.Prelude.{◌<◌, All, IfOk};
 ghost use Rattle.std.specs.List.Sorted.{IsPermutation};
-ghost use Rattle.ww_lock.specs.Begun.{IsIdle};
+ghost use Rattle.ww_lock.specs.Seats.{IsIdle};
 ghost use Rattle.ww_lock.specs.Boards.{table_of};
 
 use crate::{Counters, CountingSeat, count_held, lock_all, release_all};

@@ -8,7 +8,7 @@
 ghost use Rattle.std.specs.Prelude.{◌≡◌, ◌<◌, ◌≤◌, ℕ, All, [], Some, vec_capacity, IfOk, IfSome};
 ghost use Rattle.atomic_table.specs.Seated.{TableId};
 ghost use Rattle.ww_lock.specs.Acquiring.{IsReady};
-ghost use Rattle.ww_lock.specs.Begun.{IsIdle, IsSeat, sees};
+ghost use Rattle.ww_lock.specs.Seats.{IsIdle, IsSeat, sees};
 ghost use Rattle.ww_lock.specs.Boards.{table_of};
 ghost use Rattle.ww_lock.specs.Lifetime.{HasAll};
 ghost use Rattle.ww_lock.specs.Rule.{In};
@@ -121,7 +121,7 @@ pub fn lock_others<W: Ward, R: Wait>(
 pub fn release_all<W: Ward>(board: &Board<W>, acquire: &mut Acquire<W::Pivot, W::Value, W::Task>)
     requires { IsReady W.fits (table_of board.now) acquire.old }
     ensures ready { IsReady W.fits (table_of board.now) acquire.new }
-    ensures empty { acquire.new.held.items ≡ [] }
+    ensures empty { acquire.new.seat.held.items ≡ [] }
 {
     while acquire.held().len() > 0 {
         let (buffer, _) = acquire.held()[0];

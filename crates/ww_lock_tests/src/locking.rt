@@ -1,7 +1,7 @@
 //! Two callers on one thread: one backs off and comes back.
 ghost use Rattle.std.specs.Prelude.{◌≡◌};
 ghost use Rattle.ww_lock.specs.Acquiring.{IsReady};
-ghost use Rattle.ww_lock.specs.Begun.{IsIdle};
+ghost use Rattle.ww_lock.specs.Seats.{IsIdle};
 ghost use Rattle.ww_lock.specs.Boards.{table_of};
 
 use crate::{Counters, Counting, CountingSeat, board_of_two, close_whole, count_held, release_all};
@@ -93,7 +93,7 @@ fn backs_off_and_comes_back(rt: HostRuntime) -> Result<(), Fail> {
     count_and_release(&board, &mut second);
     assert!(rt; second.held().is_empty());
     let seat = second.end();
-    board.enter_with(&mut first, &rt);
+    board.enter(&mut first.seat, &rt);
     let mut out = Vec::with_capacity(alloc, 2)?;
     assert!(rt; board.close(seat, &mut out).is_err());
     Ok(())

@@ -1,6 +1,6 @@
 //! A task that is begun and ended, and the calls of two seats that are joined.
 ghost use Rattle.std.specs.Prelude.{◌≡◌, ◌+◌, length};
-ghost use Rattle.ww_lock.specs.Begun.{IsIdle, sees};
+ghost use Rattle.ww_lock.specs.Seats.{IsIdle, sees};
 ghost use Rattle.ww_lock.specs.Boards.{table_of};
 
 use std::test::Fail;

@@ -4,7 +4,7 @@ use Rattle.atomic_table.proofs.Lists.{at_index}
 use Rattle.ww_lock_tests.proofs.release_all.Goals as goal
 
 pub release-requires-clause-held : goal.release-requires-clause-held
-release-requires-clause-held g c = let xs = c.loop-acquire.acquire.held.items in let e = c.index-held-0.result in let same = c.held-in-loop-acquire.ensures in
+release-requires-clause-held g c = let xs = c.loop-acquire.acquire.seat.held.items in let e = c.index-held-0.result in let same = c.held-in-loop-acquire.ensures in
     let l : 0 < length xs = (let k = c.held.ensures in let p = c.loop-acquire-test.true in first_of (search rules, omega arith)) in
     let at = at_index xs 0 e l (c.index-held-0.is ∙ ap (λ z. get_or z 0 e) same) ∙ ap (λ (n : ℕ). some (n, e.1)) (ap (λ z. z.0) c.index-held-0.is) in
     (0, (e.1, at))

@@ -7,14 +7,14 @@ use Rattle.drm_gpu.proofs.locking.release_all.Goals as goal
 
 pub release-requires-clause-held : goal.release-requires-clause-held
 release-requires-clause-held c =
-    let xs = c.loop-gpu.acquire.held.items in (
+    let xs = c.loop-gpu.acquire.seat.held.items in (
       0,
       subst (λ l. HasAt (slice_index_or l 0 c.index-held-0.result).0 0 xs) (sym c.held-in-loop-gpu.ensures)
           (first_at xs c.index-held-0.result (subst (λ l. 0 < length l) c.held.ensures c.loop-gpu-test.true)),
     )
 
 pub release-requires-clause-fits : goal.release-requires-clause-fits
-release-requires-clause-fits c x y i j p f = c.loop-gpu.invariant.holding.owed (slice_index_or c.held-in-loop-gpu.result.now 0 c.index-held-0.result).0 x y i j p f
+release-requires-clause-fits c x y i j p f = c.loop-gpu.invariant.holding.seat.owed (slice_index_or c.held-in-loop-gpu.result.now 0 c.index-held-0.result).0 x y i j p f
 
 pub loop-gpu-preserved : goal.loop-gpu-preserved
 loop-gpu-preserved c =

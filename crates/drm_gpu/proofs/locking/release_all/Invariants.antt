@@ -13,4 +13,4 @@ invariant-loop-gpu l = record {
 }
 
 abbrev pub decreases-loop-gpu : goal.decreases-loop-gpu
-decreases-loop-gpu l = length l.acquire.held.items
+decreases-loop-gpu l = length l.acquire.seat.held.items

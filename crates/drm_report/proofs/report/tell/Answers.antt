@@ -1,6 +1,9 @@
-use Rattle.std.proofs.Common.{rules, ◌≤◌, length, refl, sym, ap, subst, arith, All, IsTrue}
+use Rattle.std.proofs.Common.{rules, ◌≤◌, ◌≢◌, length, refl, sym, ap, subst, arith, All, IsTrue}
 use Rattle.std.proofs.lemmas.Bool.{both_ways}
+use Rattle.drm_types.specs.declared.outcome.Outcome.TheVariants.{Stopped}
+use Rattle.drm_fence.specs.declared.phase.Phase.TheVariants.{Ended}
 use Rattle.drm_fence.specs.Phases.{has_ended}
+use Rattle.drm_state.specs.declared.journal.JobRecord.{JobRecord}
 use Rattle.drm_report.specs.Reports.{IsComplete}
 use Rattle.drm_report.proofs.Reported.{reported}
 use Rattle.drm_report.proofs.Tallies.{told_right, as_told}
@@ -34,6 +37,7 @@ returns-clause-complete c =
     record {
       count = omega (arith, ap length c.as_slice-records.ensures, c.if-records-jobs.false);
       ended = subst (All (λ r. IsTrue (has_ended r.phase))) c.as_slice-records.ensures (c.have_ended.ensures.0 c.if-not-have_ended.false);
+      run = subst (All (λ (r : JobRecord). r.phase ≢ Ended Stopped)) c.as_slice-records.ensures (c.none_stopped.ensures.0 c.if-not-none_stopped.false);
       picked = told_right records seen c.args.picked.items c.deref.result.now counts rings c.len-rings.result
           c.as_slice-records.ensures c.deref.ensures.value c.len-rings.ensures c.count_rings-counts.ensures (c.are_counts.ensures.0 c.if-not-are_counts.false);
       finished = told_right records seen c.args.finished.items c.deref-else-not-are_counts.result.now counts rings c.len-rings.result

@@ -3,7 +3,7 @@ use Rattle.std.proofs.lemmas.Result.{IfOk-weaker}
 use Rattle.drm_job.specs.Fault.{IsJob}
 use Rattle.drm_workers.specs.declared.work.Done.{Done}
 use Rattle.drm_workers.proofs.Described.{few_rings}
-use Rattle.drm_workers.proofs.Running.{all_tell, as_many, few_workers, has_run}
+use Rattle.drm_workers.proofs.Running.{all_tell, all_whole, as_many, few_workers, has_run}
 use Rattle.drm_workers.proofs.Sharing.{of_shares}
 use Rattle.drm_workers.proofs.drive.drive.Goals as goal
 
@@ -33,6 +33,11 @@ returns-clause-report g c =
     let jobs : length c.args.jobs.items ≡ vec_len c.args.jobs = search rules in
     let all = subst (λ ds. All (λ (d : Done). d.is_done ≡ true) ds) c.deref.ensures.value (c.first_that_gave_up.ensures.none c.in_default-first_that_gave_up.is) in
     IfOk-weaker c.take_apart.result _ _ (λ report told. told c.args.jobs.items c.args.submitters (jobs ∙ c.requires.jobs.1) (λ closed left.
-    has_run c.armed_jobs_stay.ensures c.args.gpu.spec c.args.jobs.items c.args.submitters c.args.limits.rings c.args.gpu c.in-Ok.shares.items c.in-Ok-hire_all.workers.items c.in-Ok-run_workers.dones.items
-    c.gather-pass.result closed _ c.requires.submitters.0 refl c.in-Ok.ensures.shares c.in-Ok-hire_all.ensures.jobs c.in-Ok-run_workers.ensures.worked all c.gather-pass.ensures.gathered
+    has_run c.armed_jobs_stay.ensures c.in-Ok-hire_all.pass.part c.args.gpu.spec c.args.jobs.items c.args.submitters c.args.limits.rings c.args.gpu c.in-Ok.shares.items c.in-Ok-hire_all.workers.items c.in-Ok-run_workers.dones.items
+    c.gather-pass.result closed _ c.requires.submitters.0 refl c.in-Ok.ensures.shares c.in-Ok-hire_all.ensures.jobs c.in-Ok-run_workers.ensures.worked all c.gather-pass.ensures.gathered (c.in-Ok-hire_all.ensures.whole c.requires.pass.2)
     (c.truncate.ensures.items ∙ ap (take _) c.gather-pass.ensures.lists) left)) c.take_apart.ensures.report
+
+pub take_apart-requires-clause-whole : goal.take_apart-requires-clause-whole
+take_apart-requires-clause-whole g c =
+    all_whole c.args.gpu c.in-Ok-hire_all.pass.part c.in-Ok-hire_all.workers.items c.in-Ok-run_workers.dones.items c.gather-pass.result c.in-Ok-run_workers.ensures.worked c.gather-pass.ensures.gathered
+    (c.in-Ok-hire_all.ensures.whole c.requires.pass.2)

@@ -1,10 +1,13 @@
-use Rattle.std.proofs.Common.{rules, ◌≡◌, All, None, sym, subst}
+use Rattle.std.proofs.Common.{rules, ◌≡◌, All, None, ap, sym, subst}
+use Rattle.ww_lock.specs.Parts.{IsWhole}
+use Rattle.drm_gpu.specs.Passes.{PassState}
 use Rattle.drm_types.specs.declared.spec.DeviceSpec.{DeviceSpec}
 use Rattle.drm_types.specs.Limits.{spec_fault}
 use Rattle.drm_job.specs.Fault.{IsJob}
 use Rattle.std.proofs.lemmas.Result.{IfErr-weaker}
 use Rattle.drm_workers.specs.Faults.{IsFaultOf, IsOfWorkers}
 use Rattle.drm_workers.proofs.Described.{fault_of_workers}
+use Rattle.drm_workers.proofs.Hiring.{first_part}
 use Rattle.drm_workers.proofs.drive.run_all.Goals as goal
 
 pub drive-requires-clause-jobs : goal.drive-requires-clause-jobs
@@ -19,3 +22,8 @@ returns-clause-fault g c =
 
 pub returns-in-Err-Spec-clause-fault : goal.returns-in-Err-Spec-clause-fault
 returns-in-Err-Spec-clause-fault g c = search rules
+
+pub drive-requires-clause-pass : goal.drive-requires-clause-pass
+drive-requires-clause-pass g c κs within =
+    let first = c.in-Ok.ensures.pass in
+    (ap (λ (p : PassState). p.gpu) first, ap (λ (p : PassState). p.calls) first, subst (λ (p : PassState). IsWhole p.part) (sym first) first_part)

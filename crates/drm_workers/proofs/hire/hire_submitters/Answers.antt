@@ -20,5 +20,6 @@ loop-jobs-preserved c =
       c.in_ok-pass.ensures.pass.1,
       All-rest (λ share. All (IsJob c.args.gpu.now.spec) share.items) _ _ _ step.0 was.2,
       ap (λ js. js ++ lists rest) hired.0 ∙ (one_more before c.in-Some.jobs.items (lists rest) ∙ (ap (λ ss. before ++ lists ss) (sym step.0) ∙ was.3)),
-      λ all. hired.1 (was.4 all),
+      (λ all. hired.1 (was.4 all)),
+      λ whole. c.in_ok-pass.ensures.whole (was.5 whole),
     )

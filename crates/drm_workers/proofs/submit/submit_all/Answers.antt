@@ -20,6 +20,7 @@ loop-job-preserved g c =
           (was.3 d (fence ∷ ns) (transitive c.loop-job.pass.last new.last d h.later g)
           (subst (λ js. AreJobsOf d.state.journal (fence ∷ ns) js) (sym step.0) (job_stays c.armed_jobs_stay.ensures new.last d fence c.in-Some.job g c.in-Ok.ensures.1, k))))),
       search rules,
+      h.part ∙ was.5,
     )
 
 pub returns-clause-jobs : goal.returns-clause-jobs

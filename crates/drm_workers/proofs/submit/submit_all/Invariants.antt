@@ -13,4 +13,4 @@ invariant-loop-job g l =
     (l.pass.gpu ≡ l.gpu) × (armings l.pass.calls ≡ l.armed.items) × All (IsJob l.gpu.spec) (into_iter_items l.job-iterator)
     × ((d : MarkedDevice) (ns : List ℕ) → GrowsTo l.pass.last d → AreJobsOf d.state.journal ns (into_iter_items l.job-iterator)
     → AreJobsOf d.state.journal (l.armed.items ++ ns) l.fn.jobs.items)
-    × (vec_len l.armed + into_iter_len l.job-iterator ≤ vec_capacity l.armed)
+    × (vec_len l.armed + into_iter_len l.job-iterator ≤ vec_capacity l.armed) × (l.pass.part ≡ l.fn.pass.part)

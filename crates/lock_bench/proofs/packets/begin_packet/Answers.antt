@@ -5,7 +5,7 @@ use Rattle.lock_bench.proofs.packets.begin_packet.Goals as goal
 
 pub leave-requires-clause-facts : goal.leave-requires-clause-facts
 leave-requires-clause-facts g c =
-    (c.enter-engines.result, ap (λ v. v.pivot.seen) c.enter-engines.ensures.view, tt, tt, (λ b x h. h), (λ f. refl), (λ t h. h))
+    (c.enter-engines.result, ap (λ v. v.pivot.seen) c.enter-engines.ensures.view, tt, tt, (λ b x h. tt), (λ b x none h. tt), (λ f. refl), (λ t h. h))
 
 pub leave-requires-2-clause-facts : goal.leave-requires-2-clause-facts
 leave-requires-2-clause-facts g c =
@@ -16,7 +16,8 @@ leave-requires-2-clause-facts g c =
       ap (λ v. v.pivot.seen) c.enter-engines.ensures.view,
       tt,
       tt,
-      (λ b x h. h),
+      (λ b x h. tt),
+      (λ b x none h. tt),
       (λ f. refl),
       (
         ap (λ v. v.task) c.enter-engines.ensures.view ∙ c.requires.1,

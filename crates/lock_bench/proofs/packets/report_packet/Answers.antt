@@ -13,7 +13,8 @@ leave-requires-clause-facts g c = (
   ap (λ v. v.pivot.seen) c.enter-engines.ensures.view,
   tt,
   tt,
-  (λ b x h. h),
+  (λ b x h. tt),
+  (λ b x none h. tt),
   (λ f. refl),
   (
     c.args.engine,
@@ -23,4 +24,7 @@ leave-requires-clause-facts g c = (
 )
 
 pub returns : goal.returns
-returns g c = (c.leave.ensures.seat, ap (λ v. v.task) c.leave.ensures.view.2)
+returns g c = (
+  record { sits = c.leave.ensures.sits; none = ap (λ h. h.items) (c.leave.ensures.same.1 ∙ c.enter-engines.ensures.same.1) ∙ c.requires.0.none },
+  ap (λ v. v.task) c.leave.ensures.view.2,
+)

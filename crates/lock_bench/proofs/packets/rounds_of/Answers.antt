@@ -1,5 +1,5 @@
 use Rattle.std.proofs.Common.{sym, subst}
-use Rattle.ww_lock.specs.Begun.{IsIdle}
+use Rattle.ww_lock.specs.Seats.{IsIdle}
 use Rattle.ww_lock.specs.Boards.{table_of}
 use Rattle.lock_bench.proofs.packets.rounds_of.Goals.{then-begin_packet, else-begin_packet}
 use Rattle.lock_bench.proofs.packets.rounds_of.Goals as goal

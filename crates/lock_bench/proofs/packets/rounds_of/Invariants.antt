@@ -1,4 +1,4 @@
-use Rattle.ww_lock.specs.Begun.{IsIdle}
+use Rattle.ww_lock.specs.Seats.{IsIdle}
 use Rattle.ww_lock.specs.Boards.{table_of}
 use Rattle.lock_bench.proofs.packets.rounds_of.Given as goal
 

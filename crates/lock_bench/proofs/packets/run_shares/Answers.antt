@@ -14,7 +14,7 @@ use Rattle.lock_bench.specs.contracts.packets.PacketsWard.TheImpl.{ghosts as war
 use Rattle.lock_bench.specs.contracts.packets.run_shares.{R-row}
 use Rattle.lock_bench.proofs.packets.run_shares.Given.{Over}
 use Rattle.lock_bench.proofs.packets.run_shares.Lts.{arg-1-4}
-use Rattle.ww_lock.specs.Begun.{IsIdle}
+use Rattle.ww_lock.specs.Seats.{IsIdle}
 use Rattle.ww_lock.specs.Boards.{table_of}
 use Rattle.ww_lock.specs.contracts.board.Board as Board
 use Rattle.lock_bench.proofs.packets.run_shares.Goals as goal

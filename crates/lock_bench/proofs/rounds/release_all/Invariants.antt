@@ -7,4 +7,4 @@ abbrev pub invariant-loop-acquire : goal.invariant-loop-acquire
 invariant-loop-acquire l = IsReady (λ _ _ _. Unit {0}) (table_of l.board) l.acquire
 
 abbrev pub decreases-loop-acquire : goal.decreases-loop-acquire
-decreases-loop-acquire l = length l.acquire.held.items
+decreases-loop-acquire l = length l.acquire.seat.held.items

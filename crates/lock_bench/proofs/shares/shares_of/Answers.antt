@@ -1,6 +1,6 @@
 use Rattle.std.proofs.Common.{sym, subst, All}
 use Rattle.std.proofs.lemmas.List.Elements.{All-push}
-use Rattle.ww_lock.specs.Begun.{IsIdle}
+use Rattle.ww_lock.specs.Seats.{IsIdle}
 use Rattle.ww_lock.specs.Boards.{table_of}
 use Rattle.lock_bench.proofs.shares.shares_of.Goals as goal
 

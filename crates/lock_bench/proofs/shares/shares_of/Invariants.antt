@@ -1,5 +1,5 @@
 use Rattle.std.proofs.Common.{All}
-use Rattle.ww_lock.specs.Begun.{IsIdle}
+use Rattle.ww_lock.specs.Seats.{IsIdle}
 use Rattle.ww_lock.specs.Boards.{table_of}
 use Rattle.lock_bench.proofs.shares.shares_of.Given as goal
 

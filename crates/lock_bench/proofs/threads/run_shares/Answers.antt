@@ -11,7 +11,7 @@ use Rattle.lock_bench.specs.contracts.rounds.CountersWard.TheImpl.{ghosts as war
 use Rattle.lock_bench.specs.contracts.threads.run_shares.{R-row}
 use Rattle.lock_bench.proofs.threads.run_shares.Given.{Over}
 use Rattle.lock_bench.proofs.threads.run_shares.Lts.{arg-1-4}
-use Rattle.ww_lock.specs.Begun.{IsIdle}
+use Rattle.ww_lock.specs.Seats.{IsIdle}
 use Rattle.ww_lock.specs.Boards.{table_of}
 use Rattle.ww_lock.specs.contracts.board.Board as Board
 use Rattle.lock_bench.proofs.threads.run_shares.Goals as goal

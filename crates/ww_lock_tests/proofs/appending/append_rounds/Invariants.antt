@@ -1,6 +1,6 @@
 use Rattle.ww_lock.specs.Boards.{table_of}
 use Rattle.std.proofs.Common.{◌≡◌, ◌∷◌, []}
-use Rattle.ww_lock.specs.Begun.{IsIdle}
+use Rattle.ww_lock.specs.Seats.{IsIdle}
 use Rattle.ww_lock_tests.proofs.appending.append_rounds.Given as goal
 
 abbrev pub invariant-loop : goal.invariant-loop

@@ -11,7 +11,7 @@ use Rattle.ww_lock_tests.specs.contracts.CountersWard.TheImpl.{ghosts as ward}
 use Rattle.ww_lock_tests.specs.contracts.counting.count_in_threads.{R-row}
 use Rattle.ww_lock_tests.proofs.counting.count_in_threads.Given.{Over}
 use Rattle.ww_lock_tests.proofs.counting.count_in_threads.Lts.{arg-1-4}
-use Rattle.ww_lock.specs.Begun.{IsIdle}
+use Rattle.ww_lock.specs.Seats.{IsIdle}
 use Rattle.ww_lock.specs.contracts.board.Board as Board
 use Rattle.ww_lock_tests.proofs.counting.count_in_threads.Goals as goal
 

@@ -1,7 +1,7 @@
 use Rattle.ww_lock.specs.Boards.{table_of}
 use Rattle.std.proofs.Common.{sym, subst, All}
 use Rattle.std.proofs.lemmas.List.Elements.{All-push}
-use Rattle.ww_lock.specs.Begun.{IsIdle}
+use Rattle.ww_lock.specs.Seats.{IsIdle}
 use Rattle.ww_lock_tests.proofs.counting.jobs_of.Goals as goal
 
 pub loop-thread-preserved : goal.loop-thread-preserved

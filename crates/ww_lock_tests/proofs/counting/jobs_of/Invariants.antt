@@ -1,6 +1,6 @@
 use Rattle.ww_lock.specs.Boards.{table_of}
 use Rattle.std.proofs.Common.{All}
-use Rattle.ww_lock.specs.Begun.{IsIdle}
+use Rattle.ww_lock.specs.Seats.{IsIdle}
 use Rattle.ww_lock_tests.proofs.counting.jobs_of.Given as goal
 
 abbrev pub invariant-loop-thread : goal.invariant-loop-thread

@@ -10,7 +10,7 @@ others p q (suc f) ne = refl
 
 pub post-requires-clause-facts : goal.post-requires-clause-facts
 post-requires-clause-facts g c = let p = c.enter-pivot.result in let first : p ≡ 0 = search rules in
-    (p, ap (λ v. v.pivot.seen) c.enter-pivot.ensures.view, tt, subst (λ n. NotBack n 1) (sym first) (inr (omega arith, omega arith)), (λ b x h. tt), refl, (λ f ne. others 1 p f ne), λ t h. h)
+    (p, ap (λ v. v.pivot.seen) c.enter-pivot.ensures.view, tt, subst (λ n. NotBack n 1) (sym first) (inr (omega arith, omega arith)), (λ b x h. tt), (λ b x none h. tt), refl, (λ f ne. others 1 p f ne), λ t h. h)
 
 pub leave-requires-clause-facts : goal.leave-requires-clause-facts
-leave-requires-clause-facts g c = (1, ap (λ v. v.pivot.seen) c.post.ensures.view.2, tt, still 1, (λ b x h. tt), (λ f. refl), λ t h. h)
+leave-requires-clause-facts g c = (1, ap (λ v. v.pivot.seen) c.post.ensures.view.2, tt, still 1, (λ b x h. tt), (λ b x none h. tt), (λ f. refl), λ t h. h)

@@ -5,6 +5,7 @@ use Rattle.drm_gpu.specs.Answers.{CountsAre}
 use Rattle.drm_gpu.specs.Passes.{GrowsTo}
 use Rattle.drm_gpu.proofs.Called.{called}
 use Rattle.drm_gpu.proofs.Grown.{grows_itself, keeps_itself}
+use Rattle.drm_gpu.proofs.Chains.{pass_left}
 use Rattle.drm_gpu.proofs.gpu.Gpu.counts.Goals as goal
 
 pub leave-requires-clause-onward : goal.leave-requires-clause-onward
@@ -22,3 +23,7 @@ returns g c =
           c.pass.view_is c.requires.pass c.enter-device.ensures.found c.enter-device.ensures.same c.of-found.ensures (grows_itself d) c.leave.ensures.seat c.leave.ensures.call
           (c.armed.ensures, c.ended.ensures, refl);
     }
+
+pub invariant_of-pass : goal.invariant_of-pass
+invariant_of-pass g c =
+    pass_left c.args.self.now _ c.pass.inside.seat c.enter-device.new.seat c.leave.new.seat c.pass.invariant c.enter-device.ensures.holds c.leave.ensures.holds c.leave.ensures.seat.0

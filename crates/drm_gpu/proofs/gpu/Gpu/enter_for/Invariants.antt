@@ -1,6 +1,12 @@
-use Rattle.ww_lock.specs.Begun.{sees}
-use Rattle.drm_gpu.specs.Passes.{HasWaited, IsPassSeat, IsSameBut}
+use Rattle.ww_lock.specs.Seats.{sees}
+use Rattle.drm_gpu.specs.Passes.{HasWaited, HoldsOn, IsSameBut, Seated}
 use Rattle.drm_gpu.proofs.gpu.Gpu.enter_for.Given as goal
 
+-- the seat is outside still, and has only waited
 abbrev pub invariant-loop : goal.invariant-loop
-invariant-loop g l = IsPassSeat l.fn.self l.seat × HasWaited (sees l.fn.seat) (sees l.seat) × IsSameBut (sees l.fn.seat) (sees l.seat)
+invariant-loop g l = record {
+  seat : Seated l.fn.self l.seat;
+  waited : HasWaited (sees l.fn.seat) (sees l.seat);
+  holds : HoldsOn l.fn.seat l.seat;
+  same : IsSameBut (sees l.fn.seat) (sees l.seat);
+}

@@ -1,10 +1,15 @@
-use Rattle.std.proofs.Common.{Ok, Err, Some, None}
+use Rattle.std.proofs.Common.{Ok, Err, Some, None, subst, sym}
 use Rattle.drm_state.specs.Errors.{refusal_of_finish}
 use Rattle.drm_sched.specs.Marks.{ring_out}
 use Rattle.drm_state.specs.Refusals.{finish_refusal}
+use Rattle.drm_state.specs.Held.{kept_of}
+use Rattle.drm_state.specs.Keeps.{KeepsBut}
 use Rattle.drm_gpu.specs.Answers.{FinishIs}
+use Rattle.drm_gpu.specs.Submissions.{KeepsOthers}
 use Rattle.drm_gpu.proofs.Called.{called}
 use Rattle.drm_gpu.proofs.Packets.{not_out}
+use Rattle.drm_gpu.proofs.Chains.{pass_left}
+use Rattle.drm_gpu.proofs.Holders.{fits_but, keeps_but}
 use Rattle.drm_gpu.proofs.gpu.Gpu.finish.Goals as goal
 
 pub returns-in-Ok : goal.returns-in-Ok
@@ -26,3 +31,26 @@ returns g c =
           c.pass.view_is c.requires.pass c.enter_for-device.ensures.found c.enter_for-device.ensures.same c.of-found.ensures a.ensures.grows c.leave.ensures.seat c.leave.ensures.call
           (c.enter_for-device.ensures.free, not_out (ring_out d c.args.ring) (finish_refusal d.state c.args.ring) (Some (refusal_of_finish c.in-Err.error)) c.enter_for-device.ensures.free c.in-Err.ensures.refused.0, c.in-Err.ensures.refused.1);
     }
+
+pub invariant_of-pass-in-Err : goal.invariant_of-pass-in-Err
+invariant_of-pass-in-Err g c =
+    pass_left c.args.self.now _ c.pass.inside.seat c.enter_for-device.new.seat c.leave.new.seat c.pass.invariant c.enter_for-device.ensures.holds c.leave.ensures.holds c.leave.ensures.seat.0
+
+pub invariant_of-pass : goal.invariant_of-pass
+invariant_of-pass g c =
+    pass_left c.args.self.now _ c.pass.inside.seat c.enter_for-device.new.seat c.show_and_leave.new.seat c.pass.invariant c.enter_for-device.ensures.holds c.show_and_leave.ensures.holds c.show_and_leave.ensures.seat.0
+
+pub show_and_leave-requires-clause-shown : goal.show_and_leave-requires-clause-shown
+show_and_leave-requires-clause-shown g c =
+    let d = c.enter_for-device.result in
+    let e = c.finish.new.self in
+    let held = kept_of c.enter_for-device.new.seat.held.items in
+    let keeps = subst (λ w. KeepsBut c.in-Ok.done.fence w d.state e.state) (sym c.word_of_outcome-word.ensures) c.in-Ok.ensures.keeps in
+    subst (λ x. KeepsOthers held c.in-Ok.done.fence c.word_of_outcome-word.result x e) (sym c.of-found.ensures) (keeps_but c.in-Ok.done.fence c.word_of_outcome-word.result d e held keeps)
+
+pub show_and_leave-requires-clause-fit : goal.show_and_leave-requires-clause-fit
+show_and_leave-requires-clause-fit g c =
+    let d = c.enter_for-device.result in
+    let e = c.finish.new.self in
+    let keeps = subst (λ w. KeepsBut c.in-Ok.done.fence w d.state e.state) (sym c.word_of_outcome-word.ensures) c.in-Ok.ensures.keeps in
+    fits_but c.in-Ok.done.fence c.word_of_outcome-word.result d e (kept_of c.enter_for-device.new.seat.held.items) keeps c.enter_for-device.ensures.fit

@@ -1,6 +1,10 @@
-use Rattle.std.proofs.Common.{Ok, Err}
+use Rattle.std.proofs.Common.{Ok, Err, subst, sym}
+use Rattle.drm_state.specs.Held.{kept_of}
 use Rattle.drm_gpu.specs.Answers.{ReapIs}
+use Rattle.drm_gpu.specs.Submissions.{KeepsOthers}
 use Rattle.drm_gpu.proofs.Called.{called}
+use Rattle.drm_gpu.proofs.Chains.{pass_left}
+use Rattle.drm_gpu.proofs.Holders.{fits_but, keeps_but}
 use Rattle.drm_gpu.proofs.gpu.Gpu.reap.Goals as goal
 
 pub returns-in-Ok : goal.returns-in-Ok
@@ -22,3 +26,26 @@ returns g c =
           c.pass.view_is c.requires.pass c.enter-device.ensures.found c.enter-device.ensures.same c.of-found.ensures a.ensures.grows c.leave.ensures.seat c.leave.ensures.call
           c.in-Err.ensures.refused;
     }
+
+pub invariant_of-pass-in-Err : goal.invariant_of-pass-in-Err
+invariant_of-pass-in-Err g c =
+    pass_left c.args.self.now _ c.pass.inside.seat c.enter-device.new.seat c.leave.new.seat c.pass.invariant c.enter-device.ensures.holds c.leave.ensures.holds c.leave.ensures.seat.0
+
+pub invariant_of-pass : goal.invariant_of-pass
+invariant_of-pass g c =
+    pass_left c.args.self.now _ c.pass.inside.seat c.enter-device.new.seat c.show_and_leave.new.seat c.pass.invariant c.enter-device.ensures.holds c.show_and_leave.ensures.holds c.show_and_leave.ensures.seat.0
+
+pub show_and_leave-requires-clause-shown : goal.show_and_leave-requires-clause-shown
+show_and_leave-requires-clause-shown g c =
+    let d = c.enter-device.result in
+    let e = c.reap.new.self in
+    let held = kept_of c.enter-device.new.seat.held.items in
+    let keeps = c.in-Ok.ensures.keeps in
+    subst (λ x. KeepsOthers held c.in-Ok.fence 4 x e) (sym c.of-found.ensures) (keeps_but c.in-Ok.fence 4 d e held keeps)
+
+pub show_and_leave-requires-clause-fit : goal.show_and_leave-requires-clause-fit
+show_and_leave-requires-clause-fit g c =
+    let d = c.enter-device.result in
+    let e = c.reap.new.self in
+    let keeps = c.in-Ok.ensures.keeps in
+    fits_but c.in-Ok.fence 4 d e (kept_of c.enter-device.new.seat.held.items) keeps c.enter-device.ensures.fit

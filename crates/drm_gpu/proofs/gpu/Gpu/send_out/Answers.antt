@@ -1,5 +1,5 @@
 use Rattle.std.proofs.Common.{◌≡◌, ap, sym, subst, Err, None, Ok}
-use Rattle.ww_lock.specs.Begun.{sees}
+use Rattle.ww_lock.specs.Seats.{sees}
 use Rattle.drm_state.specs.Grows.{Grows}
 use Rattle.drm_state.specs.State.{DeviceState}
 use Rattle.drm_state.specs.declared.answer.Answer.TheVariants as answer
@@ -7,16 +7,22 @@ use Rattle.drm_state.specs.declared.errors.StepError.TheVariants.{Idle}
 use Rattle.drm_state.specs.declared.answer.Stepped.TheVariants.{Stalled}
 use Rattle.drm_sched.specs.Begun.{HasBegun, MayComeBack, out_or}
 use Rattle.drm_state.specs.Errors.{refusal_of_step}
-use Rattle.drm_sched.specs.Marks.{IsBusy, MarkedDevice}
+use Rattle.drm_sched.specs.Marks.{IsBusy, MarkedDevice, Task, mark_of}
 use Rattle.drm_state.specs.Outcomes.{step_outcome}
 use Rattle.drm_state.specs.Refusals.{step_refusal}
 use Rattle.drm_gpu.specs.Answers.{StepIs}
 use Rattle.drm_gpu.specs.declared.running.OutPacket.{OutPacket}
 use Rattle.drm_gpu.specs.Passes.{GrowsTo}
 use Rattle.drm_gpu.proofs.Called.{calls_as}
+use Rattle.drm_gpu.proofs.Chains.{holds_trans, pass_on}
 use Rattle.drm_gpu.proofs.Grown.{grows_itself}
-use Rattle.drm_gpu.proofs.Packets.{only_idle, waits_for}
+use Rattle.drm_gpu.proofs.Packets.{none_out, only_idle, waits_for}
 use Rattle.drm_gpu.proofs.gpu.Gpu.send_out.Goals as goal
+
+pub leave_sent-requires-clause-free : goal.leave_sent-requires-clause-free
+leave_sent-requires-clause-free g c =
+    subst (λ (t : Task). mark_of c.of-found.result.value t.ring ≡ None) (sym c.task.ensures)
+    (subst (λ d. mark_of d c.args.ring ≡ None) (sym c.of-found.ensures) (none_out c.enter_for-device.result c.args.ring c.enter_for-device.ensures.free))
 
 pub leave_sent-requires-clause-busy : goal.leave_sent-requires-clause-busy
 leave_sent-requires-clause-busy g c =
@@ -47,7 +53,8 @@ returns g c =
     let e = c.begin_step.new.self in
     let why = c.in-Err.ensures.refused in
     let idle = only_idle d c.args.ring _ (refusal_of_step c.in-Err._idle) c.enter_for-device.ensures.free why.0 in (
-      c.leave-in-Err.ensures.seat.0,
+      pass_on c.args.self.now c.args.seat.now c.leave-in-Err.new.seat c.requires.seat.none c.requires.seat.idle
+          (holds_trans c.args.seat.now c.enter_for-device.new.seat c.leave-in-Err.new.seat c.enter_for-device.ensures.holds c.leave-in-Err.ensures.holds) c.leave-in-Err.ensures.seat.0,
       calls_as (StepIs c.args.ring (Err Idle)) (sees c.args.seat.now) (sees c.enter_for-device.new.seat) (sees c.leave-in-Err.new.seat) d c.of-found.result.value e
           c.enter_for-device.ensures.found c.enter_for-device.ensures.same c.of-found.ensures (subst (λ x. GrowsTo x e) why.1 (grows_itself e))
           c.leave-in-Err.ensures.seat.1 c.leave-in-Err.ensures.call (c.enter_for-device.ensures.free, idle, why.1),
@@ -61,7 +68,8 @@ returns-in-Ok-Stalled g c =
     let begun = subst (λ b. HasBegun d c.args.ring b e) s.field-0-is s.ensures.begun.1 in
     let free = subst (λ b. out_or b (step_refusal d.state c.args.ring) ≡ None) c.enter_for-device.ensures.free s.ensures.begun.0 in
     let stalls = subst (λ (x : DeviceState). step_outcome d.state c.args.ring ≡ (answer.Stalled s.fence, x)) (sym (ap (λ (m : MarkedDevice). m.state) begun.1)) begun.0 in (
-      c.leave.ensures.seat.0,
+      pass_on c.args.self.now c.args.seat.now c.leave.new.seat c.requires.seat.none c.requires.seat.idle
+          (holds_trans c.args.seat.now c.enter_for-device.new.seat c.leave.new.seat c.enter_for-device.ensures.holds c.leave.ensures.holds) c.leave.ensures.seat.0,
       calls_as (StepIs c.args.ring (Ok (Stalled s.fence))) (sees c.args.seat.now) (sees c.enter_for-device.new.seat) (sees c.leave.new.seat) d c.of-found.result.value e
           c.enter_for-device.ensures.found c.enter_for-device.ensures.same c.of-found.ensures (subst (λ x. GrowsTo x e) begun.1 (grows_itself e))
           c.leave.ensures.seat.1 c.leave.ensures.call (c.enter_for-device.ensures.free, free, stalls, begun.1),

@@ -1,5 +1,5 @@
 use Rattle.std.proofs.Common.{Ok, Err}
-use Rattle.ww_lock.specs.Begun.{sees}
+use Rattle.ww_lock.specs.Seats.{sees}
 use Rattle.drm_state.specs.declared.errors.StepError.TheVariants.{Idle}
 use Rattle.drm_state.specs.declared.answer.Stepped.TheVariants.{Stalled}
 use Rattle.drm_gpu.specs.Answers.{StepIs}
@@ -14,10 +14,10 @@ pub returns-in-Stalled-clause-nothing : goal.returns-in-Stalled-clause-nothing
 returns-in-Stalled-clause-nothing g c =
     let t = c.send_out.new.seat in
     calls_are (StepIs c.args.ring (Ok (Stalled c.in-Stalled.fence))) c.args.self.now c.args.pass c.pass.inside.seat.place.table_id t.place.table_id (sees c.pass.inside.seat) (sees t)
-    c.pass.view_is c.requires.pass (at_gpu c.args.self.now t c.in-Stalled.ensures.0) c.in-Stalled.ensures.1
+    c.pass.view_is c.requires.pass (at_gpu c.args.self.now t c.in-Stalled.ensures.0.seated) c.in-Stalled.ensures.1
 
 pub returns-in-Idle-clause-nothing : goal.returns-in-Idle-clause-nothing
 returns-in-Idle-clause-nothing g c =
     let t = c.send_out.new.seat in
     calls_are (StepIs c.args.ring (Err Idle)) c.args.self.now c.args.pass c.pass.inside.seat.place.table_id t.place.table_id (sees c.pass.inside.seat) (sees t)
-    c.pass.view_is c.requires.pass (at_gpu c.args.self.now t c.in-Idle.ensures.0) c.in-Idle.ensures.1
+    c.pass.view_is c.requires.pass (at_gpu c.args.self.now t c.in-Idle.ensures.0.seated) c.in-Idle.ensures.1

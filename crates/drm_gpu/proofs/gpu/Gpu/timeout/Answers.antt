@@ -1,5 +1,6 @@
 use Rattle.drm_gpu.specs.Answers.{TimeoutIs}
 use Rattle.drm_gpu.proofs.Called.{called}
+use Rattle.drm_gpu.proofs.Chains.{pass_left}
 use Rattle.drm_gpu.proofs.gpu.Gpu.timeout.Goals as goal
 
 pub returns : goal.returns
@@ -11,3 +12,7 @@ returns g c =
           c.pass.view_is c.requires.pass c.enter_for-device.ensures.found c.enter_for-device.ensures.same c.of-found.ensures a.ensures.grows c.leave.ensures.seat c.leave.ensures.call
           (c.enter_for-device.ensures.free, c.in-Ok.ensures.expired.1, a.ensures.marks);
     }
+
+pub invariant_of-pass : goal.invariant_of-pass
+invariant_of-pass g c =
+    pass_left c.args.self.now _ c.pass.inside.seat c.enter_for-device.new.seat c.leave.new.seat c.pass.invariant c.enter_for-device.ensures.holds c.leave.ensures.holds c.leave.ensures.seat.0

@@ -6,12 +6,12 @@ use Rattle.drm_state.specs.Held.{HaveRoom, HoldsAll, kept_of}
 use Rattle.drm_gpu.specs.Passes.{Seeing, pass_of}
 use Rattle.drm_gpu.specs.Submissions.{DeviceAcquire, submission_of}
 use Rattle.drm_gpu.proofs.Claims.{parts, room_taken}
-use Rattle.drm_gpu.proofs.Holders.{keys_same}
+use Rattle.drm_gpu.proofs.Holders.{holds, keys_same}
 use Rattle.drm_gpu.proofs.locking.Locked.plan.Goals as goal
 
 pub put_values-requires : goal.put_values-requires
 put_values-requires c =
-    (c.take_values-held.ensures.lent false c.self.inside.gpu.now.home c.self.invariant.0.holds).1
+    (c.take_values-held.ensures.lent false c.self.inside.gpu.now.home (holds c.self.inside.gpu.now c.self.inside.acquire c.self.invariant.0)).1
     ∙ sym (keys_same c.take_values-held.result.items c.take_all_rooms-room.new.held.items c.take_all_rooms-room.ensures.kept)
 
 pub invariant_of-result : goal.invariant_of-result
@@ -23,17 +23,17 @@ invariant_of-result c =
     let deps = c.collect-plan.result.deps in
     let same = c.collect-plan.ensures.job in
     let seen = ap (λ (z : DeviceAcquire). view z) c.put_values.ensures.values ∙ ap (λ (z : DeviceAcquire). view z) c.take_values-held.ensures.left in
-    let kept = ap (λ (z : DeviceAcquire). kept_of z.held.items) c.put_values.ensures.values ∙ (c.take_all_rooms-room.ensures.kept ∙ ap (λ h. kept_of h.items) c.take_values-held.ensures.values) in
+    let kept = ap (λ (z : DeviceAcquire). kept_of z.seat.held.items) c.put_values.ensures.values ∙ (c.take_all_rooms-room.ensures.kept ∙ ap (λ h. kept_of h.items) c.take_values-held.ensures.values) in
     let sealed : b.sealed ≡ true = ap (λ (z : DeviceAcquire). z.sealed) c.put_values.ensures.values ∙ (ap (λ (z : DeviceAcquire). z.sealed) c.take_values-held.ensures.left ∙ c.self.invariant.1) in
-    let holds : HoldsAll job (kept_of b.held.items) = subst (HoldsAll job) (sym kept) c.self.invariant.3 in
-    let covers : CoverWhereFit job (kept_of b.held.items) deps =
-    subst (λ hs. CoverWhereFit job (kept_of hs) deps) c.held.ensures (c.collect-plan.ensures.covers (subst (λ hs. HoldsAll job (kept_of hs)) (sym c.held.ensures) holds)) in (
-      room_taken gpu a b c.self.invariant.0 (c.put_values.ensures.holds false gpu.home (c.take_values-held.ensures.lent false gpu.home c.self.invariant.0.holds).0) seen kept,
+    let all : HoldsAll job (kept_of b.seat.held.items) = subst (HoldsAll job) (sym kept) c.self.invariant.3 in
+    let covers : CoverWhereFit job (kept_of b.seat.held.items) deps =
+    subst (λ hs. CoverWhereFit job (kept_of hs) deps) c.held.ensures (c.collect-plan.ensures.covers (subst (λ hs. HoldsAll job (kept_of hs)) (sym c.held.ensures) all)) in (
+      room_taken gpu a b c.self.invariant.0 (c.put_values.ensures.holds false gpu.home (c.take_values-held.ensures.lent false gpu.home (holds gpu c.self.inside.acquire c.self.invariant.0)).0) seen kept,
       sealed,
       subst (IsJob gpu.spec) (sym same) c.self.invariant.2,
-      subst (λ j. HoldsAll j (kept_of b.held.items)) (sym same) holds,
-      subst (λ j. CoverWhereFit j (kept_of b.held.items) deps) (sym same) covers,
-      subst (λ (z : DeviceAcquire). HaveRoom c.collect-plan.result.job z.held.items) (sym c.put_values.ensures.values) ((c.in-Ok.ensures {u = tt}).room c.collect-plan.result.job),
+      subst (λ j. HoldsAll j (kept_of b.seat.held.items)) (sym same) all,
+      subst (λ j. CoverWhereFit j (kept_of b.seat.held.items) deps) (sym same) covers,
+      subst (λ (z : DeviceAcquire). HaveRoom c.collect-plan.result.job z.seat.held.items) (sym c.put_values.ensures.values) ((c.in-Ok.ensures {u = tt}).room c.collect-plan.result.job),
     )
 
 pub invariant_of-result-in-Err : goal.invariant_of-result-in-Err
@@ -42,9 +42,9 @@ invariant_of-result-in-Err c =
     let job = c.self.inside.job in
     let b = c.put_values.new.self in
     let seen = ap (λ (z : DeviceAcquire). view z) c.put_values.ensures.values ∙ ap (λ (z : DeviceAcquire). view z) c.take_values-held.ensures.left in
-    let kept = ap (λ (z : DeviceAcquire). kept_of z.held.items) c.put_values.ensures.values ∙ (c.take_all_rooms-room.ensures.kept ∙ ap (λ h. kept_of h.items) c.take_values-held.ensures.values) in
+    let kept = ap (λ (z : DeviceAcquire). kept_of z.seat.held.items) c.put_values.ensures.values ∙ (c.take_all_rooms-room.ensures.kept ∙ ap (λ h. kept_of h.items) c.take_values-held.ensures.values) in
     let sealed : b.sealed ≡ true = ap (λ (z : DeviceAcquire). z.sealed) c.put_values.ensures.values ∙ (ap (λ (z : DeviceAcquire). z.sealed) c.take_values-held.ensures.left ∙ c.self.invariant.1) in (
-      room_taken gpu c.self.inside.acquire b c.self.invariant.0 (c.put_values.ensures.holds false gpu.home (c.take_values-held.ensures.lent false gpu.home c.self.invariant.0.holds).0) seen kept,
+      room_taken gpu c.self.inside.acquire b c.self.invariant.0 (c.put_values.ensures.holds false gpu.home (c.take_values-held.ensures.lent false gpu.home (holds gpu c.self.inside.acquire c.self.invariant.0)).0) seen kept,
       sealed,
       c.self.invariant.2,
       subst (HoldsAll job) (sym kept) c.self.invariant.3,
@@ -58,10 +58,10 @@ returns-in-Ok-clause-planned c =
     let b = c.put_values.new.self in
     let same = c.collect-plan.ensures.job in
     let seen = ap (λ (z : DeviceAcquire). view z) c.put_values.ensures.values ∙ ap (λ (z : DeviceAcquire). view z) c.take_values-held.ensures.left in
-    let kept = ap (λ (z : DeviceAcquire). kept_of z.held.items) c.put_values.ensures.values ∙ (c.take_all_rooms-room.ensures.kept ∙ ap (λ h. kept_of h.items) c.take_values-held.ensures.values) in
+    let kept = ap (λ (z : DeviceAcquire). kept_of z.seat.held.items) c.put_values.ensures.values ∙ (c.take_all_rooms-room.ensures.kept ∙ ap (λ h. kept_of h.items) c.take_values-held.ensures.values) in
     let ticket = ap (λ (z : DeviceAcquire). z.ticket) c.put_values.ensures.values ∙ ap (λ (z : DeviceAcquire). z.ticket) c.take_values-held.ensures.left in (
       ap (λ j. submission_of gpu.home j b) same
-          ∙ (parts job (pass_of gpu.home (view b)) (pass_of gpu.home (view a)) b.ticket a.ticket (kept_of b.held.items) (kept_of a.held.items) (ap (λ (v : Seeing). pass_of gpu.home v) seen) ticket kept ∙ c.self.view_is),
-      subst (λ j. IsCollected j (kept_of b.held.items) c.collect-plan.result.deps) (sym same)
+          ∙ (parts job (pass_of gpu.home (view b)) (pass_of gpu.home (view a)) b.ticket a.ticket (kept_of b.seat.held.items) (kept_of a.seat.held.items) (ap (λ (v : Seeing). pass_of gpu.home v) seen) ticket kept ∙ c.self.view_is),
+      subst (λ j. IsCollected j (kept_of b.seat.held.items) c.collect-plan.result.deps) (sym same)
           (subst (λ hs. IsCollected job (kept_of hs) c.collect-plan.result.deps) c.held.ensures c.collect-plan.ensures.collected),
     )

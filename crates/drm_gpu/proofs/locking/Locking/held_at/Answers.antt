@@ -19,7 +19,7 @@ returns-then-place-held c =
     let d = c.index-held-place.result in
     let at : slice_get xs k ≡ Some (get_or xs k d) = slice_get-get_or xs k d c.if-place-held.true in
     sym (ap (λ (s : Submission). option_map (λ (h : ℕ × Reservation). h.0) (slice_get s.held k)) (sym c.self.view_is)
-    ∙ number_at c.self.inside.acquire.held.items k (Some (get_or xs k d)) (ap (λ l. slice_get l k) (sym c.held-held.ensures) ∙ at))
+    ∙ number_at c.self.inside.acquire.seat.held.items k (Some (get_or xs k d)) (ap (λ l. slice_get l k) (sym c.held-held.ensures) ∙ at))
 
 pub returns-else-place-held : goal.returns-else-place-held
 returns-else-place-held c =
@@ -27,4 +27,4 @@ returns-else-place-held c =
     let k = c.args.place in
     let past : length xs ≤ k = let less = c.if-place-held.false in omega (arith, less) in
     sym (ap (λ (s : Submission). option_map (λ (h : ℕ × Reservation). h.0) (slice_get s.held k)) (sym c.self.view_is)
-    ∙ number_at c.self.inside.acquire.held.items k None (ap (λ l. slice_get l k) (sym c.held-held.ensures) ∙ slice_get_past xs k past))
+    ∙ number_at c.self.inside.acquire.seat.held.items k None (ap (λ l. slice_get l k) (sym c.held-held.ensures) ∙ slice_get_past xs k past))

@@ -9,10 +9,10 @@ returns-clause-held c t =
     let x = c.has_buffer.ensures.held t in (
       x.0.kept,
       subst (In (c.args.buffer, x.0.kept)) (ap (λ (s : Submission). s.held) c.self.view_is)
-          (in_kept_of c.args.buffer x.0 c.self.inside.acquire.held.items (subst (In (c.args.buffer, x.0)) c.held.ensures x.1)),
+          (in_kept_of c.args.buffer x.0 c.self.inside.acquire.seat.held.items (subst (In (c.args.buffer, x.0)) c.held.ensures x.1)),
     )
 
 pub returns-clause-lacks : goal.returns-clause-lacks
 returns-clause-lacks c t x has =
-    let r = in_kept c.args.buffer x c.self.inside.acquire.held.items (subst (In (c.args.buffer, x)) (sym (ap (λ (s : Submission). s.held) c.self.view_is)) has) in
+    let r = in_kept c.args.buffer x c.self.inside.acquire.seat.held.items (subst (In (c.args.buffer, x)) (sym (ap (λ (s : Submission). s.held) c.self.view_is)) has) in
     c.has_buffer.ensures.lacks t r.0 (subst (In (c.args.buffer, r.0)) (sym c.held.ensures) r.1)

@@ -4,15 +4,16 @@ use Rattle.drm_types.specs.declared.spec.DeviceSpec.{DeviceSpec}
 use Rattle.drm_gpu.specs.Passes.{GpuState}
 use Rattle.drm_gpu.specs.Submissions.{Submission, Claims, submission_of}
 use Rattle.drm_gpu.proofs.Claims.{claimed, shows_claimed, kept_none}
+use Rattle.drm_gpu.proofs.Holders.{holds}
 use Rattle.drm_gpu.proofs.locking.Locking.lock_slow.Goals as goal
 
 pub lock_slow-requires : goal.lock_slow-requires
 lock_slow-requires g c =
     let k = c.self.invariant.0 in (
-      subst (λ z. HoldsOutside z c.self.inside.acquire) (sym (ap (λ (g : GpuState). g.home) c.gpu.view_is)) k.holds,
+      subst (λ z. HoldsOutside z c.self.inside.acquire) (sym (ap (λ (g : GpuState). g.home) c.gpu.view_is)) (holds c.self.inside.gpu.now c.self.inside.acquire k),
       subst (λ n. c.args.buffer < n) (sym (c.gpu.invariant.1 ∙ ap (λ (g : GpuState). length g.spec.buffers) c.gpu.view_is))
-          (subst (λ (s : DeviceSpec). c.args.buffer < length s.buffers) (ap (λ (s : Submission). s.pass.gpu.spec) (sym c.self.view_is) ∙ k.knows.described) c.requires.0),
-      kept_none c.self.inside.acquire.held.items (ap (λ (s : Submission). s.held) c.self.view_is ∙ c.requires.1),
+          (subst (λ (s : DeviceSpec). c.args.buffer < length s.buffers) (ap (λ (s : Submission). s.pass.gpu.spec) (sym c.self.view_is) ∙ k.seat.knows.described) c.requires.0),
+      kept_none c.self.inside.acquire.seat.held.items (ap (λ (s : Submission). s.held) c.self.view_is ∙ c.requires.1),
     )
 
 pub invariant_of-self : goal.invariant_of-self

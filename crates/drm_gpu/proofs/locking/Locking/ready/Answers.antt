@@ -2,6 +2,7 @@ use Rattle.std.proofs.Common.{refl, false, ap, sym, subst}
 use Rattle.drm_state.specs.Held.{kept_of, HoldsAll}
 use Rattle.drm_gpu.specs.Submissions.{Submission, DeviceAcquire}
 use Rattle.drm_gpu.proofs.Claims.{done_on}
+use Rattle.drm_gpu.proofs.Holders.{holds}
 use Rattle.drm_gpu.proofs.locking.Locking.ready.Goals as goal
 
 pub invariant_of-result : goal.invariant_of-result
@@ -10,10 +11,10 @@ invariant_of-result c =
     let a = c.self.inside.acquire in
     let b = c.done.new.self in
     let e = c.done.ensures in (
-      done_on gpu a b c.self.invariant.0 (e.holds false gpu.home c.self.invariant.0.holds) e.sealed,
+      done_on gpu a b c.self.invariant.0 (e.holds false gpu.home (holds gpu a c.self.invariant.0)) e.sealed,
       ap (λ (z : DeviceAcquire). z.sealed) e.sealed,
       c.self.invariant.2,
-      subst (λ (z : DeviceAcquire). HoldsAll c.self.inside.job (kept_of z.held.items)) (sym e.sealed) (subst (λ hs. HoldsAll c.self.inside.job (kept_of hs)) c.held.ensures (c.holds_all.ensures.all c.if-not-holds_all.false)),
+      subst (λ (z : DeviceAcquire). HoldsAll c.self.inside.job (kept_of z.seat.held.items)) (sym e.sealed) (subst (λ hs. HoldsAll c.self.inside.job (kept_of hs)) c.held.ensures (c.holds_all.ensures.all c.if-not-holds_all.false)),
     )
 
 pub returns-then-not-holds_all-clause-not_all : goal.returns-then-not-holds_all-clause-not_all

@@ -11,10 +11,10 @@ use Rattle.drm_gpu.proofs.locking.Locking.release.Goals as goal
 
 pub release-requires-clause-held : goal.release-requires-clause-held
 release-requires-clause-held c =
-    has_at c.args.buffer c.requires.0 c.self.inside.acquire.held.items (subst (In (c.args.buffer, c.requires.0)) (sym (ap (λ (s : Submission). s.held) c.self.view_is)) c.requires.1)
+    has_at c.args.buffer c.requires.0 c.self.inside.acquire.seat.held.items (subst (In (c.args.buffer, c.requires.0)) (sym (ap (λ (s : Submission). s.held) c.self.view_is)) c.requires.1)
 
 pub release-requires-clause-fits : goal.release-requires-clause-fits
-release-requires-clause-fits c x y i j p f = c.self.invariant.0.owed c.args.buffer x y i j p f
+release-requires-clause-fits c x y i j p f = c.self.invariant.0.seat.owed c.args.buffer x y i j p f
 
 pub invariant_of-self : goal.invariant_of-self
 invariant_of-self c =
@@ -33,5 +33,5 @@ returns c =
     let b = c.release.new.acquire in
     let e = c.release.ensures in
     subst (λ (s : Submission). submission_of home job b ≡ record s { held = without c.args.buffer s.held }) c.self.view_is
-    (parts job (pass_of home (view b)) (pass_of home (view a)) b.ticket a.ticket (kept_of b.held.items) (without c.args.buffer (kept_of a.held.items))
-    (ap (λ (v : Seeing). pass_of home v) e.view) e.same.0 (ap (λ hs. kept_of hs) e.held ∙ kept_without c.args.buffer a.held.items))
+    (parts job (pass_of home (view b)) (pass_of home (view a)) b.ticket a.ticket (kept_of b.seat.held.items) (without c.args.buffer (kept_of a.seat.held.items))
+    (ap (λ (v : Seeing). pass_of home v) e.view) e.same.0 (ap (λ hs. kept_of hs) e.held ∙ kept_without c.args.buffer a.seat.held.items))

@@ -17,4 +17,4 @@ returns c =
     let b = c.release_all.new.acquire in
     let e = c.release_all.ensures in
     subst (λ (s : Submission). submission_of home job b ≡ record s { held = [] }) c.self.view_is
-    (parts job (pass_of home (view b)) (pass_of home (view a)) b.ticket a.ticket (kept_of b.held.items) [] e.pass e.same.0 (ap (λ hs. kept_of hs) e.holding.1))
+    (parts job (pass_of home (view b)) (pass_of home (view a)) b.ticket a.ticket (kept_of b.seat.held.items) [] e.pass e.same.0 (ap (λ hs. kept_of hs) e.holding.1))

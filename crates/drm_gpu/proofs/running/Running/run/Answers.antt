@@ -1,13 +1,20 @@
 use Rattle.std.proofs.Common.{◌≡◌, ◌∙◌, ap, sym, subst, Ok}
-use Rattle.ww_lock.specs.Begun.{sees}
-use Rattle.drm_types.specs.declared.spec.DeviceSpec.{DeviceSpec}
+use Rattle.ww_lock.specs.Seats.{sees}
 use Rattle.drm_state.specs.declared.answer.Stepped.{Stepped}
 use Rattle.drm_state.specs.declared.answer.Stepped.TheVariants.{Ran}
 use Rattle.drm_gpu.specs.Answers.{StepIs}
-use Rattle.drm_gpu.specs.Passes.{Calls, PassState, pass_of}
+use Rattle.drm_gpu.specs.declared.running.OutPacket.{OutPacket}
+use Rattle.drm_gpu.specs.Passes.{Calls, CallsAs, PassState, pass_of}
 use Rattle.drm_gpu.specs.Running.{RunningState}
-use Rattle.drm_gpu.proofs.Called.{at_gpu, calls_are}
+use Rattle.drm_gpu.proofs.Called.{at_gpu, calls_are, of_gpu}
 use Rattle.drm_gpu.proofs.running.Running.run.Goals as goal
+
+pub take_back-ran-requires : goal.take_back-ran-requires
+take_back-ran-requires g c = record { sent = c.self.inside.out; has = c.self.invariant; task = c.run.ensures.task; bytes = c.run.ensures.bytes }
+
+pub returns-clause-ran : goal.returns-clause-ran
+returns-clause-ran g c =
+    c.take_back-ran.ensures.ran ∙ (ap (λ (o : OutPacket). Ran o.fence o.packet) c.run.ensures.bytes ∙ ap (λ (r : RunningState). Ran r.fence r.packet) c.self.view_is)
 
 pub returns-clause-call : goal.returns-clause-call
 returns-clause-call g c =
@@ -15,9 +22,11 @@ returns-clause-call g c =
     let old = c.args.self.pass in
     let out = c.self.inside.out in
     let s = c.self.inside.seat in
-    let t = c.run_out-ran.new.seat in
+    let t = c.take_back-ran.new.seat in
     let view : pass_of gpu.home (sees s) ≡ old = ap (λ (r : RunningState). r.pass) c.self.view_is in
-    let belongs : old.gpu ≡ gpu = sym (ap (λ (p : PassState). p.gpu) view) ∙ ap (λ (z : DeviceSpec). record { home = gpu.home; spec = z }) c.self.invariant.seat.knows.described in
-    let call = calls_are (StepIs out.ring (Ok (Ran out.fence out.packet))) gpu old gpu.home t.place.table_id (sees s) (sees t) view belongs (at_gpu gpu t c.run_out-ran.ensures.seat) c.run_out-ran.ensures.call in
-    subst (λ (r : RunningState). Calls (StepIs r.ring (Ok c.run_out-ran.result)) old (pass_of t.place.table_id (sees t))) c.self.view_is
-    (subst (λ (s : Stepped). Calls (StepIs out.ring (Ok s)) old (pass_of t.place.table_id (sees t))) (sym c.run_out-ran.ensures.ran) call)
+    let belongs : old.gpu ≡ gpu = sym (ap (λ (p : PassState). p.gpu) view) ∙ of_gpu gpu (sees s) c.self.invariant.seated.knows in
+    let ran : CallsAs (StepIs out.ring (Ok c.take_back-ran.result)) (sees s) (sees t) =
+    subst (λ ring. CallsAs (StepIs ring (Ok c.take_back-ran.result)) (sees s) (sees t)) (ap (λ (o : OutPacket). o.ring) c.run.ensures.bytes)
+    (subst (λ (r : Stepped). CallsAs (StepIs c.run.result.out.ring (Ok r)) (sees s) (sees t)) (sym c.take_back-ran.ensures.ran) c.take_back-ran.ensures.call) in
+    let call = calls_are (StepIs out.ring (Ok c.take_back-ran.result)) gpu old gpu.home t.place.table_id (sees s) (sees t) view belongs (at_gpu gpu t c.take_back-ran.ensures.seat.seated) ran in
+    subst (λ (r : RunningState). Calls (StepIs r.ring (Ok c.take_back-ran.result)) old (pass_of t.place.table_id (sees t))) c.self.view_is call

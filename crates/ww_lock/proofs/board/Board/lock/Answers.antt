@@ -23,7 +23,7 @@ returns-then-backs_off-clause-answers g c = let a = c.try_lock.new.acquire in el
   | in-Older w ↦ let t = rw w.in-Older.is at c.in-Err.ensures.answers in
       let f = failed c.args.buffer w.in-Older.holder c.args.acquire.now c.loop.acquire a c.loop.invariant.1 (t.0, t.1, t.2, t.4, t.5) in
       let m = f.2.2 in let low = t.3 in let kept = t.2.0 in let kept' = m.0.0 in
-      let some_held : 0 < length a.held.items = elim c.if-is_older.branch [
+      let some_held : 0 < length a.seat.held.items = elim c.if-is_older.branch [
         | then-is_older v ↦ let n = v.len.ensures in let b = sym v.backs_off-is ∙ c.if-backs_off.true in first_of (search rules, omega arith, grind (arith, nat_tests))
         | else-is_older v ↦ absurd (false≢true (sym v.if-is_older.false ∙ (sym v.backs_off-is ∙ c.if-backs_off.true)))
       ] in
