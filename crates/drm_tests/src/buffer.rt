@@ -1,4 +1,5 @@
 //! Worked examples on bytes, and each call once.
+use crate::expect::expect_eq;
 use crate::{buffers_of, memory_of};
 use drm_buffer::{Memory, size_in};
 use drm_types::BufferId;
@@ -16,7 +17,7 @@ fn copies_read_before_they_write(rt: HostRuntime) -> Result<(), Fail> {
         let mut memory = memory_of(rt.alloc(), &[&[1, 2, 3, 4]])?;
         assert!(rt; memory.buffers().len() == 1 && memory.size(whole) == 4);
         memory.copy(whole, from, whole, to, 3);
-        assert_eq!(rt; memory.bytes(whole), want.as_slice(), "from {from} to {to}");
+        expect_eq!(&rt, memory.bytes(whole), want.as_slice(), (from, to));
     }
     Ok(())
 }
@@ -32,7 +33,7 @@ fn sums_read_before_they_write(rt: HostRuntime) -> Result<(), Fail> {
         let mut memory = memory_of(rt.alloc(), &[&[1, 2, 3, 4]])?;
         assert!(rt; memory.buffers().len() == 1 && memory.size(whole) == 4);
         memory.add(whole, from, whole, to, 3);
-        assert_eq!(rt; memory.bytes(whole), want.as_slice(), "from {from} to {to}");
+        expect_eq!(&rt, memory.bytes(whole), want.as_slice(), (from, to));
     }
     Ok(())
 }
@@ -40,7 +41,8 @@ fn sums_read_before_they_write(rt: HostRuntime) -> Result<(), Fail> {
 // Two buffers of two and of three bytes.
 fn assert_sizes(rt: &impl Abort, memory: &Memory) {
     assert!(rt; memory.buffers().len() == 2);
-    assert_eq!(rt;
+    expect_eq!(
+        rt,
         (memory.size(BufferId::new(0)), memory.size(BufferId::new(1))),
         (2, 3)
     );
@@ -50,22 +52,22 @@ fn add_to_the_first(rt: &impl Abort, memory: &mut Memory) {
     let (first, second) = (BufferId::new(0), BufferId::new(1));
     assert!(rt; memory.buffers().len() == 2 && memory.size(first) == 2 && memory.size(second) == 3);
     memory.add(second, 0, first, 0, 1);
-    assert_eq!(rt; memory.bytes(first), [0x2c, 0xff].as_slice());
+    expect_eq!(rt, memory.bytes(first), [0x2c, 0xff].as_slice());
 }
 
 fn copy_to_the_second(rt: &impl Abort, memory: &mut Memory) {
     let (first, second) = (BufferId::new(0), BufferId::new(1));
     assert!(rt; memory.buffers().len() == 2 && memory.size(first) == 2 && memory.size(second) == 3);
     memory.copy(first, 0, second, 1, 2);
-    assert_eq!(rt; memory.bytes(second), [0x64, 0x2c, 0xff].as_slice());
+    expect_eq!(rt, memory.bytes(second), [0x64, 0x2c, 0xff].as_slice());
 }
 
 fn fill_the_second(rt: &impl Abort, memory: &mut Memory) {
     let (first, second) = (BufferId::new(0), BufferId::new(1));
     assert!(rt; memory.buffers().len() == 2 && memory.size(second) == 3);
     memory.fill(second, 1, 2, 5);
-    assert_eq!(rt; memory.bytes(second), [0x64, 5, 5].as_slice());
-    assert_eq!(rt; memory.bytes(first), [0x2c, 0xff].as_slice());
+    expect_eq!(rt, memory.bytes(second), [0x64, 5, 5].as_slice());
+    expect_eq!(rt, memory.bytes(first), [0x2c, 0xff].as_slice());
 }
 
 #[test]
@@ -87,15 +89,15 @@ fn copies_stand_apart(rt: HostRuntime) -> Result<(), Fail> {
     memory.fill(third, 0, 1, 9);
     let changed = memory.into_buffers();
     assert!(rt; buffers.len() == 3 && changed.len() == 3);
-    assert_eq!(rt; buffers.as_slice()[2].as_slice(), [3].as_slice());
-    assert_eq!(rt; changed.as_slice()[2].as_slice(), [9].as_slice());
+    expect_eq!(&rt, buffers.as_slice()[2].as_slice(), [3].as_slice());
+    expect_eq!(&rt, changed.as_slice()[2].as_slice(), [9].as_slice());
     Ok(())
 }
 
 #[test]
 fn sizes(rt: HostRuntime) -> Result<(), Fail> {
     let buffers = buffers_of(rt.alloc(), &[&[1, 2], &[], &[3]])?;
-    assert_eq!(rt; size_in(buffers.as_slice(), BufferId::new(0)), 2);
-    assert_eq!(rt; size_in(buffers.as_slice(), BufferId::new(3)), 0);
+    expect_eq!(&rt, size_in(buffers.as_slice(), BufferId::new(0)), 2);
+    expect_eq!(&rt, size_in(buffers.as_slice(), BufferId::new(3)), 0);
     Ok(())
 }

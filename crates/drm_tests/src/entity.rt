@@ -1,6 +1,7 @@
 //! Two queues that fill and empty, and marks that stay.
 ghost use Rattle.std.specs.Prelude.{◌≡◌, [], false, IfOk, replicate};
 
+use crate::expect::expect_eq;
 use crate::{buffers_of, device};
 use drm_entity::Entities;
 use std::alloc::{AllocError, Global};
@@ -20,7 +21,8 @@ fn entities_of(alloc: Global, count: usize) -> Result<Entities, AllocError>
 fn one_number_each(rt: HostRuntime) -> Result<(), Fail> {
     let mut entities = entities_of(rt.alloc(), 2)?;
     assert!(rt; entities.len() == 2);
-    assert_eq!(rt;
+    expect_eq!(
+        &rt,
         (entities.head(0), entities.last(0), entities.is_empty(0)),
         (None, None, true)
     );
@@ -28,13 +30,14 @@ fn one_number_each(rt: HostRuntime) -> Result<(), Fail> {
     assert!(rt; entities.len() == 2);
     entities.push(1, 5);
     assert!(rt; entities.len() == 2);
-    assert_eq!(rt;
+    expect_eq!(
+        &rt,
         (entities.head(0), entities.last(0), entities.is_empty(0)),
         (Some(3), Some(3), false)
     );
-    assert_eq!(rt; entities.pop(0), Some(3));
+    expect_eq!(&rt, entities.pop(0), Some(3));
     assert!(rt; entities.len() == 2);
-    assert_eq!(rt; (entities.head(0), entities.is_empty(0)), (None, true));
+    expect_eq!(&rt, (entities.head(0), entities.is_empty(0)), (None, true));
     Ok(())
 }
 
@@ -48,16 +51,17 @@ fn two_numbers_in_order(rt: HostRuntime) -> Result<(), Fail> {
     assert!(rt; entities.len() == 2);
     entities.push(0, 0);
     assert!(rt; entities.len() == 2);
-    assert_eq!(rt;
+    expect_eq!(
+        &rt,
         (entities.head(0), entities.last(0), entities.head(1)),
         (Some(4), Some(0), Some(5))
     );
     for number in [Some(4), Some(0), None] {
         assert!(rt; entities.len() == 2);
-        assert_eq!(rt; entities.pop(0), number);
+        expect_eq!(&rt, entities.pop(0), number);
     }
     assert!(rt; entities.len() == 2);
-    assert_eq!(rt; entities.pop(1), Some(5));
+    expect_eq!(&rt, entities.pop(1), Some(5));
     Ok(())
 }
 
@@ -69,11 +73,13 @@ fn marks_stay(rt: HostRuntime) -> Result<(), Fail> {
     assert!(rt; entities.len() == 64);
     entities.set_guilty(62);
     assert!(rt; entities.len() == 64);
-    assert_eq!(rt;
+    expect_eq!(
+        &rt,
         (entities.is_stopped(63), entities.is_stopped(62)),
         (true, false)
     );
-    assert_eq!(rt;
+    expect_eq!(
+        &rt,
         (entities.is_guilty(63), entities.is_guilty(62)),
         (false, true)
     );

@@ -1,6 +1,7 @@
 //! Two jobs from arming to their ends, the table of statuses, and 64 entities that wait.
 ghost use Rattle.std.specs.Prelude.{◌≡◌, ◌<◌, IfOk};
 
+use crate::expect::expect_eq;
 use crate::{buffers_of, device};
 use drm_fence::{NoFence, Phase, Timeline, Waiters};
 use drm_types::Outcome;
@@ -11,14 +12,14 @@ use std::test::Fail;
 #[test]
 fn two_jobs_are_armed(rt: HostRuntime) -> Result<(), Fail> {
     let mut timeline = Timeline::new(rt.alloc(), 2)?;
-    assert_eq!(rt; timeline.status(0), Err(NoFence { fence: 0 }));
+    expect_eq!(&rt, timeline.status(0), Err(NoFence { fence: 0 }));
     assert!(rt; !timeline.is_full());
     let first = timeline.arm();
     let second = timeline.arm();
-    assert_eq!(rt; (first, second), (0, 1));
+    expect_eq!(&rt, (first, second), (0, 1));
     assert!(rt; timeline.is_full());
-    assert_eq!(rt; timeline.status(1), Ok(0));
-    assert_eq!(rt; timeline.armed(), 2);
+    expect_eq!(&rt, timeline.status(1), Ok(0));
+    expect_eq!(&rt, timeline.armed(), 2);
     Ok(())
 }
 
@@ -28,29 +29,35 @@ fn two_jobs_to_their_ends(rt: HostRuntime) -> Result<(), Fail> {
     timeline.arm();
     timeline.arm();
     timeline.schedule(0);
-    assert_eq!(rt; timeline.phase(0), Phase::Scheduled);
-    assert_eq!(rt; timeline.phase(1), Phase::Queued);
+    expect_eq!(&rt, timeline.phase(0), Phase::Scheduled);
+    expect_eq!(&rt, timeline.phase(1), Phase::Queued);
     timeline.count_packet(0);
     timeline.finish(0, Outcome::Good);
     timeline.finish(1, Outcome::Stopped);
-    assert_eq!(rt; (timeline.ran(0), timeline.ran(1)), (1, 0));
-    assert_eq!(rt; (timeline.status(0), timeline.status(1)), (Ok(1), Ok(-3)));
+    expect_eq!(&rt, (timeline.ran(0), timeline.ran(1)), (1, 0));
+    expect_eq!(
+        &rt,
+        (timeline.status(0), timeline.status(1)),
+        (Ok(1), Ok(-3))
+    );
     assert!(rt; timeline.has_ended(0) && !timeline.has_ended(2));
     Ok(())
 }
 
+/// Whether a phase is an end, and its status.
+const STATUSES: &[(Phase, bool, i32)] = &[
+    (Phase::Queued, false, 0),
+    (Phase::Scheduled, false, 0),
+    (Phase::Ended(Outcome::Good), true, 1),
+    (Phase::Ended(Outcome::Cancelled), true, -125),
+    (Phase::Ended(Outcome::Stopped), true, -3),
+];
+
 #[test]
 fn statuses(rt: HostRuntime) {
-    let table = [
-        (Phase::Queued, false, 0),
-        (Phase::Scheduled, false, 0),
-        (Phase::Ended(Outcome::Good), true, 1),
-        (Phase::Ended(Outcome::Cancelled), true, -125),
-        (Phase::Ended(Outcome::Stopped), true, -3),
-    ];
-    for (phase, is_ended, status) in table {
-        assert_eq!(rt; phase.is_ended(), is_ended);
-        assert_eq!(rt; phase.status(), status);
+    for &(phase, is_ended, status) in STATUSES {
+        expect_eq!(&rt, phase.is_ended(), is_ended);
+        expect_eq!(&rt, phase.status(), status);
     }
 }
 
@@ -76,13 +83,13 @@ fn lists_are_made_as_they_are_needed(rt: HostRuntime) -> Result<(), Fail> {
     assert!(rt; !waiters.is_watching(4, 7));
     waiters.watch(4, 8, 7, true);
     waiters.prepare_next();
-    assert_eq!(rt; (waiters.unmet(3), waiters.unmet(4)), (1, 1));
+    expect_eq!(&rt, (waiters.unmet(3), waiters.unmet(4)), (1, 1));
     waiters.ended(7);
     waiters.scheduled(8);
-    assert_eq!(rt; (waiters.unmet(3), waiters.unmet(4)), (1, 0));
+    expect_eq!(&rt, (waiters.unmet(3), waiters.unmet(4)), (1, 0));
     waiters.ended(9);
     waiters.ended(0);
-    assert_eq!(rt; (waiters.unmet(3), waiters.fences()), (0, 9));
+    expect_eq!(&rt, (waiters.unmet(3), waiters.fences()), (0, 9));
     Ok(())
 }
 
@@ -98,7 +105,8 @@ fn four_pairs(rt: &impl Abort, waiters: &mut Waiters) {
         assert!(rt; !waiters.is_watching(entity, of));
         waiters.watch(entity, fence, of, early);
     }
-    assert_eq!(rt;
+    expect_eq!(
+        rt,
         (
             waiters.unmet(2),
             waiters.unmet(63),
@@ -108,7 +116,8 @@ fn four_pairs(rt: &impl Abort, waiters: &mut Waiters) {
         (2, 1, 1, 0)
     );
     let counts = waiters.counts();
-    assert_eq!(rt;
+    expect_eq!(
+        rt,
         (counts.len(), counts.get(2).copied(), counts.get(3).copied()),
         (64, Some(2), Some(0))
     );
@@ -116,11 +125,11 @@ fn four_pairs(rt: &impl Abort, waiters: &mut Waiters) {
 
 fn four_pairs_are_met(rt: &impl Abort, waiters: &mut Waiters) {
     waiters.scheduled(7);
-    assert_eq!(rt; (waiters.unmet(2), waiters.unmet(63)), (2, 0));
+    expect_eq!(rt, (waiters.unmet(2), waiters.unmet(63)), (2, 0));
     waiters.ended(8);
-    assert_eq!(rt; (waiters.unmet(2), waiters.unmet(0)), (1, 0));
+    expect_eq!(rt, (waiters.unmet(2), waiters.unmet(0)), (1, 0));
     waiters.forget(2);
-    assert_eq!(rt; (waiters.unmet(2), waiters.unmet(64)), (0, 0));
+    expect_eq!(rt, (waiters.unmet(2), waiters.unmet(64)), (0, 0));
 }
 
 #[test]
@@ -155,7 +164,7 @@ fn all_wait(rt: &impl Abort, waiters: &mut Waiters) {
     waiters.forget(64);
     waiters.forget(10);
     for entity in 0..64u32 {
-        assert_eq!(rt; waiters.unmet(entity), if entity == 10 { 0 } else { 1 });
+        expect_eq!(rt, waiters.unmet(entity), if entity == 10 { 0 } else { 1 });
     }
 }
 
@@ -164,7 +173,7 @@ fn early_ones_are_met(rt: &impl Abort, waiters: &mut Waiters) {
     waiters.scheduled(8);
     for entity in 0..64u32 {
         let is_met = entity == 10 || entity % 3 == 0;
-        assert_eq!(rt; waiters.unmet(entity), if is_met { 0 } else { 1 });
+        expect_eq!(rt, waiters.unmet(entity), if is_met { 0 } else { 1 });
     }
 }
 
@@ -174,7 +183,7 @@ fn all_are_met(rt: &impl Abort, waiters: &mut Waiters) {
     watch(waiters, 10, true);
     waiters.ended(8);
     for entity in 0..64u32 {
-        assert_eq!(rt; waiters.unmet(entity), 0);
+        expect_eq!(rt, waiters.unmet(entity), 0);
     }
 }
 

@@ -1,5 +1,6 @@
 //! The check on worked drafts, and which jobs conflict. The device has two buffers of four bytes, one ring, an entity of
 //! NORMAL priority and one of KERNEL priority.
+use crate::expect::expect_eq;
 use crate::job::Want::{DeclaredTwice, Fault, Fits, MoveNotKernel, NoBuffer};
 use crate::job::Work::{Add, Copy, Fill, Stall};
 use crate::{add, buffers_of, copy, device, fill};
@@ -11,7 +12,7 @@ use std::alloc::{AllocError, Global};
 use std::test::Fail;
 
 /// A packet, with its buffers, offsets and length in the order of a script's words.
-#[derive(Clone, Copy, Debug)]
+#[derive(Clone, Copy)]
 enum Work {
     Fill(u32, u32, u32),
     Copy(u32, u32, u32, u32, u32),
@@ -20,7 +21,7 @@ enum Work {
 }
 
 /// What the check says of a draft.
-#[derive(Clone, Copy, Debug)]
+#[derive(Clone, Copy)]
 enum Want {
     /// It is a job.
     Fits,
@@ -42,7 +43,7 @@ struct Case(
 );
 
 /// Two jobs by what they declare, and whether they conflict.
-#[derive(Clone, Copy, Debug)]
+#[derive(Clone, Copy)]
 struct Pair(&'static [(u32, Access)], &'static [(u32, Access)], bool);
 
 fn sample(alloc: Global) -> Result<DeviceSpec, AllocError> {
@@ -183,7 +184,7 @@ const LISTS_AND_BUFFERS: [Case; 8] = [
 
 #[test]
 fn lists_and_buffers(rt: HostRuntime) -> Result<(), Fail> {
-    assert_eq!(rt; first_wrong(rt.alloc(), &LISTS_AND_BUFFERS)?, None);
+    expect_eq!(&rt, first_wrong(rt.alloc(), &LISTS_AND_BUFFERS)?, None);
     Ok(())
 }
 
@@ -216,7 +217,7 @@ const ONE_BUFFER: [Case; 6] = [
 
 #[test]
 fn packets_of_one_buffer(rt: HostRuntime) -> Result<(), Fail> {
-    assert_eq!(rt; first_wrong(rt.alloc(), &ONE_BUFFER)?, None);
+    expect_eq!(&rt, first_wrong(rt.alloc(), &ONE_BUFFER)?, None);
     Ok(())
 }
 
@@ -249,7 +250,7 @@ const TWO_BUFFERS: [Case; 6] = [
 
 #[test]
 fn packets_of_two_buffers(rt: HostRuntime) -> Result<(), Fail> {
-    assert_eq!(rt; first_wrong(rt.alloc(), &TWO_BUFFERS)?, None);
+    expect_eq!(&rt, first_wrong(rt.alloc(), &TWO_BUFFERS)?, None);
     Ok(())
 }
 
@@ -273,7 +274,7 @@ const MOVES: [Case; 9] = [
 
 #[test]
 fn only_the_kernel_moves(rt: HostRuntime) -> Result<(), Fail> {
-    assert_eq!(rt; first_wrong(rt.alloc(), &MOVES)?, None);
+    expect_eq!(&rt, first_wrong(rt.alloc(), &MOVES)?, None);
     Ok(())
 }
 
@@ -309,12 +310,12 @@ const HOLDS: [Case; 9] = [
 
 #[test]
 fn packets_touch_nothing_on_hold(rt: HostRuntime) -> Result<(), Fail> {
-    assert_eq!(rt; first_wrong(rt.alloc(), &HOLDS)?, None);
+    expect_eq!(&rt, first_wrong(rt.alloc(), &HOLDS)?, None);
     Ok(())
 }
 
 /// How many buffers are declared, fences named and packets given, and what the check says.
-#[derive(Clone, Copy, Debug)]
+#[derive(Clone, Copy)]
 struct Counts(usize, usize, usize, Want);
 
 const COUNTS: [Counts; 5] = [
@@ -362,7 +363,12 @@ fn long_lists(rt: HostRuntime) -> Result<(), Fail> {
     let spec = sample(rt.alloc())?;
     for counts in COUNTS {
         let draft = long_draft(rt.alloc(), counts)?;
-        assert_eq!(rt; fault_of(draft, &spec), wanted(counts.3), "{counts:?}");
+        expect_eq!(
+            &rt,
+            fault_of(draft, &spec),
+            wanted(counts.3),
+            (counts.0, counts.1, counts.2)
+        );
     }
     Ok(())
 }
@@ -414,7 +420,12 @@ fn do_conflict(alloc: Global, spec: &DeviceSpec, pair: &Pair) -> Result<bool, Fa
 fn jobs_that_conflict(rt: HostRuntime) -> Result<(), Fail> {
     let spec = sample(rt.alloc())?;
     for pair in PAIRS {
-        assert_eq!(rt; do_conflict(rt.alloc(), &spec, &pair)?, pair.2, "{pair:?}");
+        expect_eq!(
+            &rt,
+            do_conflict(rt.alloc(), &spec, &pair)?,
+            pair.2,
+            (pair.0, pair.1)
+        );
     }
     Ok(())
 }

@@ -11,6 +11,8 @@ mod buffer;
 #[cfg(test)]
 mod entity;
 #[cfg(test)]
+mod expect;
+#[cfg(test)]
 mod fence;
 #[cfg(test)]
 mod job;

@@ -1,4 +1,5 @@
 //! The replacing rule at its boundaries, worked reservations, and the latest fences of 64 entities.
+use crate::expect::expect_eq;
 use drm_fence::Timeline;
 use drm_resv::{Deps, Entry, Resv, StoredDeps};
 use drm_types::{EntityId, FenceId, Outcome, Usage};
@@ -13,6 +14,17 @@ fn entry(fence: FenceId, entity: EntityId, usage: Usage) -> Entry {
     }
 }
 
+/// An old entry, whether a read of entity 5 with fence 2 replaces it, and what it is beside that.
+const OLD: &[(FenceId, EntityId, Usage, bool, &str)] = &[
+    (0, 1, Usage::Write, true, "an ended entry of another entity"),
+    (1, 1, Usage::Write, false, "another entity"),
+    (1, 5, Usage::Write, false, "a stronger usage"),
+    (1, 5, Usage::Read, true, "an equal usage"),
+    (2, 5, Usage::Read, true, "an equal number"),
+    (1, 5, Usage::Bookkeep, true, "a weaker usage"),
+    (3, 5, Usage::Read, false, "a later number"),
+];
+
 #[test]
 fn replaces_at_the_boundaries(rt: HostRuntime) -> Result<(), Fail> {
     let mut timeline = Timeline::new(rt.alloc(), 8)?;
@@ -24,22 +36,10 @@ fn replaces_at_the_boundaries(rt: HostRuntime) -> Result<(), Fail> {
     if timeline.armed() > 0 && !timeline.has_ended(0) {
         timeline.finish(0, Outcome::Good);
     }
-    let table = [
-        (
-            entry(0, 1, Usage::Write),
-            true,
-            "an ended entry of another entity",
-        ),
-        (entry(1, 1, Usage::Write), false, "another entity"),
-        (entry(1, 5, Usage::Write), false, "a stronger usage"),
-        (entry(1, 5, Usage::Read), true, "an equal usage"),
-        (entry(2, 5, Usage::Read), true, "an equal number"),
-        (entry(1, 5, Usage::Bookkeep), true, "a weaker usage"),
-        (entry(3, 5, Usage::Read), false, "a later number"),
-    ];
     let new = entry(2, 5, Usage::Read);
-    for (old, replaces, what) in table {
-        assert_eq!(rt; new.replaces(&old, &timeline), replaces, "{what}");
+    for &(fence, entity, usage, replaces, what) in OLD {
+        let old = entry(fence, entity, usage);
+        expect_eq!(&rt, new.replaces(&old, &timeline), replaces, what);
     }
     Ok(())
 }
@@ -69,7 +69,7 @@ fn four_are_left(rt: &impl Abort, resv: &Resv) {
         entry(3, 0, Usage::Read),
         entry(4, 2, Usage::Write),
     ];
-    assert_eq!(rt; resv.fences(), left.as_slice());
+    expect_eq!(rt, resv.fences(), left.as_slice());
     let all = [
         (0, Usage::Write),
         (1, Usage::Read),
@@ -77,25 +77,26 @@ fn four_are_left(rt: &impl Abort, resv: &Resv) {
         (3, Usage::Read),
         (4, Usage::Write),
     ];
-    assert_eq!(rt; resv.history(), all.as_slice());
+    expect_eq!(rt, resv.history(), all.as_slice());
 }
 
 fn least_before_and_after(rt: &impl Abort, resv: &Resv, timeline: &mut Timeline) {
-    assert_eq!(rt; resv.least_active(Usage::Write, timeline), Some(0));
+    expect_eq!(rt, resv.least_active(Usage::Write, timeline), Some(0));
     assert!(rt; timeline.armed() > 0 && !timeline.has_ended(0));
     timeline.finish(0, Outcome::Good);
-    assert_eq!(rt; resv.least_active(Usage::Write, timeline), Some(4));
-    assert_eq!(rt; resv.least_active(Usage::Read, timeline), Some(2));
-    assert_eq!(rt; resv.least_active(Usage::Kernel, timeline), None);
+    expect_eq!(rt, resv.least_active(Usage::Write, timeline), Some(4));
+    expect_eq!(rt, resv.least_active(Usage::Read, timeline), Some(2));
+    expect_eq!(rt, resv.least_active(Usage::Kernel, timeline), None);
 }
 
 fn who_waits(rt: &impl Abort, resv: &Resv) {
     let mut readers_wait = Deps::new();
     resv.collect(Usage::Write, &mut readers_wait);
-    assert_eq!(rt; readers_wait.as_slice(), [(0, 0), (2, 4)].as_slice());
+    expect_eq!(rt, readers_wait.as_slice(), [(0, 0), (2, 4)].as_slice());
     let mut writers_wait = Deps::new();
     resv.collect(Usage::Read, &mut writers_wait);
-    assert_eq!(rt;
+    expect_eq!(
+        rt,
         writers_wait.as_slice(),
         [(0, 3), (1, 2), (2, 4)].as_slice()
     );
@@ -131,7 +132,7 @@ fn ended_entries_are_replaced_first_found(rt: HostRuntime) -> Result<(), Fail> {
         entry(3, 2, Usage::Write),
         entry(2, 2, Usage::Read),
     ];
-    assert_eq!(rt; resv.fences(), left.as_slice());
+    expect_eq!(&rt, resv.fences(), left.as_slice());
     Ok(())
 }
 
@@ -145,18 +146,17 @@ fn the_latest_of_64_entities(rt: HostRuntime) {
     for entity in 0..64 {
         deps.note(entity, 970);
     }
-    assert_eq!(rt; deps.len(), 64);
     assert!(rt; deps.len() == 64);
-    assert_eq!(rt; deps.at(0), (0, 1000));
-    assert_eq!(rt; deps.at(30), (30, 970));
-    assert_eq!(rt; deps.at(63), (63, 970));
+    expect_eq!(&rt, deps.at(0), (0, 1000));
+    expect_eq!(&rt, deps.at(30), (30, 970));
+    expect_eq!(&rt, deps.at(63), (63, 970));
 }
 
 #[test]
 fn dependencies_of_stored_jobs(rt: HostRuntime) -> Result<(), Fail> {
     let mut deps = Deps::new();
     let mut stored = StoredDeps::new(rt.alloc(), 3)?;
-    assert_eq!(rt; stored.places(), 3);
+    expect_eq!(&rt, stored.places(), 3);
     assert!(rt; stored.is_empty());
     stored.push(&deps);
     assert!(rt; !stored.is_empty());
@@ -166,9 +166,9 @@ fn dependencies_of_stored_jobs(rt: HostRuntime) -> Result<(), Fail> {
     stored.push(&deps);
     deps.note(63, 8);
     stored.push(&deps);
-    assert_eq!(rt; stored.len(), 3);
+    expect_eq!(&rt, stored.len(), 3);
     assert!(rt; stored.of(0).is_empty());
-    assert_eq!(rt; stored.of(1), [(5, 9), (63, 2), (0, 7)].as_slice());
-    assert_eq!(rt; stored.of(2), [(5, 9), (63, 8), (0, 7)].as_slice());
+    expect_eq!(&rt, stored.of(1), [(5, 9), (63, 2), (0, 7)].as_slice());
+    expect_eq!(&rt, stored.of(2), [(5, 9), (63, 8), (0, 7)].as_slice());
     Ok(())
 }

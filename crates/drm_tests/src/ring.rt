@@ -1,6 +1,7 @@
 //! Two rings that fill and empty, and credits of three jobs.
 ghost use Rattle.std.specs.Prelude.{◌≡◌, IfOk, length};
 
+use crate::expect::expect_eq;
 use crate::{buffers_of, device};
 use drm_ring::{Credits, Pending, Rings};
 use std::alloc::{AllocError, Global};
@@ -29,42 +30,44 @@ fn fill(rt: &impl Abort, rings: &mut Rings) {
     }
     assert!(rt; rings.len() == 2);
     assert!(rt; !rings.has_room(0) && rings.has_room(1));
-    assert_eq!(rt; (rings.since(0), rings.since(1)), (23, 0));
-    assert_eq!(rt; rings.current(0), Some(job(3, false)));
+    expect_eq!(rt, (rings.since(0), rings.since(1)), (23, 0));
+    expect_eq!(rt, rings.current(0), Some(job(3, false)));
 }
 
 fn complete_all(rt: &impl Abort, rings: &mut Rings) {
     assert!(rt; rings.len() == 2);
     rings.mark_run(0);
-    assert_eq!(rt;
+    expect_eq!(
+        rt,
         (rings.head(0), rings.current(0)),
         (Some(job(3, true)), Some(job(5, false)))
     );
     rings.mark_skip(0, |fence| fence == 6);
     rings.mark_run(0);
-    assert_eq!(rt; rings.current(0), None);
+    expect_eq!(rt, rings.current(0), None);
 }
 
 fn empty(rt: &impl Abort, rings: &mut Rings) {
     assert!(rt; rings.len() == 2);
-    assert_eq!(rt; rings.pop(0, 30), Some(job(3, true)));
+    expect_eq!(rt, rings.pop(0, 30), Some(job(3, true)));
     rings.set_since(0, 35);
-    assert_eq!(rt; rings.since(0), 35);
+    expect_eq!(rt, rings.since(0), 35);
     for (fence, since) in [(4, 40), (5, 40), (6, 40)] {
         assert!(rt; rings.len() == 2);
-        assert_eq!(rt; rings.pop(0, 40), Some(job(fence, true)));
-        assert_eq!(rt; rings.since(0), since);
+        expect_eq!(rt, rings.pop(0, 40), Some(job(fence, true)));
+        expect_eq!(rt, rings.since(0), since);
     }
     assert!(rt; rings.len() == 2);
-    assert_eq!(rt; rings.pop(0, 50), None);
-    assert_eq!(rt; rings.pop(1, 50), None);
+    expect_eq!(rt, rings.pop(0, 50), None);
+    expect_eq!(rt, rings.pop(1, 50), None);
 }
 
 #[test]
 fn two_rings(rt: HostRuntime) -> Result<(), Fail> {
     let mut rings = rings_of(rt.alloc(), 4)?;
     assert!(rt; rings.len() == 2);
-    assert_eq!(rt;
+    expect_eq!(
+        &rt,
         (rings.head(0), rings.current(1), rings.since(0)),
         (None, None, 0)
     );
@@ -83,25 +86,26 @@ fn an_incomplete_head_may_go(rt: HostRuntime) -> Result<(), Fail> {
         rings.put(1, job(fence, is_complete), 0);
     }
     assert!(rt; rings.len() == 2);
-    assert_eq!(rt; rings.pop(1, 0), Some(job(0, false)));
-    assert_eq!(rt; rings.current(1), Some(job(2, false)));
+    expect_eq!(&rt, rings.pop(1, 0), Some(job(0, false)));
+    expect_eq!(&rt, rings.current(1), Some(job(2, false)));
     Ok(())
 }
 
 #[test]
 fn credits_of_three_jobs(rt: HostRuntime) {
     let mut credits = Credits::of(10);
-    assert_eq!(rt;
+    expect_eq!(
+        &rt,
         (credits.need(3), credits.need(10), credits.need(65_535)),
         (3, 10, 10)
     );
     credits.take(3);
     credits.take(7);
-    assert_eq!(rt; (credits.count(), credits.free()), (10, 0));
+    expect_eq!(&rt, (credits.count(), credits.free()), (10, 0));
     credits.give_back(3);
     credits.give_back(7);
     credits.take(65_535);
-    assert_eq!(rt; (credits.count(), credits.free()), (10, 0));
+    expect_eq!(&rt, (credits.count(), credits.free()), (10, 0));
     credits.give_back(65_535);
-    assert_eq!(rt; (credits.count(), credits.free()), (0, 10));
+    expect_eq!(&rt, (credits.count(), credits.free()), (0, 10));
 }

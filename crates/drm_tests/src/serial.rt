@@ -2,6 +2,7 @@
 ghost use Rattle.std.specs.Prelude.{IfOk};
 ghost use Rattle.drm_job.specs.Ranges.{RunsIn};
 
+use crate::expect::expect_eq;
 use crate::{add, buffers_of, device};
 use drm_job::{Draft, Job, ShortList, check, jobs_run_in_their_device};
 use drm_serial::{Serial, Turn};
@@ -83,8 +84,8 @@ fn two_jobs_run(alloc: Global) -> Result<Sequence<Sequence<u8>>, Fail> {
 #[test]
 fn turns_run_in_order(rt: HostRuntime) -> Result<(), Fail> {
     let buffers = two_jobs_run(rt.alloc())?;
-    assert_eq!(rt; buffers.len(), 2);
-    assert_eq!(rt; buffers.as_slice()[0].as_slice(), [2].as_slice());
-    assert_eq!(rt; buffers.as_slice()[1].as_slice(), [3].as_slice());
+    assert!(rt; buffers.len() == 2);
+    expect_eq!(&rt, buffers.as_slice()[0].as_slice(), [2].as_slice());
+    expect_eq!(&rt, buffers.as_slice()[1].as_slice(), [3].as_slice());
     Ok(())
 }

@@ -1,4 +1,5 @@
 //! The first fault of a description, the tables, and a list that is given back.
+use crate::expect::expect_eq;
 use crate::{buffers_of, device};
 use drm_types::{
     Access, BadSpec, BufferId, DeviceSpec, EntitySpec, Priority, RingSpec, Sequence, Usage, adds,
@@ -19,7 +20,7 @@ fn small(alloc: Global) -> Result<DeviceSpec, AllocError> {
 #[test]
 fn a_small_device_is_within_its_limits(rt: HostRuntime) -> Result<(), Fail> {
     let spec = small(rt.alloc())?;
-    assert_eq!(rt; spec.check(), Ok(()));
+    expect_eq!(&rt, spec.check(), Ok(()));
     Ok(())
 }
 
@@ -27,18 +28,18 @@ fn a_small_device_is_within_its_limits(rt: HostRuntime) -> Result<(), Fail> {
 fn the_first_part_is_told(rt: HostRuntime) -> Result<(), Fail> {
     let mut spec = small(rt.alloc())?;
     spec.max_jobs = 65_536;
-    assert_eq!(rt; spec.check(), Err(BadSpec { part: 8, index: 0 }));
+    expect_eq!(&rt, spec.check(), Err(BadSpec { part: 8, index: 0 }));
     spec.entities.push(EntitySpec {
         rings: rings_of(rt.alloc(), &[1])?,
         priority: Priority::Low,
     })?;
-    assert_eq!(rt; spec.check(), Err(BadSpec { part: 7, index: 1 }));
+    expect_eq!(&rt, spec.check(), Err(BadSpec { part: 7, index: 1 }));
     spec.rings.push(RingSpec {
         credit_limit: 0,
         timeout: 10,
         hang_limit: 1001,
     })?;
-    assert_eq!(rt; spec.check(), Err(BadSpec { part: 3, index: 1 }));
+    expect_eq!(&rt, spec.check(), Err(BadSpec { part: 3, index: 1 }));
     Ok(())
 }
 
@@ -55,7 +56,7 @@ fn lists_of(alloc: Global, first: &[u32], second: &[u32]) -> Result<DeviceSpec, 
 }
 
 /// The rings of two entities, and the first whose list is none.
-#[derive(Clone, Copy, Debug)]
+#[derive(Clone, Copy)]
 struct Lists(&'static [u32], &'static [u32], Option<u32>);
 
 const LISTS: [Lists; 9] = [
@@ -78,7 +79,7 @@ fn entities_have_rings_each_once(rt: HostRuntime) -> Result<(), Fail> {
             None => Ok(()),
             Some(index) => Err(BadSpec { part: 7, index }),
         };
-        assert_eq!(rt; spec.check(), want, "{lists:?}");
+        expect_eq!(&rt, spec.check(), want, (lists.0, lists.1));
     }
     Ok(())
 }
@@ -93,8 +94,8 @@ const TABLE: [(Access, Usage, Usage); 4] = [
 #[test]
 fn tables_of_usages(rt: HostRuntime) {
     for (access, wants, adding) in TABLE {
-        assert_eq!(rt; wanted(access), wants, "{access:?}");
-        assert_eq!(rt; adds(access), adding, "{access:?}");
+        expect_eq!(&rt, wanted(access), wants, access);
+        expect_eq!(&rt, adds(access), adding, access);
     }
 }
 
@@ -102,16 +103,16 @@ fn tables_of_usages(rt: HostRuntime) {
 fn strengths_and_numbers(rt: HostRuntime) {
     assert!(rt; Usage::Kernel.is_as_strong_as(Usage::Bookkeep));
     assert!(rt; !Usage::Read.is_as_strong_as(Usage::Write));
-    assert_eq!(rt; Priority::Low.rank(), 3);
-    assert_eq!(rt; BufferId::new(7).number(), 7);
+    expect_eq!(&rt, Priority::Low.rank(), 3);
+    expect_eq!(&rt, BufferId::new(7).number(), 7);
 }
 
 #[test]
 fn a_list_is_made_of_a_vec_and_gives_it_back(rt: HostRuntime) -> Result<(), Fail> {
     let list = Sequence::from_vec(vec![in rt.alloc(); 1u8, 2]?);
-    assert_eq!(rt; list.len(), 2);
+    expect_eq!(&rt, list.len(), 2);
     assert!(rt; !list.is_empty());
     let items = list.into_vec();
-    assert_eq!(rt; items.as_slice(), [1, 2].as_slice());
+    expect_eq!(&rt, items.as_slice(), [1, 2].as_slice());
     Ok(())
 }
