@@ -2,10 +2,20 @@ use drm_answer::write_answers;
 use drm_core::{Answer, Refusal};
 use drm_job::{DraftList, JobFault};
 use drm_types::{BufferId, Outcome, Sequence};
+use std::alloc::Global;
+use std::process::Abort;
 use std::test::Fail;
 
+// The answers are these lines.
+fn are_written(rt: &impl Abort, alloc: Global, answers: &[Answer], lines: &[u8]) {
+    let Ok(text) = write_answers(alloc, answers) else {
+        panic!(rt; "no memory")
+    };
+    assert!(rt; text.as_slice() == lines);
+}
+
 #[test]
-fn answers_to_submitters(rt: HostRuntime) -> Result<(), Fail> {
+fn answers_to_submitters(rt: HostRuntime) {
     let answers = [
         Answer::Ok,
         Answer::Armed { fence: 0 },
@@ -15,14 +25,16 @@ fn answers_to_submitters(rt: HostRuntime) -> Result<(), Fail> {
         Answer::Younger { holder: 2 },
         Answer::Planned,
     ];
-    let text = write_answers(rt.alloc(), &answers)?;
-    let want: &[u8] = b"ok\narmed 0\nticket 1\nheld\nolder 1\nyounger 2\nplanned\n";
-    assert!(rt; text.as_slice() == want);
-    Ok(())
+    are_written(
+        &rt,
+        rt.alloc(),
+        &answers,
+        b"ok\narmed 0\nticket 1\nheld\nolder 1\nyounger 2\nplanned\n",
+    );
 }
 
 #[test]
-fn answers_of_rings(rt: HostRuntime) -> Result<(), Fail> {
+fn answers_of_rings(rt: HostRuntime) {
     let answers = [
         Answer::Picked {
             fence: 0,
@@ -46,15 +58,16 @@ fn answers_of_rings(rt: HostRuntime) -> Result<(), Fail> {
             outcome: Outcome::Cancelled,
         },
     ];
-    let text = write_answers(rt.alloc(), &answers)?;
-    let want: &[u8] =
-        b"picked 0 run\npicked 2 skip\nran 0 1\nstalled 0\nfinished 0 1\nfinished 1 -125\n";
-    assert!(rt; text.as_slice() == want);
-    Ok(())
+    are_written(
+        &rt,
+        rt.alloc(),
+        &answers,
+        b"picked 0 run\npicked 2 skip\nran 0 1\nstalled 0\nfinished 0 1\nfinished 1 -125\n",
+    );
 }
 
 #[test]
-fn answers_to_a_timer(rt: HostRuntime) -> Result<(), Fail> {
+fn answers_to_a_timer(rt: HostRuntime) {
     let answers = [
         Answer::Empty,
         Answer::NotYet { due_in: 10 },
@@ -63,10 +76,12 @@ fn answers_to_a_timer(rt: HostRuntime) -> Result<(), Fail> {
         Answer::Guilty { entity: 0 },
         Answer::Reaped { fence: 1 },
     ];
-    let text = write_answers(rt.alloc(), &answers)?;
-    let want: &[u8] = b"empty\nnotyet 10\ncomplete\nresumed\nguilty 0\nreaped 1\n";
-    assert!(rt; text.as_slice() == want);
-    Ok(())
+    are_written(
+        &rt,
+        rt.alloc(),
+        &answers,
+        b"empty\nnotyet 10\ncomplete\nresumed\nguilty 0\nreaped 1\n",
+    );
 }
 
 #[test]
@@ -78,14 +93,17 @@ fn answers_to_readers(rt: HostRuntime) -> Result<(), Fail> {
         Answer::Status { status: 1 },
         Answer::NotYet { due_in: u64::MAX },
     ];
-    let text = write_answers(rt.alloc(), &answers)?;
-    let want: &[u8] = b"bytes 000aff\nfence -125\nfence 1\nnotyet 18446744073709551615\n";
-    assert!(rt; text.as_slice() == want);
+    are_written(
+        &rt,
+        rt.alloc(),
+        &answers,
+        b"bytes 000aff\nfence -125\nfence 1\nnotyet 18446744073709551615\n",
+    );
     Ok(())
 }
 
 #[test]
-fn refusals_of_jobs(rt: HostRuntime) -> Result<(), Fail> {
+fn refusals_of_jobs(rt: HostRuntime) {
     let answers = [
         Answer::Refused(Refusal::Faulty(JobFault::NoEntity)),
         Answer::Refused(Refusal::Faulty(JobFault::TooMany {
@@ -100,15 +118,16 @@ fn refusals_of_jobs(rt: HostRuntime) -> Result<(), Fail> {
         })),
         Answer::Refused(Refusal::Faulty(JobFault::PacketOnHold { packet: 4 })),
     ];
-    let text = write_answers(rt.alloc(), &answers)?;
-    let want: &[u8] =
-        b"refused 10\nrefused 13 2\nrefused 15 3\nrefused 18 1\nrefused 19 2\nrefused 21 4\n";
-    assert!(rt; text.as_slice() == want);
-    Ok(())
+    are_written(
+        &rt,
+        rt.alloc(),
+        &answers,
+        b"refused 10\nrefused 13 2\nrefused 15 3\nrefused 18 1\nrefused 19 2\nrefused 21 4\n",
+    );
 }
 
 #[test]
-fn refusals_of_events(rt: HostRuntime) -> Result<(), Fail> {
+fn refusals_of_events(rt: HostRuntime) {
     let answers = [
         Answer::Refused(Refusal::Memory),
         Answer::Refused(Refusal::NoFence { fence: 7 }),
@@ -120,10 +139,11 @@ fn refusals_of_events(rt: HostRuntime) -> Result<(), Fail> {
         Answer::Refused(Refusal::PacketOut),
         Answer::Refused(Refusal::Already),
     ];
-    let text = write_answers(rt.alloc(), &answers)?;
-    let want: &[u8] =
+    are_written(
+        &rt,
+        rt.alloc(),
+        &answers,
         b"refused 12\nrefused 20 7\nrefused 41 2 1\nrefused 46 0\nrefused 56 0\nrefused 47\n\
-refused 114\n";
-    assert!(rt; text.as_slice() == want);
-    Ok(())
+refused 114\n",
+    );
 }

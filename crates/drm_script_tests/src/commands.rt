@@ -1,3 +1,4 @@
+use crate::expect::expect_eq;
 use crate::joined;
 use drm_core::Event;
 use drm_packet::Packet;
@@ -25,50 +26,52 @@ fn fault_of(alloc: Global, text: &[u8]) -> Option<(u32, u32)> {
     }
 }
 
+const FAULTS_OF_COMMANDS: &[(&[u8], u32, u32)] = &[
+    (b"pick 0\n", 7, 70),
+    (b"pick 1 0\n", 6, 72),
+    (b"pick 00 0\n", 6, 71),
+    (b"pick  0\n", 6, 70),
+    (b"step 0 \n", 8, 70),
+    (b"step 0 0\n", 8, 70),
+    (b"dump 0", 7, 75),
+    (b"dump\t0", 5, 76),
+    (b"dump 0 0", 9, 75),
+    (b"dump 1\n", 6, 72),
+    (b"begin 64\n", 7, 72),
+    (b"try 0 1\n", 7, 72),
+    (b"reap 1\n", 6, 72),
+    (b"fence 4294967296\n", 7, 71),
+    (b"finish 0 18446744073709551616\n", 10, 71),
+    (b"ring 4 10 0\n", 1, 73),
+    (b"final 00\n", 1, 73),
+    (b"hello\n", 1, 70),
+    (b"\n", 1, 70),
+];
+
 #[test]
 fn faults_of_commands(rt: HostRuntime) -> Result<(), Fail> {
-    let table: [(&[u8], u32, u32); 19] = [
-        (b"pick 0\n", 7, 70),
-        (b"pick 1 0\n", 6, 72),
-        (b"pick 00 0\n", 6, 71),
-        (b"pick  0\n", 6, 70),
-        (b"step 0 \n", 8, 70),
-        (b"step 0 0\n", 8, 70),
-        (b"dump 0", 7, 75),
-        (b"dump\t0", 5, 76),
-        (b"dump 0 0", 9, 75),
-        (b"dump 1\n", 6, 72),
-        (b"begin 64\n", 7, 72),
-        (b"try 0 1\n", 7, 72),
-        (b"reap 1\n", 6, 72),
-        (b"fence 4294967296\n", 7, 71),
-        (b"finish 0 18446744073709551616\n", 10, 71),
-        (b"ring 4 10 0\n", 1, 73),
-        (b"final 00\n", 1, 73),
-        (b"hello\n", 1, 70),
-        (b"\n", 1, 70),
-    ];
-    for (text, column, number) in table {
+    for &(text, column, number) in FAULTS_OF_COMMANDS {
         let all = joined(rt.alloc(), DEVICE, text)?;
-        assert_eq!(rt; fault_of(rt.alloc(), &all), Some((column, number)));
+        expect_eq!(&rt, fault_of(rt.alloc(), &all), Some((column, number)));
     }
     Ok(())
 }
 
+const FAULTS_OF_JOBS: &[(&[u8], u32, u32)] = &[
+    (b"submit 0 1 a0 w9x\n", 15, 70),
+    (b"submit 0 1 a0 h9x\n", 15, 70),
+    (b"submit 0 1 h0 m\n", 15, 71),
+    (b"submit 0 65536\n", 10, 71),
+    (b"submit 0 1 w0 fill:0:0:4\n", 15, 70),
+    (b"submit 0 1 w0 fill:0:0:4:0G\n", 15, 71),
+    (b"submit 0 1 x\n", 12, 70),
+];
+
 #[test]
 fn faults_of_jobs(rt: HostRuntime) -> Result<(), Fail> {
-    let table: [(&[u8], u32, u32); 7] = [
-        (b"submit 0 1 a0 w9x\n", 15, 70),
-        (b"submit 0 1 a0 h9x\n", 15, 70),
-        (b"submit 0 1 h0 m\n", 15, 71),
-        (b"submit 0 65536\n", 10, 71),
-        (b"submit 0 1 w0 fill:0:0:4\n", 15, 70),
-        (b"submit 0 1 w0 fill:0:0:4:0G\n", 15, 71),
-        (b"submit 0 1 x\n", 12, 70),
-    ];
-    for (text, column, number) in table {
+    for &(text, column, number) in FAULTS_OF_JOBS {
         let all = joined(rt.alloc(), DEVICE, text)?;
-        assert_eq!(rt; fault_of(rt.alloc(), &all), Some((column, number)));
+        expect_eq!(&rt, fault_of(rt.alloc(), &all), Some((column, number)));
     }
     Ok(())
 }
@@ -112,48 +115,50 @@ fn the_header_of_all_commands(rt: HostRuntime) -> Result<(), Fail> {
     let Some(script) = all_commands(rt.alloc()) else {
         panic!(rt; "refused");
     };
-    assert_eq!(rt; script.spec.max_jobs, 65535);
+    expect_eq!(&rt, script.spec.max_jobs, 65535);
     let sizes = [1, 2];
     for (bytes, size) in script.spec.buffers.as_slice().iter().zip(&sizes) {
-        assert_eq!(rt; bytes.len(), *size);
+        expect_eq!(&rt, bytes.len(), *size);
     }
     let priorities = [Priority::Kernel, Priority::High];
     for (entity, priority) in script.spec.entities.as_slice().iter().zip(&priorities) {
-        assert_eq!(rt; entity.priority, *priority);
+        expect_eq!(&rt, entity.priority, *priority);
     }
     Ok(())
 }
+
+/// The place and the numbers of each of its events.
+const EVENTS: &[(u32, u64, u64)] = &[
+    (1, 1, 65535),
+    (2, 63, 0),
+    (3, 1, 1),
+    (4, 2, 0),
+    (5, 3, 0),
+    (6, 4, 0),
+    (7, 5, 9),
+    (8, 6, 0),
+    (9, 1, u64::MAX),
+    (10, 0, 0),
+    (11, 1, 2),
+    (12, 0, 3),
+    (13, 1, 0),
+    (14, 0, 0),
+    (15, 7, 1),
+    (16, 4294967295, 0),
+    (17, 1, 0),
+];
 
 #[test]
 fn the_events_of_all_commands(rt: HostRuntime) -> Result<(), Fail> {
     let Some(script) = all_commands(rt.alloc()) else {
         panic!(rt; "refused");
     };
-    let want = [
-        (1, 1, 65535),
-        (2, 63, 0),
-        (3, 1, 1),
-        (4, 2, 0),
-        (5, 3, 0),
-        (6, 4, 0),
-        (7, 5, 9),
-        (8, 6, 0),
-        (9, 1, u64::MAX),
-        (10, 0, 0),
-        (11, 1, 2),
-        (12, 0, 3),
-        (13, 1, 0),
-        (14, 0, 0),
-        (15, 7, 1),
-        (16, 4294967295, 0),
-        (17, 1, 0),
-    ];
     let mut left = script.lines.into_left();
-    for want in &want {
+    for &wanted in EVENTS {
         let Some(event) = left.next() else {
             panic!(rt; "too few events");
         };
-        assert_eq!(rt; numbers_of(&event), *want);
+        expect_eq!(&rt, numbers_of(&event), wanted);
     }
     assert!(rt; left.next().is_none());
     Ok(())
@@ -167,7 +172,7 @@ fn words_of_a_job(rt: HostRuntime) -> Result<(), Fail> {
     let Some(Event::Submit { draft }) = script.lines.into_left().next() else {
         panic!(rt; "no job");
     };
-    assert_eq!(rt; draft.declared.len(), 2);
+    expect_eq!(&rt, draft.declared.len(), 2);
     assert!(rt; draft.declared.as_slice().first() == Some(&(BufferId::new(0), Access::Write)));
     assert!(rt; draft.after.as_slice().first() == Some(&7));
     Ok(())
@@ -183,9 +188,9 @@ fn declarations_of_a_job(rt: HostRuntime) -> Result<(), Fail> {
         panic!(rt; "no job");
     };
     let want = [Access::Move, Access::Hold, Access::Write, Access::Read];
-    assert_eq!(rt; draft.declared.len(), want.len());
+    expect_eq!(&rt, draft.declared.len(), want.len());
     for (declared, want) in draft.declared.as_slice().iter().zip(&want) {
-        assert_eq!(rt; declared.1, *want);
+        expect_eq!(&rt, declared.1, *want);
     }
     Ok(())
 }
@@ -226,9 +231,9 @@ fn packets_of_a_job(rt: HostRuntime) -> Result<(), Fail> {
         panic!(rt; "no job");
     };
     let want = packets();
-    assert_eq!(rt; draft.packets.len(), want.len());
+    expect_eq!(&rt, draft.packets.len(), want.len());
     for (packet, want) in draft.packets.as_slice().iter().zip(&want) {
-        assert_eq!(rt; *packet, *want);
+        expect_eq!(&rt, *packet, *want);
     }
     Ok(())
 }

@@ -1,3 +1,4 @@
+use crate::expect::expect_eq;
 use crate::fault_at;
 use drm_text::{Command, Keyword, Line, TextFault, is_word, read_keyword};
 
@@ -8,10 +9,11 @@ fn first_words_are_known(rt: HostRuntime) {
     assert!(rt; matches!(read_keyword(b"drop"), Some(Keyword::Command(Command::Drop))));
 }
 
+const OTHER_WORDS: &[&[u8]] = &[b"", b"d", b"Dump", b"dumpp", b"doop", b"fence0"];
+
 #[test]
 fn other_first_words_are_not(rt: HostRuntime) {
-    let words: [&[u8]; 6] = [b"", b"d", b"Dump", b"dumpp", b"doop", b"fence0"];
-    for word in words {
+    for &word in OTHER_WORDS {
         assert!(rt; read_keyword(word).is_none());
     }
 }
@@ -29,7 +31,7 @@ fn starts_of_lines(rt: HostRuntime) {
     match Line::new(4, b"pick 0 9").start() {
         Ok((keyword, mut words)) => {
             assert!(rt; matches!(keyword, Keyword::Command(Command::Pick)));
-            assert_eq!(rt; words.number(0), Ok(0));
+            expect_eq!(&rt, words.number(0), Ok(0));
         }
         Err(_) => assert!(rt; false),
     }
@@ -47,5 +49,5 @@ fn first_words_are_cut_off_their_lines(rt: HostRuntime) {
             Ok(Keyword::Command(Command::Step))
         )
     );
-    assert_eq!(rt; words.last_number(7), Ok(7));
+    expect_eq!(&rt, words.last_number(7), Ok(7));
 }

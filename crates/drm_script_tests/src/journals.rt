@@ -1,3 +1,4 @@
+use crate::expect::expect_eq;
 use crate::joined;
 use drm_journal::{
     Journal, read_journal, read_journal_from, run_journal, run_journal_from, write_journal,
@@ -32,7 +33,7 @@ fn a_journal_is_written_as_it_was_read(rt: HostRuntime) -> Result<(), Fail> {
     let Some(journal) = read_example(rt.alloc(), &text) else {
         panic!(rt; "refused");
     };
-    assert_eq!(rt; journal.jobs().len(), 2);
+    expect_eq!(&rt, journal.jobs().len(), 2);
     let written = write_journal(rt.alloc(), &journal)?;
     assert!(rt; written.as_slice() == text.as_slice());
     Ok(())
@@ -59,8 +60,8 @@ fn a_journal_is_read_from_a_reader(rt: HostRuntime) -> Result<(), Fail> {
     let Ok(journal) = read_journal_from(rt.alloc(), &mut reader) else {
         panic!(rt; "refused");
     };
-    assert_eq!(rt; journal.spec().max_jobs, 8);
-    assert_eq!(rt; journal.finals().len(), 2);
+    expect_eq!(&rt, journal.spec().max_jobs, 8);
+    expect_eq!(&rt, journal.finals().len(), 2);
     Ok(())
 }
 
@@ -107,39 +108,41 @@ fn fault_of(
     }
 }
 
+const FAULTS_OF_JOURNALS_JOBS: &[(&[u8], u32, u32)] = &[
+    (b"job 4 -125 0 1\n", 1, 77),
+    (b"job 1 -3 0 1 w0 fill:0:0:1:01\n", 1, 77),
+    (b"job 1 1 0 1\n", 1, 77),
+    (b"job 0 0 0 1 a0\n", 1, 77),
+    (b"job 0 0 1 1\n", 1, 77),
+    (b"job 0 0 0 1 m0\n", 1, 77),
+    (b"job 0 0 0 1 h0 fill:0:0:1:01\n", 1, 77),
+    (b"job 0 2 0 1\n", 7, 70),
+];
+
 #[test]
 fn faults_of_journals_jobs(rt: HostRuntime) -> Result<(), Fail> {
-    let table: [(&[u8], u32, u32); 8] = [
-        (b"job 4 -125 0 1\n", 1, 77),
-        (b"job 1 -3 0 1 w0 fill:0:0:1:01\n", 1, 77),
-        (b"job 1 1 0 1\n", 1, 77),
-        (b"job 0 0 0 1 a0\n", 1, 77),
-        (b"job 0 0 1 1\n", 1, 77),
-        (b"job 0 0 0 1 m0\n", 1, 77),
-        (b"job 0 0 0 1 h0 fill:0:0:1:01\n", 1, 77),
-        (b"job 0 2 0 1\n", 7, 70),
-    ];
-    for (job, column, number) in table {
+    for &(job, column, number) in FAULTS_OF_JOURNALS_JOBS {
         let told = fault_of(rt.alloc(), job, FINALS)?;
-        assert_eq!(rt; told, Some((7, column, number)));
+        expect_eq!(&rt, told, Some((7, column, number)));
     }
     Ok(())
 }
 
+const FAULTS_OF_JOURNALS_ENDS: &[(&[u8], u32, u32, u32)] = &[
+    (b"final 0203\nfinal 03\nend\n", 7, 7, 71),
+    (b"final 02\nfinal 03\n", 9, 1, 73),
+    (b"final 02\nend\n", 8, 1, 73),
+    (b"final 02\nfinal 03\nfinal 04\n", 9, 1, 73),
+    (b"final 02\njob 0 0 0 1\n", 8, 1, 73),
+    (b"final 02\nfinal 03\nend\nend\n", 10, 1, 73),
+    (b"final 02\nfinal 03\nend\nmore\n", 10, 1, 70),
+];
+
 #[test]
 fn faults_of_journals_ends(rt: HostRuntime) -> Result<(), Fail> {
-    let table: [(&[u8], u32, u32, u32); 7] = [
-        (b"final 0203\nfinal 03\nend\n", 7, 7, 71),
-        (b"final 02\nfinal 03\n", 9, 1, 73),
-        (b"final 02\nend\n", 8, 1, 73),
-        (b"final 02\nfinal 03\nfinal 04\n", 9, 1, 73),
-        (b"final 02\njob 0 0 0 1\n", 8, 1, 73),
-        (b"final 02\nfinal 03\nend\nend\n", 10, 1, 73),
-        (b"final 02\nfinal 03\nend\nmore\n", 10, 1, 70),
-    ];
-    for (rest, line, column, number) in table {
+    for &(rest, line, column, number) in FAULTS_OF_JOURNALS_ENDS {
         let told = fault_of(rt.alloc(), b"", rest)?;
-        assert_eq!(rt; told, Some((line, column, number)));
+        expect_eq!(&rt, told, Some((line, column, number)));
     }
     Ok(())
 }

@@ -13,6 +13,8 @@ mod answers;
 #[cfg(test)]
 mod commands;
 #[cfg(test)]
+mod expect;
+#[cfg(test)]
 mod first_words;
 #[cfg(test)]
 mod headers;

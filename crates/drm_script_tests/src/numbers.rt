@@ -1,3 +1,4 @@
+use crate::expect::expect_eq;
 use crate::fault_at;
 use drm_text::{
     Fault, MAX_TEXT, ReadError, TextFault, Words, put_bytes, read_byte, read_last_bytes,
@@ -8,45 +9,48 @@ use std::test::Fail;
 
 const U32_MAX: u64 = 4294967295;
 
+const NUMBERS: &[(&[u8], u64, Option<u64>)] = &[
+    (b"0", 0, Some(0)),
+    (b"10", 10, Some(10)),
+    (b"65535", 65535, Some(65535)),
+    (b"65536", 65535, None),
+    (b"4294967295", U32_MAX, Some(4294967295)),
+    (b"4294967296", U32_MAX, None),
+    (b"18446744073709551615", u64::MAX, Some(u64::MAX)),
+    (b"18446744073709551616", u64::MAX, None),
+    (b"99999999999999999999", u64::MAX, None),
+];
+
 #[test]
 fn numbers_up_to_the_most(rt: HostRuntime) {
-    let table: [(&[u8], u64, Option<u64>); 9] = [
-        (b"0", 0, Some(0)),
-        (b"10", 10, Some(10)),
-        (b"65535", 65535, Some(65535)),
-        (b"65536", 65535, None),
-        (b"4294967295", U32_MAX, Some(4294967295)),
-        (b"4294967296", U32_MAX, None),
-        (b"18446744073709551615", u64::MAX, Some(u64::MAX)),
-        (b"18446744073709551616", u64::MAX, None),
-        (b"99999999999999999999", u64::MAX, None),
-    ];
-    for (word, most, want) in table {
-        assert_eq!(rt; read_number(word, most), want);
+    for &(word, most, want) in NUMBERS {
+        expect_eq!(&rt, read_number(word, most), want);
     }
 }
+
+const OTHER_SPELLINGS: &[&[u8]] = &[b"", b"00", b"01", b"+1", b"-0", b"1a"];
 
 #[test]
 fn numbers_have_one_spelling(rt: HostRuntime) {
-    let words: [&[u8]; 6] = [b"", b"00", b"01", b"+1", b"-0", b"1a"];
-    for word in words {
-        assert_eq!(rt; read_number(word, 10), None);
+    for &word in OTHER_SPELLINGS {
+        expect_eq!(&rt, read_number(word, 10), None);
     }
 }
 
+const BYTES: &[(&[u8], Option<u8>)] = &[
+    (b"00", Some(0)),
+    (b"1f", Some(31)),
+    (b"ff", Some(255)),
+    (b"FF", None),
+    (b"f", None),
+    (b"0g", None),
+    (b"000", None),
+];
+
 #[test]
 fn bytes_are_two_digits_in_lower_case(rt: HostRuntime) {
-    let table: [(&[u8], Option<u8>); 7] = [
-        (b"00", Some(0)),
-        (b"1f", Some(31)),
-        (b"ff", Some(255)),
-        (b"FF", None),
-        (b"f", None),
-        (b"0g", None),
-        (b"000", None),
-    ];
-    for (word, want) in table {
-        assert_eq!(rt; read_byte(word), want);
+    for &(word, want) in BYTES {
+        expect_eq!(&rt, read_byte(word), want);
     }
 }
 
@@ -80,8 +84,8 @@ fn bytes_are_written_as_they_are_read(rt: HostRuntime) -> Result<(), Fail> {
 #[test]
 fn faults_of_bytes(rt: HostRuntime) {
     let bad = fault_at(1, 1, TextFault::Number);
-    assert_eq!(rt; fault_of_bytes(rt.alloc(), b"000"), Some(bad));
-    assert_eq!(rt; fault_of_bytes(rt.alloc(), b"000g"), Some(bad));
+    expect_eq!(&rt, fault_of_bytes(rt.alloc(), b"000"), Some(bad));
+    expect_eq!(&rt, fault_of_bytes(rt.alloc(), b"000g"), Some(bad));
     let behind = fault_at(1, 4, TextFault::Word);
-    assert_eq!(rt; fault_of_bytes(rt.alloc(), b"00 00"), Some(behind));
+    expect_eq!(&rt, fault_of_bytes(rt.alloc(), b"00 00"), Some(behind));
 }

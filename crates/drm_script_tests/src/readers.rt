@@ -1,3 +1,4 @@
+use crate::expect::expect_eq;
 use crate::{SlowReader, fault_at};
 use drm_script::read_script_from;
 use drm_stream::{InputError, put_all, read_input};
@@ -28,7 +29,7 @@ fn the_fault_of_what_is_read(rt: HostRuntime) {
 #[test]
 fn an_endless_input_is_not_read_to_its_end(rt: HostRuntime) -> Result<(), Fail> {
     let text = read_input(rt.alloc(), &mut io::repeat(b'\n'))?;
-    assert_eq!(rt; text.len(), 1_048_577);
+    expect_eq!(&rt, text.len(), 1_048_577);
     let none = read_script_from(rt.alloc(), &mut io::repeat(b'\n'));
     let fault = fault_at(0, 0, TextFault::TooLong);
     assert!(rt; matches!(none, Err(InputError::Fault(told)) if told == fault));

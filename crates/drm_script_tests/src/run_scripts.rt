@@ -1,3 +1,4 @@
+use crate::expect::expect_eq;
 use crate::joined;
 use drm_packet::Packet;
 use drm_script::{RunScript, read_run, read_run_from};
@@ -22,11 +23,11 @@ fn the_jobs_of_a_script_for_threads(rt: HostRuntime) -> Result<(), Fail> {
     let Some(script) = two_jobs(rt.alloc()) else {
         panic!(rt; "refused");
     };
-    assert_eq!(rt; script.spec.max_jobs, 2);
-    assert_eq!(rt; script.jobs.len(), 2);
+    expect_eq!(&rt, script.spec.max_jobs, 2);
+    expect_eq!(&rt, script.jobs.len(), 2);
     let credits = [1, 3];
     for (job, credits) in script.jobs.as_slice().iter().zip(&credits) {
-        assert_eq!(rt; job.credits(), *credits);
+        expect_eq!(&rt, job.credits(), *credits);
     }
     Ok(())
 }
@@ -70,51 +71,62 @@ fn fault_of(alloc: Global, text: &[u8]) -> Option<(u32, u32, u32)> {
     }
 }
 
+const FAULTS_OF_JOBS_FOR_THREADS: &[(&[u8], u32, u32, u32)] = &[
+    (b"submit 0 1 a0\n", 6, 1, 77),
+    (b"submit 0 1 w0 a0 fill:0:0:4:05\n", 6, 1, 77),
+    (b"submit 0 0\n", 6, 1, 77),
+    (b"submit 1 1\n", 6, 1, 77),
+    (b"submit 0 1 w0 fill:0:0:5:05\n", 6, 1, 77),
+    (b"submit 0 1\nsubmit 0 1 r0\nsubmit 0 1\n", 8, 1, 77),
+    (b"submit 0 0 a0 w9x\n", 6, 15, 70),
+    (b"submit 0 1 a0 x\n", 6, 15, 70),
+];
+
 #[test]
 fn faults_of_jobs_for_threads(rt: HostRuntime) -> Result<(), Fail> {
-    let table: [(&[u8], u32, u32, u32); 8] = [
-        (b"submit 0 1 a0\n", 6, 1, 77),
-        (b"submit 0 1 w0 a0 fill:0:0:4:05\n", 6, 1, 77),
-        (b"submit 0 0\n", 6, 1, 77),
-        (b"submit 1 1\n", 6, 1, 77),
-        (b"submit 0 1 w0 fill:0:0:5:05\n", 6, 1, 77),
-        (b"submit 0 1\nsubmit 0 1 r0\nsubmit 0 1\n", 8, 1, 77),
-        (b"submit 0 0 a0 w9x\n", 6, 15, 70),
-        (b"submit 0 1 a0 x\n", 6, 15, 70),
-    ];
-    for (text, line, column, number) in table {
+    for &(text, line, column, number) in FAULTS_OF_JOBS_FOR_THREADS {
         let all = joined(rt.alloc(), DEVICE, text)?;
-        assert_eq!(rt; fault_of(rt.alloc(), &all), Some((line, column, number)));
+        expect_eq!(
+            &rt,
+            fault_of(rt.alloc(), &all),
+            Some((line, column, number))
+        );
     }
     Ok(())
 }
 
+const FAULTS_OF_LINES_FOR_THREADS: &[(&[u8], u32, u32, u32)] = &[
+    (b"pick 0 0\n", 6, 1, 73),
+    (b"plan 0 0 1\n", 6, 1, 73),
+    (b"pick\n", 6, 1, 73),
+    (b"job 0 0 0 1\n", 6, 1, 73),
+    (b"submit 0 1\nend 0\n", 7, 1, 73),
+    (b"go\n", 6, 1, 73),
+    (b"hello\n", 6, 1, 70),
+    (b"\n", 6, 1, 70),
+    (b"submit 0 1", 6, 11, 75),
+];
+
 #[test]
 fn faults_of_lines_for_threads(rt: HostRuntime) -> Result<(), Fail> {
-    let table: [(&[u8], u32, u32, u32); 9] = [
-        (b"pick 0 0\n", 6, 1, 73),
-        (b"plan 0 0 1\n", 6, 1, 73),
-        (b"pick\n", 6, 1, 73),
-        (b"job 0 0 0 1\n", 6, 1, 73),
-        (b"submit 0 1\nend 0\n", 7, 1, 73),
-        (b"go\n", 6, 1, 73),
-        (b"hello\n", 6, 1, 70),
-        (b"\n", 6, 1, 70),
-        (b"submit 0 1", 6, 11, 75),
-    ];
-    for (text, line, column, number) in table {
+    for &(text, line, column, number) in FAULTS_OF_LINES_FOR_THREADS {
         let all = joined(rt.alloc(), DEVICE, text)?;
-        assert_eq!(rt; fault_of(rt.alloc(), &all), Some((line, column, number)));
+        expect_eq!(
+            &rt,
+            fault_of(rt.alloc(), &all),
+            Some((line, column, number))
+        );
     }
     Ok(())
 }
 
 #[test]
 fn faults_of_headers_for_threads(rt: HostRuntime) {
-    assert_eq!(rt; fault_of(rt.alloc(), b""), Some((1, 1, 73)));
-    assert_eq!(rt;
+    expect_eq!(&rt, fault_of(rt.alloc(), b""), Some((1, 1, 73)));
+    expect_eq!(
+        &rt,
         fault_of(rt.alloc(), b"buffer 00\nring 4 10 0\n"),
         Some((3, 1, 73))
     );
-    assert_eq!(rt; fault_of(rt.alloc(), b"submit 0 1\n"), Some((1, 1, 73)));
+    expect_eq!(&rt, fault_of(rt.alloc(), b"submit 0 1\n"), Some((1, 1, 73)));
 }

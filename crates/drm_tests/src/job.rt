@@ -362,13 +362,10 @@ fn long_draft(alloc: Global, counts: Counts) -> Result<Draft, AllocError> {
 fn long_lists(rt: HostRuntime) -> Result<(), Fail> {
     let spec = sample(rt.alloc())?;
     for counts in COUNTS {
+        let Counts(declared, after, packets, fault) = counts;
         let draft = long_draft(rt.alloc(), counts)?;
-        expect_eq!(
-            &rt,
-            fault_of(draft, &spec),
-            wanted(counts.3),
-            (counts.0, counts.1, counts.2)
-        );
+        let row = (declared, after, packets);
+        expect_eq!(&rt, fault_of(draft, &spec), wanted(fault), row);
     }
     Ok(())
 }
