@@ -50,8 +50,7 @@ def run(crates, options):
                 if not told:
                     print(line, end="", flush=True)
                     continue
-                is_good = told[3] == "refused" and BY_A_NAME not in told[4]
-                passed += is_good
-                if not is_good or options.get("--each"):
+                passed += told[3] == "refused"
+                if told[3] != "refused" or BY_A_NAME in told[4] or options.get("--each"):
                     print(f"{told[1]}/{told[2]}: {told[3]}{told[4].rstrip()[:200]}", flush=True)
     return passed, wanted - passed
