@@ -15,18 +15,23 @@ def changed_at(crate):
     return max(times)
 
 
+# Whether `rt ci` has just passed here, so that each library which it left is that of the sources.
+LEFT_BY_CI = False
+
+
 @functools.lru_cache(maxsize=None)
 def is_built(crate):
     """Returns whether the library in the crate's out/ was proved from the sources that lie there.
 
-    What bin/build and rt's own checks build has a stamp of these. What `rt ci` leaves has none: it is newer than they are.
+    What bin/build and rt's own checks build has a stamp of these. What `rt ci` leaves has none: it is newer than they are,
+    or was kept from an earlier run.
     """
     stamp, made = f"{crate.folder}/out/rlib/stamp", f"{crate.rlib}/format"
     if os.path.isfile(stamp):
         return crate.is_built()
     if not os.path.isfile(made):
         return False
-    return os.stat(made).st_mtime > max(map(changed_at, [crate, *crate.below()]))
+    return LEFT_BY_CI or os.stat(made).st_mtime > max(map(changed_at, [crate, *crate.below()]))
 
 
 @functools.lru_cache(maxsize=None)
