@@ -21,9 +21,10 @@ PLACE = re.compile(r"(?:note: )?(?:\./)?((?:src|specs|proofs)/\S+?):(\d+):\d+: "
 GOAL = "it is not proved that"
 # What the line of a function says of others: it calls, passes or names one that is not proved.
 OF_OTHERS = re.compile(r";? ?(?:it calls|it passes)\b[^;]*?which (?:is|are) not (?:proved|assumed)")
-# What is said of a name that a proof cites and the wrong body took away.
-OF_NAMES = re.compile(r"has no field|is not in scope|has no `|was not admitted|has no goal|can be named from here|unknown name")
-NOTHING = ("proved", "not proved", "no proof")
+# What is said of a name that a proof cites and the wrong body took away, and of what cites that proof.
+OF_NAMES = re.compile(r"has no field|is not in scope|has no `|was not admitted|was not checked|can be named from here|unknown name")
+# What the line of a function says that gives no reason, also with what it may do besides ("proved, may wait").
+NO_REASON = re.compile(r"proved\b.*|not proved(, may [a-z ]+)?|no proof(, may [a-z ]+)?|.*could not tell.*")
 
 
 class Trial:
@@ -149,7 +150,7 @@ def failures(crate, lines):
         found, place = FUNCTION.match(line), PLACE.match(line)
         if found:
             reasons = OF_OTHERS.sub("", found[2]).strip(" :;")
-            if reasons not in NOTHING and "could not tell" not in reasons:
+            if not NO_REASON.fullmatch(reasons):
                 own[without_crate(crate, found[1])] += [*told, reasons]
             told = []
         elif place and ": error" in line:
