@@ -30,10 +30,6 @@ ended_alike js fs tie = ap has_ended_at tie ∙ (λ i f. by_map js f i)
     by_map (r ∷ js) zero = refl
     by_map (r ∷ js) (suc f) = by_map js f
 
--- an answer with the device that it leaves
-abbrev pub Left : Type 0
-Left = Answer × DeviceState
-
 -- a change of one record keeps their number
 pub changed_count : (journal : List JobRecord) (f : ℕ) (change : JobRecord → JobRecord) → length (changed_at journal f change) ≡ length journal
 changed_count journal f change =

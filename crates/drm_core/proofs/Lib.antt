@@ -5,6 +5,7 @@ pub mod Refused
 pub mod CoreSteps
 pub mod Opening
 pub mod CoreFacts
+pub mod Answered
 pub mod Blanks
 pub mod Runs
 pub mod RoomFacts

@@ -3,8 +3,8 @@ use Rattle.std.proofs.Common.{◌≡◌, ℕ, false, List, Option, Some, None, r
 use Rattle.std.specs.Prelude.{option_map, is_some}
 use Rattle.drm_packet.specs.declared.Packet.{Packet}
 use Rattle.drm_packet.specs.Parts.{part_effect}
-use Rattle.drm_sched.specs.declared.marked.Begun.{Begun}
-use Rattle.drm_sched.specs.declared.marked.Begun.TheVariants.{Work}
+use Rattle.drm_sched.specs.declared.outside.Begun.{Begun}
+use Rattle.drm_sched.specs.declared.outside.Begun.TheVariants.{Work}
 use Rattle.drm_sched.specs.Begun.{IsReport, MayComeBack}
 use Rattle.drm_sched.specs.Marks.{MarkedDevice}
 

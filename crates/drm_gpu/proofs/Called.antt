@@ -1,6 +1,6 @@
 -- What a call tells of its pass.
-use Rattle.std.proofs.Common.{◌≡◌, ℕ, [], ◌∷◌, ◌++◌, refl, sym, ap, ◌∙◌, subst, ⊎_elim, Some, None, Result, Ok, Err}
-use Rattle.std.specs.Prelude.{◌||◌, IfOk, IfErr, OnOk, IsPermutation}
+use Rattle.std.proofs.Common.{◌≡◌, ℕ, [], ◌∷◌, ◌++◌, refl, sym, ap, ◌∙◌, subst, ⊎_elim}
+use Rattle.std.specs.Prelude.{◌||◌, IsPermutation}
 use Rattle.atomic_table.specs.Seated.{TableId}
 use Rattle.ww_lock.specs.Seats.{IsJoined, sees}
 use Rattle.ww_lock.specs.Fences.{NotBack}
@@ -8,16 +8,8 @@ use Rattle.ww_lock.specs.Parts.{IsWhole}
 use Rattle.ww_lock.specs.Rule.{In}
 use Rattle.ww_lock.specs.Steps.{IsChain, IsLater}
 use Rattle.drm_types.specs.declared.spec.DeviceSpec.{DeviceSpec}
-use Rattle.drm_state.specs.declared.answer.Picked.{Picked}
-use Rattle.drm_state.specs.declared.errors.CancelError.{CancelError}
-use Rattle.drm_state.specs.declared.errors.PickError.{PickError}
-use Rattle.drm_state.specs.Errors.{refusal_of_cancel, refusal_of_pick}
-use Rattle.drm_state.specs.Answers.{picked}
 use Rattle.drm_sched.specs.Marks.{MarkedDevice, IsBusy}
-use Rattle.drm_state.specs.Outcomes.{pick_outcome, cancelled_device}
-use Rattle.drm_state.specs.Refusals.{pick_refusal, cancel_refusal}
 use Rattle.drm_gpu.specs.declared.running.OutPacket.{OutPacket}
-use Rattle.drm_gpu.specs.Answers.{PickIs, CancelIs}
 use Rattle.drm_gpu.specs.Passes.{GpuState, PassState, Seeing, DeviceSeat, Noted, Knows, Seated, IsJoinedOf, HasWaited, IsFound, IsGood, IsSameBut, Adds, Calls, CallsAs, GrowsTo, word_shown, last_of, gpu_of, noted, pass_of}
 use Rattle.drm_gpu.specs.Running.{GoesOut, Starts}
 use Rattle.drm_gpu.proofs.Chains.{saw}
@@ -180,16 +172,6 @@ pub called : (does : MarkedDevice → MarkedDevice → Type 0) (gpu : GpuState) 
     → Calls does old (pass_of t.place.table_id (sees t))
 called does gpu old home r s t d f e view belongs found same is on out adds holds =
     calls_of does gpu old home t.place.table_id (sees r) (sees s) (sees t) d f e view belongs found same is on (at_gpu gpu t out.0) out.1 adds holds
-
-pub pick_is : (d e : MarkedDevice) (ring now : ℕ) (r : Result Picked PickError) → IfOk r (λ p. (pick_refusal d.state ring ≡ None) × (pick_outcome d.state ring now ≡ (picked p, e.state)))
-    → IfErr r (λ x. (pick_refusal d.state ring ≡ Some (refusal_of_pick x)) × (e ≡ d)) → e.marks ≡ d.marks → PickIs ring now r d e
-pick_is d e ring now (Ok p) ok err marks = (ok.0, ok.1, marks)
-pick_is d e ring now (Err x) ok err marks = err
-
-pub cancel_is : (d e : MarkedDevice) (entity : ℕ) (r : Result (Unit {0}) CancelError) → OnOk r ((cancel_refusal d.state entity ≡ None) × (e.state ≡ cancelled_device d.state entity))
-    → IfErr r (λ x. (cancel_refusal d.state entity ≡ Some (refusal_of_cancel x)) × (e ≡ d)) → e.marks ≡ d.marks → CancelIs entity r d e
-cancel_is d e entity (Ok u) ok err marks = (ok.0, ok.1, marks)
-cancel_is d e entity (Err x) ok err marks = err
 
 -- what a joined pass shows, where the first pass was opened to v, the other to u, and the joined seat is t
 pub joined_of : (gpu : GpuState) (one other : PassState) (h k : TableId) (v u : Seeing) (t : DeviceSeat) → pass_of h v ≡ one → pass_of k u ≡ other → one.gpu ≡ gpu → Knows gpu.spec (last_of v) v → Knows gpu.spec (last_of u) u

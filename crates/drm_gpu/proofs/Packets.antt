@@ -9,7 +9,7 @@ use Rattle.ww_lock.specs.Steps.{Turns}
 use Rattle.drm_state.specs.declared.journal.JobRecord.{JobRecord}
 use Rattle.drm_state.specs.declared.answer.Refusal.{Refusal}
 use Rattle.drm_state.specs.declared.answer.Refusal.TheVariants.{Idle}
-use Rattle.drm_sched.specs.declared.marked.Begun.TheVariants.{Work}
+use Rattle.drm_sched.specs.declared.outside.Begun.TheVariants.{Work}
 use Rattle.drm_sched.specs.Begun.{HasBegun, HasReported, IsReport, KeepsTasks, MayComeBack, MayRun, out_or}
 use Rattle.drm_sched.specs.Marks.{Mark, MarkedDevice, Task, IsBusy, buffer_out, is_in_way, is_out, mark_for, mark_of, out_by, packet_at, ring_out}
 use Rattle.drm_state.specs.Refusals.{step_refusal}
@@ -72,7 +72,7 @@ none_out d ring free =
     ] refl
 
 -- a step that nothing is in the way of is refused where the ring is idle alone
-pub only_idle : (d : MarkedDevice) (ring : ℕ) (b : Bool) (r : Refusal) → b ≡ false → out_or b (step_refusal d.state ring) ≡ Some r → step_refusal d.state ring ≡ Some Idle
+pub only_idle : (d : MarkedDevice) (ring : ℕ) (b : Bool) (r : Refusal) → b ≡ false → out_or b (step_refusal d.state ring) ≡ Some r → out_or b (step_refusal d.state ring) ≡ Some Idle
 only_idle d ring true r free is = absurd (cc (free))
 only_idle d ring false r free is =
     elim (is_none (current_of d.state ring)) as (λ k. when k Idle ≡ Some r → when k Idle ≡ Some Idle) [

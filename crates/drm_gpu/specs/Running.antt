@@ -4,7 +4,7 @@ use Rattle.drm_packet.specs.Parts.{part_effect, fits_parts}
 use Rattle.drm_types.specs.declared.spec.DeviceSpec.{DeviceSpec}
 use Rattle.drm_state.specs.declared.errors.StepError.TheVariants.{Idle}
 use Rattle.drm_state.specs.declared.answer.Stepped.TheVariants.{Stalled}
-use Rattle.drm_sched.specs.declared.marked.Begun.TheVariants.{Work}
+use Rattle.drm_sched.specs.declared.outside.Begun.TheVariants.{Work}
 use Rattle.drm_sched.specs.Begun.{HasBegun}
 use Rattle.drm_sched.specs.Marks.{MarkedDevice, Task, is_in_way, is_out, packet_at, ring_out}
 use Rattle.drm_state.specs.Refusals.{step_refusal}

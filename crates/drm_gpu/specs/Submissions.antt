@@ -1,5 +1,5 @@
 -- The states of a submission.
-use Rattle.std.specs.Prelude.{◌≡◌, ◌≢◌, ◌<◌, ◌⊎◌, ℕ, List, [], ◌∷◌, ◌++◌, Some, None, Result, Ok, Err, length, map}
+use Rattle.std.specs.Prelude.{◌≡◌, ◌≢◌, ◌<◌, ◌⊎◌, ℕ, List, [], ◌∷◌, ◌++◌, None, Result, Ok, Err, length, map}
 use Rattle.atomic_table.specs.Seated.{TableId}
 use Rattle.ww_lock.specs.declared.acquire.Acquire.{Acquire}
 use Rattle.ww_lock.specs.declared.locks.TryLockError.{TryLockError}
@@ -13,16 +13,14 @@ use Rattle.ww_lock.specs.Rule.{In}
 use Rattle.ww_lock.specs.Steps.{number_of}
 use Rattle.drm_job.specs.declared.Draft.{Draft}
 use Rattle.drm_resv.specs.Reservation.{Reservation, WithRoom}
-use Rattle.drm_state.specs.declared.errors.ArmError.{ArmError}
-use Rattle.drm_state.specs.Arming.{armed_device}
 use Rattle.drm_state.specs.Plans.{DepsCover}
 use Rattle.drm_state.specs.Held.{kept_of, armed_held, AllFit}
-use Rattle.drm_state.specs.Errors.{refusal_of_arm}
-use Rattle.drm_state.specs.Refusals.{arm_refusal}
 use Rattle.drm_state.specs.Reservation.{Fits}
+use Rattle.drm_sched.specs.Calls as device
 use Rattle.drm_sched.specs.Marks.{MarkedDevice, Task}
 use Rattle.drm_gpu.specs.Passes.{GpuState, PassState, Seated, pass_of, word_shown}
 use Rattle.drm_gpu.specs.Rounds.{Declares, IsGivenUp, IsRound, Lock, Round, TakesAll, all_claims, all_met, buffers_of, claims_of, held_after, holders_of, met_last, met_of}
+pub use Rattle.drm_sched.specs.Calls.{ArmRefused}
 
 -- a submission: its pass, its ticket, its job, and what it holds
 pub record Submission : Type 0 where
@@ -154,17 +152,12 @@ pub record LocksAll (old new : Submission) : Type 0 where
   pub pass : new.pass ≡ record old.pass { had = old.pass.had ++ all_claims old.ticket rounds last; met = old.pass.met ++ all_met rounds last }
 
 -- what an arming that answered this fence found and left. What was planned covers the device that was found
-pub record ArmIs (job : Draft) (deps : List (ℕ × ℕ)) (old new : List (ℕ × Reservation)) (fence : ℕ) (d e : MarkedDevice) : Type 0 where
-  pub taken : arm_refusal d.state job ≡ None
-  pub number : fence ≡ length d.state.journal
-  pub armed : e.state ≡ armed_device d.state job
-  pub marks : e.marks ≡ d.marks
+pub record ArmIs (job : Draft) (deps : List (ℕ × ℕ)) (old new : List (ℕ × Reservation)) (fence : ℕ)
+    (d e : MarkedDevice) : Type 0 where
+  pub call : device.ArmIs job fence d e
   pub covers : DepsCover d.state job deps
   pub fit : AllFit d.state.journal old
   pub held : new ≡ armed_held d.state.journal job old
-
-abbrev pub ArmRefused : Draft → ArmError → MarkedDevice → MarkedDevice → Type 0
-ArmRefused job r d e = (arm_refusal d.state job ≡ Some (refusal_of_arm r)) × (e ≡ d)
 
 -- a submission that knows what its job waits for
 pub record PlannedSubmission : Type 0 where

@@ -23,7 +23,7 @@ use Rattle.drm_state.specs.Arming.{new_record}
 use Rattle.drm_state.specs.Choice.{choice, queue_of}
 use Rattle.drm_state.specs.Journal.{changed_at, is_at, is_complete}
 use Rattle.drm_sched.specs.Marks.{MarkedDevice}
-use Rattle.drm_state.specs.Outcomes.{at_record, stepped_by, hang_outcome, timeout_at, is_too_much, must_stall, picked_device, finished_device, final_outcome, pick_outcome, step_outcome, finish_outcome, timeout_outcome, reap_outcome, hung, condemned, ended_at}
+use Rattle.drm_state.specs.Outcomes.{at_record, stepped_by, hang_outcome, timeout_at, is_too_much, must_stall, picked_device, finished_device, final_outcome, pick_outcome, step_outcome, finish_outcome, timeout_outcome, reap_outcome, cancelled_device, hung, condemned, ended_at}
 use Rattle.drm_state.specs.Ring.{current_of, head_of, age_of, limit_of, is_guilty}
 use Rattle.drm_state.specs.State.{DeviceState}
 use Rattle.drm_gpu.specs.Passes.{PassState, Calls}
@@ -124,33 +124,33 @@ last_at (x ∷ rs) r = last_at rs r
 arms_the_fence : ArmsTheFence
 arms_the_fence job deps held kept fence old new call =
     let d = call.found in
-    let journal : new.last.state.journal ≡ d.state.journal ++ new_record d.state job ∷ [] = ap (λ (s : DeviceState). s.journal) call.event.armed in
+    let journal : new.last.state.journal ≡ d.state.journal ++ new_record d.state job ∷ [] = ap (λ (s : DeviceState). s.journal) call.event.call.armed in
     let longer : count_of new.last ≡ count_of d + 1 = ap length journal ∙ length-append d.state.journal (new_record d.state job ∷ []) in (
       one_more _ old new call
-          ∙ ap (λ xs. armings old.calls ++ (xs ++ [])) (one_armed (nat_lt (count_of d) (count_of new.last)) (count_of d) (count_of new.last) refl (omega (arith, longer)) ∙ ap (λ n. n ∷ []) (sym call.event.number)),
-      (new_record d.state job, ap (λ rs. slice_get rs fence) journal ∙ (ap (slice_get (d.state.journal ++ new_record d.state job ∷ [])) call.event.number ∙ last_at d.state.journal (new_record d.state job)), refl),
+          ∙ ap (λ xs. armings old.calls ++ (xs ++ [])) (one_armed (nat_lt (count_of d) (count_of new.last)) (count_of d) (count_of new.last) refl (omega (arith, longer)) ∙ ap (λ n. n ∷ []) (sym call.event.call.number)),
+      (new_record d.state job, ap (λ rs. slice_get rs fence) journal ∙ (ap (slice_get (d.state.journal ++ new_record d.state job ∷ [])) call.event.call.number ∙ last_at d.state.journal (new_record d.state job)), refl),
     )
 
 picked_same : (ring now : ℕ) (a : Result Picked PickError) (d e : MarkedDevice) → PickIs ring now a d e → count_of e ≡ count_of d
-picked_same ring now (Ok p) d e is = says d e _ (pick_outcome d.state ring now) is.1 (picks d.state ring now)
-picked_same ring now (Err r) d e is = ap count_of is.1
+picked_same ring now (Ok p) d e is = says d e _ (pick_outcome d.state ring now) is.done.1 (picks d.state ring now)
+picked_same ring now (Err r) d e is = ap count_of is.refused.1
 
 stepped_same : (ring : ℕ) (a : Result Stepped StepError) (d e : MarkedDevice) → StepIs ring a d e → count_of e ≡ count_of d
 stepped_same ring (Ok (Ran fence packet)) d e is = says d e _ (step_outcome d.state ring) is.7 (steps d.state ring)
-stepped_same ring (Ok (Stalled fence)) d e is = ap count_of is.3
-stepped_same ring (Err r) d e is = ap count_of is.2
+stepped_same ring (Ok (Stalled fence)) d e is = ap count_of is.2
+stepped_same ring (Err r) d e is = ap count_of is.1.refused.1
 
 finished_same : (ring now : ℕ) (a : Result Finished FinishError) (d e : MarkedDevice) → FinishIs ring now a d e → count_of e ≡ count_of d
-finished_same ring now (Ok f) d e is = says d e _ (finish_outcome d.state ring now) is.2 (finishes d.state ring now)
-finished_same ring now (Err r) d e is = ap count_of is.2
+finished_same ring now (Ok f) d e is = says d e _ (finish_outcome d.state ring now) is.1.done.1 (finishes d.state ring now)
+finished_same ring now (Err r) d e is = ap count_of is.1.refused.1
 
 cancelled_same : (entity : ℕ) (a : Result (Unit {0}) CancelError) (d e : MarkedDevice) → CancelIs entity a d e → count_of e ≡ count_of d
-cancelled_same entity (Ok u) d e is = ap (λ (s : DeviceState). length s.journal) is.1
-cancelled_same entity (Err r) d e is = ap count_of is.1
+cancelled_same entity (Ok u) d e is = says d e answer.Ok (answer.Ok, cancelled_device d.state entity) is.done.1 refl
+cancelled_same entity (Err r) d e is = ap count_of is.refused.1
 
 reaped_same : (entity : ℕ) (a : Result ℕ ReapError) (d e : MarkedDevice) → ReapIs entity a d e → count_of e ≡ count_of d
-reaped_same entity (Ok f) d e is = says d e _ (reap_outcome d.state entity) is.1 (reaps d.state entity)
-reaped_same entity (Err r) d e is = ap count_of is.1
+reaped_same entity (Ok f) d e is = says d e _ (reap_outcome d.state entity) is.done.1 (reaps d.state entity)
+reaped_same entity (Err r) d e is = ap count_of is.refused.1
 
 pub only_armings_arm : OnlyArmingsArm
 only_armings_arm = record {
@@ -159,7 +159,7 @@ only_armings_arm = record {
   pick = λ ring now a. arms_nothing (PickIs ring now a) (picked_same ring now a);
   step = λ ring a. arms_nothing (StepIs ring a) (stepped_same ring a);
   finish = λ ring now a. arms_nothing (FinishIs ring now a) (finished_same ring now a);
-  timeout = λ ring now a. arms_nothing (TimeoutIs ring now a) (λ d e is. says d e _ (timeout_outcome d.state ring now) is.1 (times_out d.state ring now));
+  timeout = λ ring now a. arms_nothing (TimeoutIs ring now a) (λ d e is. says d e _ (timeout_outcome d.state ring now) is.1.done.1 (times_out d.state ring now));
   cancel = λ entity a. arms_nothing (CancelIs entity a) (cancelled_same entity a);
   reap = λ entity a. arms_nothing (ReapIs entity a) (reaped_same entity a);
   counts = λ n. arms_nothing (CountsAre n) (λ d e is. ap count_of is.2);

@@ -48,7 +48,7 @@ pub record LeavesAll (d n : DeviceState) : Type 0 where
   pub stopped : (entity : ℕ) → is_stopped n entity ≡ is_stopped d entity
   pub heads : SameHeads d.journal n.journal
 
-all_itself : (d : DeviceState) → LeavesAll d d
+pub all_itself : (d : DeviceState) → LeavesAll d d
 all_itself d = record { spec = refl; stopped = λ e. refl; heads = same_heads_itself d.journal }
 
 pub stand_after : (d n : DeviceState) (waits new_waits : List (List (ℕ × ℕ))) (h : Heads) → LeavesAll d n → new_waits ≡ waits → HeadsStand d waits h → HeadsStand n new_waits h
@@ -159,10 +159,6 @@ timeout_all d ring now steady here = by_head (head_of d ring) refl
             | false ↦ by_hang f h.0 h.1
           ]
         ])
-
--- where the outcome is this one, the device has the same heads in it
-pub all_by : (d n : DeviceState) (a : Answer) (outcome : Answer × DeviceState) → outcome ≡ (a, n) → LeavesAll d outcome.1 → LeavesAll d n
-all_by d n a outcome is leaves = subst (LeavesAll d) (ap (λ (o : Answer × DeviceState). o.1) is) leaves
 
 -- ---- a job that ends
 

@@ -11,11 +11,11 @@ use Rattle.drm_packet.specs.Laws.{PacketsFitTheirParts}
 use Rattle.drm_packet.specs.Parts.{target_of, other_bytes, fits_parts}
 use Rattle.drm_packet.specs.Touches.{touches, is_in_range}
 use Rattle.drm_state.specs.declared.journal.JobRecord.{JobRecord}
-use Rattle.drm_sched.specs.declared.marked.OutMark.{OutMark}
-use Rattle.drm_sched.specs.declared.marked.MarkedTable.{MarkedTable}
+use Rattle.drm_sched.specs.declared.parts.OutMark.{OutMark}
+use Rattle.drm_sched.specs.declared.parts.Parts.{Parts}
 use Rattle.drm_table.specs.declared.table.Table.{Table}
 use Rattle.drm_sched.specs.Marks.{Mark, mark_of, mark_for, ring_out, buffer_out, is_in_way, begun_device, IsSteadyMarked}
-use Rattle.drm_sched.specs.MarkedTables.{mark_of_row, marked_of, IsWholeMarked, HasOut}
+use Rattle.drm_sched.specs.Parts.{mark_of_row, marked_of, IsWholeMarked, HasOut}
 use Rattle.drm_state.specs.Outcomes.{must_stall}
 use Rattle.drm_state.specs.Ring.{current_of}
 use Rattle.drm_table.specs.Tables.{state_of, IsWhole}
@@ -25,7 +25,7 @@ use Rattle.drm_sched.proofs.MarksKept.{begun_steady}
 use Rattle.drm_table.proofs.TableFacts.{neither}
 
 -- the ring's next packet, which may go out
-pub record MayGo (d : MarkedTable) (ring f : ℕ) (r : JobRecord) (p : Packet) : Type 0 where
+pub record MayGo (d : Parts) (ring f : ℕ) (r : JobRecord) (p : Packet) : Type 0 where
   pub there : ring < length d.table.spec.rings
   pub free : is_in_way (marked_of d) ring ≡ false
   pub current : current_of (state_of d.table) ring ≡ Some f
@@ -45,15 +45,15 @@ parts_run p m write read law write_is read_is range bytes is =
     ] refl (sym write_is ∙ is)
 
 -- the memory of a device after the packet's buffers were taken
-abbrev pub taken : MarkedTable → Packet → Stored
+abbrev pub taken : Parts → Packet → Stored
 taken d p = record d.table.memory { out = set_both d.table.memory.out p true }
 
--- the tables after a packet went out: this memory, and this row for the ring
-abbrev pub sent : MarkedTable → ℕ → OutMark → Stored → MarkedTable
-sent d ring row memory = record { table = record d.table { memory = memory }; marks = with_item d.marks ring (Some row) }
+-- the parts after a packet went out: this memory, and this row for the ring
+abbrev pub sent : Parts → ℕ → OutMark → Stored → Parts
+sent d ring row memory = record { table = record d.table { memory = memory }; marks = with_item d.marks ring (Some row); heads = d.heads }
 
 -- the mark stands for the packet that went out
-pub sent_is : (d : MarkedTable) (ring f : ℕ) (r : JobRecord) (p : Packet) (row : OutMark) (memory : Stored) → mark_of_row row ≡ mark_for (state_of d.table) f r p
+pub sent_is : (d : Parts) (ring f : ℕ) (r : JobRecord) (p : Packet) (row : OutMark) (memory : Stored) → mark_of_row row ≡ mark_for (state_of d.table) f r p
     → memory ≡ taken d p → marked_of (sent d ring row memory) ≡ begun_device (marked_of d) ring (mark_for (state_of d.table) f r p)
 sent_is d ring f r p row memory mark_is memory_is =
     ap (λ s. marked_of (sent d ring row s)) memory_is
@@ -75,7 +75,7 @@ whole_out t out w = record {
   rooms = record { jobs = w.rooms.jobs; waits = w.rooms.waits; places = w.rooms.places; queues = w.rooms.queues; pending = w.rooms.pending };
 }
 
-pub sent_marked : (d : MarkedTable) (ring f : ℕ) (r : JobRecord) (p : Packet) (row : OutMark) (memory : Stored) → IsWholeMarked d → MayGo d ring f r p
+pub sent_marked : (d : Parts) (ring f : ℕ) (r : JobRecord) (p : Packet) (row : OutMark) (memory : Stored) → IsWholeMarked d → MayGo d ring f r p
     → mark_of_row row ≡ mark_for (state_of d.table) f r p → memory ≡ taken d p → IsWholeMarked (sent d ring row memory)
 sent_marked d ring f r p row memory w may mark_is memory_is =
     let m = mark_for (state_of d.table) f r p in

@@ -3,15 +3,15 @@ use Rattle.std.proofs.Common.{◌≡◌, ℕ, zero, suc, map, length, replicate,
 use Rattle.std.specs.Option.{option_map_or}
 use Rattle.std.specs.Prelude.{option_map}
 use Rattle.std.proofs.lemmas.List.{length-map, length-replicate}
-use Rattle.drm_sched.specs.declared.marked.MarkedTable.{MarkedTable}
+use Rattle.drm_sched.specs.declared.parts.Parts.{Parts}
 use Rattle.drm_sched.specs.Marks.{Mark, MarkedDevice, mark_of, unmarked}
-use Rattle.drm_sched.specs.MarkedTables.{mark_of_row, marked_of, IsWholeMarked}
+use Rattle.drm_sched.specs.Parts.{mark_of_row, marked_of, IsWholeMarked}
 use Rattle.drm_state.specs.Rows.{ring_state_of}
 use Rattle.drm_table.specs.Tables.{state_of, IsWhole, AllIn}
 use Rattle.drm_table.proofs.Blanks.{map_to_same, map_same}
 
 -- a device of whose rings none is marked
-pub blank_marks : (d : MarkedTable) → d.marks.items ≡ replicate (length d.table.rings.items) None → marked_of d ≡ unmarked (state_of d.table)
+pub blank_marks : (d : Parts) → d.marks.items ≡ replicate (length d.table.rings.items) None → marked_of d ≡ unmarked (state_of d.table)
 blank_marks d marks =
     let rings = d.table.rings.items in
     ap (λ ms. let z : MarkedDevice = record { state = state_of d.table; marks = ms } in z)
@@ -24,7 +24,7 @@ no_mark zero ring = refl
 no_mark (suc n) zero = refl
 no_mark (suc n) (suc ring) = no_mark n ring
 
-pub blank_marked : (d : MarkedTable) → d.marks.items ≡ replicate (length d.table.rings.items) None → IsWhole d.table → AllIn d.table → IsWholeMarked d
+pub blank_marked : (d : Parts) → d.marks.items ≡ replicate (length d.table.rings.items) None → IsWhole d.table → AllIn d.table → IsWholeMarked d
 blank_marked d marks whole inside = record {
   table = whole;
   steady = record {

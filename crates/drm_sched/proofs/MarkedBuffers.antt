@@ -10,7 +10,7 @@ use Rattle.drm_packet.specs.Touches.{touches}
 use Rattle.drm_packet.specs.Parts.{target_of, source_of}
 use Rattle.drm_packet.proofs.InStores.{apart_buffers, target_touched, source_touched, set_out_other, get_same}
 use Rattle.drm_sched.specs.Marks.{Mark, MarkedDevice, mark_of, out_by, begun_device}
-use Rattle.drm_sched.specs.MarkedTables.{HasOut}
+use Rattle.drm_sched.specs.Parts.{HasOut}
 use Rattle.drm_state.proofs.Pairs.{get_set_other, get_set_same}
 use Rattle.drm_state.proofs.Records.{stands_within}
 

@@ -9,9 +9,9 @@ use Rattle.drm_buffer.specs.Stored.{Stored, is_out_of}
 use Rattle.drm_job.proofs.Apart.{any_from}
 use Rattle.drm_packet.specs.declared.Packet.{Packet}
 use Rattle.drm_packet.specs.Touches.{touches}
-use Rattle.drm_sched.specs.declared.marked.MarkedTable.{MarkedTable}
+use Rattle.drm_sched.specs.declared.parts.Parts.{Parts}
 use Rattle.drm_sched.specs.Marks.{Mark, MarkedDevice, mark_of, out_by, is_out, buffer_out}
-use Rattle.drm_sched.specs.MarkedTables.{marked_of, HasOut, IsWholeMarked}
+use Rattle.drm_sched.specs.Parts.{marked_of, HasOut, IsWholeMarked}
 use Rattle.drm_table.specs.Outside.{next_asks_out}
 use Rattle.drm_state.specs.Outcomes.{next_packet}
 use Rattle.drm_state.specs.Ring.{current_of}
@@ -48,14 +48,14 @@ out_agrees d s b has lt =
     ] refl
 
 -- a buffer that no mark keeps out is in the memory
-pub is_inside : (d : MarkedTable) (b : ℕ) → IsWholeMarked d → b < length d.table.memory.bytes → is_out (marked_of d) b ≡ false
+pub is_inside : (d : Parts) (b : ℕ) → IsWholeMarked d → b < length d.table.memory.bytes → is_out (marked_of d) b ≡ false
     → slice_get d.table.memory.out b ≡ Some false
 is_inside d b w there free =
     w.out.inside b (subst (λ n. b < n) (same_count d.table w.table) there)
     (λ ring m at c. both_ways (is_out (marked_of d) b) free (is_out_at (marked_of d) ring b m at c))
 
 -- what the memory says of a buffer is what the marks say
-pub says_out : (d : MarkedTable) (b : ℕ) → IsWholeMarked d → b < length d.table.memory.bytes → is_out_of d.table.memory b ≡ is_out (marked_of d) b
+pub says_out : (d : Parts) (b : ℕ) → IsWholeMarked d → b < length d.table.memory.bytes → is_out_of d.table.memory b ≡ is_out (marked_of d) b
 says_out d b w there = out_agrees (marked_of d) d.table.memory b w.out (subst (λ n. b < n) (same_count d.table w.table) there)
 
 any_agree : (p q : ℕ → Bool) (xs : List ℕ) → ((b : ℕ) → Contains xs b → p b ≡ q b) → list_any p xs ≡ list_any q xs
@@ -70,7 +70,7 @@ any_agree p q xs same =
     ] refl
 
 -- a buffer of the ring's next packet is out of the memory exactly where a mark keeps it out
-pub asks_is : (d : MarkedTable) (ring : ℕ) → IsWholeMarked d → ring < length d.table.spec.rings → next_asks_out d.table ring ≡ buffer_out (marked_of d) ring
+pub asks_is : (d : Parts) (ring : ℕ) → IsWholeMarked d → ring < length d.table.spec.rings → next_asks_out d.table ring ≡ buffer_out (marked_of d) ring
 asks_is d ring w there = by_current (current_of (state_of d.table) ring) refl
   where
     by_packet : (f : ℕ) → current_of (state_of d.table) ring ≡ Some f → (o : Option Packet) → next_packet d.table.journal.items f ≡ o
@@ -87,7 +87,7 @@ asks_is d ring w there = by_current (current_of (state_of d.table) ring) refl
     by_current (Some f) is = by_packet f is (next_packet d.table.journal.items f) refl
 
 -- where none is, a step finds its buffers
-pub next_is_in : (d : MarkedTable) (ring : ℕ) → IsWholeMarked d → ring < length d.table.spec.rings → next_asks_out d.table ring ≡ false → NextIsIn d.table ring
+pub next_is_in : (d : Parts) (ring : ℕ) → IsWholeMarked d → ring < length d.table.spec.rings → next_asks_out d.table ring ≡ false → NextIsIn d.table ring
 next_is_in d ring w there free f p is next b touched =
     w.out.inside b (next_there d.table ring f p w.table there (is, next) b touched) (λ k m at c.
     let asks : buffer_out (marked_of d) ring ≡ true =

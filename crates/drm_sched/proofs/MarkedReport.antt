@@ -9,11 +9,11 @@ use Rattle.drm_packet.specs.Parts.{target_of, part_effect}
 use Rattle.drm_state.specs.declared.answer.Answer.TheVariants as answer
 use Rattle.drm_state.specs.declared.journal.JobRecord.{JobRecord}
 use Rattle.drm_table.specs.declared.table.Table.{Table}
-use Rattle.drm_sched.specs.declared.marked.OutMark.{OutMark}
-use Rattle.drm_sched.specs.declared.marked.MarkedTable.{MarkedTable}
+use Rattle.drm_sched.specs.declared.parts.OutMark.{OutMark}
+use Rattle.drm_sched.specs.declared.parts.Parts.{Parts}
 use Rattle.drm_sched.specs.Begun.{IsReport, HasReported}
 use Rattle.drm_sched.specs.Marks.{Mark, MarkedDevice, mark_of, packet_at, reported_device, IsOut}
-use Rattle.drm_sched.specs.MarkedTables.{mark_of_row, marked_of, IsWholeMarked}
+use Rattle.drm_sched.specs.Parts.{mark_of_row, marked_of, IsWholeMarked}
 use Rattle.drm_table.specs.Outside.{ComesBack, IsBack}
 use Rattle.drm_state.specs.Outcomes.{next_packet, ran_device}
 use Rattle.drm_state.specs.State.{DeviceState}
@@ -24,7 +24,7 @@ use Rattle.drm_sched.proofs.MarksKept.{touches_out}
 use Rattle.drm_sched.proofs.MarksOther.{mark_there}
 
 -- the mark of a row
-pub row_mark : (d : MarkedTable) (ring : ℕ) (o : Option OutMark) → slice_get d.marks.items ring ≡ Some o → mark_of (marked_of d) ring ≡ option_map mark_of_row o
+pub row_mark : (d : Parts) (ring : ℕ) (o : Option OutMark) → slice_get d.marks.items ring ≡ Some o → mark_of (marked_of d) ring ≡ option_map mark_of_row o
 row_mark d ring o at = ap (λ x. option_map_or (λ z. z) x None) (to_map (option_map mark_of_row) d.marks.items ring o at)
 
 -- the packet of a mark
@@ -36,7 +36,7 @@ map_twice f g None = refl
 map_twice f g (Some x) = refl
 
 -- what is reported comes back
-pub report_back : (d : MarkedTable) (ring : ℕ) (row : OutMark) (write read : Option (List ℕ)) → IsWholeMarked d → ring < length d.table.spec.rings
+pub report_back : (d : Parts) (ring : ℕ) (row : OutMark) (write read : Option (List ℕ)) → IsWholeMarked d → ring < length d.table.spec.rings
     → mark_of (marked_of d) ring ≡ Some (mark_of_row row) → IsReport (marked_of d) ring write read → ComesBack d.table ring row.fence write read
 report_back d ring row write read w there is (n, p, is_n, at_p, write_is, read_is) =
     let m = mark_of_row row in
@@ -65,7 +65,7 @@ report_back d ring row write read w there is (n, p, is_n, at_p, write_is, read_i
     }
 
 -- the device after it
-pub report_leaves : (d : MarkedTable) (ring : ℕ) (row : OutMark) (n : Table) (new : MarkedTable) → IsWholeMarked d
+pub report_leaves : (d : Parts) (ring : ℕ) (row : OutMark) (n : Table) (new : Parts) → IsWholeMarked d
     → (is : mark_of (marked_of d) ring ≡ Some (mark_of_row row)) → IsBack d.table row.fence n → new.table ≡ n → new.marks.items ≡ set d.marks.items ring None
     → HasReported (marked_of d) ring (row.fence, row.packet) (marked_of new)
 report_leaves d ring row n new w is (p, next, state, outs) table marks =
@@ -92,12 +92,12 @@ report_leaves d ring row n new w is (p, next, state, outs) table marks =
     )
 
 -- the mark of a ring that reports stands in its row
-pub mark_found : (d : MarkedTable) (ring : ℕ) (x : Option OutMark) (write read : Option (List ℕ)) → x ≡ get_or d.marks.items ring x → IsReport (marked_of d) ring write read
+pub mark_found : (d : Parts) (ring : ℕ) (x : Option OutMark) (write read : Option (List ℕ)) → x ≡ get_or d.marks.items ring x → IsReport (marked_of d) ring write read
     → slice_get d.marks.items ring ≡ Some x
 mark_found d ring x write read x_is (m, p, is, at_p, write_is, read_is) =
     let lt : ring < length d.marks.items =
     subst (λ n. ring < n) (length-map d.marks.items (option_map mark_of_row)) (mark_there (marked_of d).marks ring m is) in
     slice_get-get_or d.marks.items ring x lt ∙ ap (λ o. Some o) (sym x_is)
 
-pub never_empty : (d : MarkedTable) (ring : ℕ) (write read : Option (List ℕ)) → slice_get d.marks.items ring ≡ Some None → IsReport (marked_of d) ring write read → ⊥
+pub never_empty : (d : Parts) (ring : ℕ) (write read : Option (List ℕ)) → slice_get d.marks.items ring ≡ Some None → IsReport (marked_of d) ring write read → ⊥
 never_empty d ring write read at (m, p, is, at_p, write_is, read_is) = let never : None ≡ Some m = sym (row_mark d ring None at) ∙ is in cc (never)

@@ -9,10 +9,10 @@ use Rattle.drm_job.proofs.Apart.{any_from}
 use Rattle.drm_packet.specs.Touches.{touches}
 use Rattle.drm_state.specs.declared.journal.JobRecord.{JobRecord}
 use Rattle.drm_table.specs.declared.table.Table.{Table}
-use Rattle.drm_sched.specs.declared.marked.OutMark.{OutMark}
-use Rattle.drm_sched.specs.declared.marked.MarkedTable.{MarkedTable}
+use Rattle.drm_sched.specs.declared.parts.OutMark.{OutMark}
+use Rattle.drm_sched.specs.declared.parts.Parts.{Parts}
 use Rattle.drm_sched.specs.Marks.{Mark, MarkedDevice, mark_of, packet_at, out_by, reported_device, IsOut, IsSteadyMarked}
-use Rattle.drm_sched.specs.MarkedTables.{mark_of_row, marked_of, HasOut, IsWholeMarked}
+use Rattle.drm_sched.specs.Parts.{mark_of_row, marked_of, HasOut, IsWholeMarked}
 use Rattle.drm_table.specs.Outside.{IsBack}
 use Rattle.drm_state.specs.Outcomes.{next_packet, ran_device}
 use Rattle.drm_table.specs.Tables.{state_of, IsWhole}
@@ -70,7 +70,7 @@ reported_out d ring m o out has steady here busy =
     }
 
 -- the tables after it
-pub report_marked : (d : MarkedTable) (ring : ℕ) (row : OutMark) (n : Table) (new : MarkedTable) → IsWholeMarked d
+pub report_marked : (d : Parts) (ring : ℕ) (row : OutMark) (n : Table) (new : Parts) → IsWholeMarked d
     → mark_of (marked_of d) ring ≡ Some (mark_of_row row) → IsBack d.table row.fence n → IsWhole n → new.table ≡ n → new.marks.items ≡ set d.marks.items ring None
     → IsWholeMarked new
 report_marked d ring row n new w is (p, next, state, outs) whole table marks =

@@ -2,19 +2,15 @@
 -- may be reported.
 use Rattle.std.proofs.Common.{◌≡◌, ℕ, ◌<◌, ◌∙◌, length, set, Some, None, Option, Result, Ok, Err, sym, ap, subst, slice_get}
 use Rattle.std.specs.Option.{option_map_or}
-use Rattle.std.specs.Prelude.{IfOk, IfErr, option_map}
+use Rattle.std.specs.Prelude.{IfOk, option_map}
 use Rattle.drm_state.specs.declared.errors.StepError.{StepError}
-use Rattle.drm_state.specs.Errors.{refusal_of_step}
-use Rattle.drm_sched.specs.declared.marked.Begun.{Begun}
-use Rattle.drm_sched.specs.declared.marked.Begun.TheVariants.{Work, Stalled}
-use Rattle.drm_sched.specs.declared.marked.MarkedTable.{MarkedTable}
+use Rattle.drm_sched.specs.declared.outside.Begun.{Begun}
+use Rattle.drm_sched.specs.declared.outside.Begun.TheVariants.{Work, Stalled}
 use Rattle.drm_state.specs.declared.journal.JobRecord.{JobRecord}
-use Rattle.drm_sched.specs.Begun.{HasBegun, HasReported, KeepsTasks, MayComeBack, out_or}
+use Rattle.drm_sched.specs.Begun.{HasBegun, HasReported, KeepsTasks, MayComeBack}
+use Rattle.drm_sched.specs.Calls.{BeginIs}
 use Rattle.drm_packet.specs.Parts.{part_effect}
-use Rattle.drm_sched.specs.Marks.{Mark, MarkedDevice, IsBusy, is_in_way, mark_for, mark_of, packet_at}
-use Rattle.drm_sched.specs.MarkedTables.{marked_of, IsWholeMarked}
-use Rattle.drm_state.specs.Refusals.{step_refusal}
-use Rattle.drm_table.specs.Tables.{state_of}
+use Rattle.drm_sched.specs.Marks.{Mark, MarkedDevice, IsBusy, mark_for, mark_of, packet_at, IsSteadyMarked}
 use Rattle.drm_state.proofs.Records.{stands_within}
 use Rattle.drm_state.proofs.Pairs.{get_set_same, get_set_other}
 
@@ -29,11 +25,15 @@ begun_keeps d new ring (Work fence packet copy write read) (job, at, current, co
     still_busy d new ring (Some _) (ap (λ (n : MarkedDevice). n.marks) new_is)
 begun_keeps d new ring (Stalled fence) (stepped, same) = λ task other busy. subst (λ n. IsBusy n task) (sym same) busy
 
-pub begin_keeps : (d new : MarkedTable) (ring : ℕ) (r : Result Begun StepError)
-    → IfOk r (λ b. (out_or (is_in_way (marked_of d) ring) (step_refusal (state_of d.table) ring) ≡ None) × HasBegun (marked_of d) ring b (marked_of new))
-    → IfErr r (λ e. (out_or (is_in_way (marked_of d) ring) (step_refusal (state_of d.table) ring) ≡ Some (refusal_of_step e)) × (new ≡ d)) → KeepsTasks (marked_of d) ring (marked_of new)
-begin_keeps d new ring (Ok b) ok err = begun_keeps (marked_of d) (marked_of new) ring b ok.1
-begin_keeps d new ring (Err e) ok err = λ task other busy. subst (λ n. IsBusy (marked_of n) task) (sym err.1) busy
+pub begin_keeps_tasks : (d e : MarkedDevice) (ring : ℕ) (r : Result Begun StepError) → BeginIs ring r d e → KeepsTasks d ring e
+begin_keeps_tasks d e ring (Ok b) is = begun_keeps d e ring b is.1
+begin_keeps_tasks d e ring (Err r) is = λ task other busy. subst (λ n. IsBusy n task) (sym is.1) busy
+
+-- nothing but a mark has changed
+pub begin_state : (d e : MarkedDevice) (ring : ℕ) (r : Result Begun StepError) → BeginIs ring r d e → e.state ≡ d.state
+begin_state d e ring (Ok (Work fence packet copy write read)) is = ap (λ (m : MarkedDevice). m.state) is.1.8
+begin_state d e ring (Ok (Stalled fence)) is = ap (λ (m : MarkedDevice). m.state) is.1.1
+begin_state d e ring (Err r) is = ap (λ (m : MarkedDevice). m.state) is.1
 
 -- what went out may be reported once its packet has run on it
 begun_back : (d new : MarkedDevice) (ring : ℕ) (b : Begun) → ring < length d.marks → HasBegun d ring b new → MayComeBack new ring b
@@ -50,11 +50,9 @@ begun_back d new ring (Work fence packet copy write read) here (job, at, current
     (m, copy, mark, there, ran, read_is)
 begun_back d new ring (Stalled fence) here begun = tt
 
-pub begin_back : (d new : MarkedTable) (ring : ℕ) (r : Result Begun StepError) → IsWholeMarked d → ring < length d.table.spec.rings
-    → IfOk r (λ b. (out_or (is_in_way (marked_of d) ring) (step_refusal (state_of d.table) ring) ≡ None) × HasBegun (marked_of d) ring b (marked_of new))
-    → IfOk r (MayComeBack (marked_of new) ring)
-begin_back d new ring (Ok b) w there ok = begun_back (marked_of d) (marked_of new) ring b (subst (λ n. ring < n) (sym w.steady.count) there) ok.1
-begin_back d new ring (Err e) w there ok = ok
+pub begin_back : (d e : MarkedDevice) (ring : ℕ) (r : Result Begun StepError) → IsSteadyMarked d → ring < length d.state.spec.rings → BeginIs ring r d e → IfOk r (MayComeBack e ring)
+begin_back d e ring (Ok b) steady there is = begun_back d e ring b (subst (λ n. ring < n) (sym steady.count) there) is.1
+begin_back d e ring (Err r) steady there is = tt
 
-pub report_keeps : (d new : MarkedDevice) (ring : ℕ) (ran : ℕ × ℕ) → HasReported d ring ran new → KeepsTasks d ring new
-report_keeps d new ring ran (m, packet, is, at, ran_is, new_is, may, stepped) = still_busy d new ring None (ap (λ (n : MarkedDevice). n.marks) new_is)
+pub report_keeps_tasks : (d new : MarkedDevice) (ring : ℕ) (ran : ℕ × ℕ) → HasReported d ring ran new → KeepsTasks d ring new
+report_keeps_tasks d new ring ran (m, packet, is, at, ran_is, new_is, may, stepped) = still_busy d new ring None (ap (λ (n : MarkedDevice). n.marks) new_is)

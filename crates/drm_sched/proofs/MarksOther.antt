@@ -1,16 +1,16 @@
 -- What other calls leave of a packet that is out: all of it.
 use Rattle.std.proofs.Common.{◌≡◌, ◌≢◌, ℕ, ◌-◌, ◌<◌, Bool, true, false, not, cond, ◌||◌, List, [], ◌∷◌, ◌++◌, length, Some, None, Option, refl, sym, ap, subst, ◌∙◌, inl, inr, slice_get}
 use Rattle.std.specs.Option.{option_map_or}
-use Rattle.std.specs.Prelude.{◌&&◌, ◌==◌, is_none, nat_lt, find, Contains, option_map}
-use Rattle.std.proofs.lemmas.Bool.{not-false, cases_eq, ne_eqb}
+use Rattle.std.specs.Prelude.{◌&&◌, ◌==◌, is_none, nat_lt, find, option_map}
+use Rattle.std.proofs.lemmas.Bool.{both_ways, not-false, cases_eq, ne_eqb}
 use Rattle.std.proofs.lemmas.Option.{slice_get_within}
 use Rattle.drm_types.specs.Firsts.{when, first}
 use Rattle.drm_types.specs.declared.outcome.Outcome.TheVariants as outcome
-use Rattle.drm_types.specs.declared.spec.DeviceSpec.{DeviceSpec}
 use Rattle.drm_buffer.specs.Memory.{bytes_of}
 use Rattle.drm_fence.specs.declared.phase.Phase.TheVariants.{Scheduled}
 use Rattle.drm_fence.specs.Phases.{is_scheduled}
 use Rattle.drm_types.proofs.Firsts.{none_first}
+use Rattle.drm_job.specs.declared.Draft.{Draft}
 use Rattle.drm_packet.specs.Touches.{touches}
 use Rattle.drm_packet.specs.Parts.{target_of, other_bytes}
 use Rattle.drm_state.specs.declared.answer.Answer.{Answer}
@@ -18,13 +18,14 @@ use Rattle.drm_state.specs.declared.answer.Answer.TheVariants as answer
 use Rattle.drm_state.specs.declared.answer.Refusal.TheVariants.{Nothing, Waits}
 use Rattle.drm_state.specs.declared.journal.JobRecord.{JobRecord}
 use Rattle.drm_state.specs.State.{DeviceState}
+use Rattle.drm_state.specs.Arming.{new_record, armed_device}
 use Rattle.drm_state.specs.Journal.{is_complete}
 use Rattle.drm_state.specs.Choice.{queue_of, choice}
 use Rattle.drm_state.specs.Ring.{limit_of, head_of, pending_of, age_of, is_guilty, is_stopped}
-use Rattle.drm_state.specs.Refusals.{reap_refusal, must_still_wait}
+use Rattle.drm_state.specs.Refusals.{pick_refusal, finish_refusal, reap_refusal, must_still_wait}
 use Rattle.drm_state.specs.Outcomes.{hung as hung_record, condemned, at_record, picked_device, finished_device, final_outcome, hung_device, condemned_device, is_too_much, hang_outcome, timeout_at, pick_outcome, finish_outcome, timeout_outcome, reap_outcome, cancelled_device, ended_at}
 use Rattle.drm_state.specs.Steady.{IsSteady}
-use Rattle.drm_sched.specs.Marks.{Mark, MarkedDevice, mark_of, out_by, IsOut, IsSteadyMarked}
+use Rattle.drm_sched.specs.Marks.{Mark, MarkedDevice, mark_of, out_by, ring_out, IsOut, IsSteadyMarked}
 use Rattle.drm_state.proofs.Records.{changed_is, to_map}
 use Rattle.drm_state.proofs.Pairs.{get_set_other}
 use Rattle.drm_state.proofs.Pending.{contains_at}
@@ -34,12 +35,12 @@ use Rattle.drm_state.proofs.ChoiceIs.{choice_is}
 use Rattle.drm_state.proofs.PickLawful.{pick_is, not_scheduled, given}
 use Rattle.drm_state.proofs.HangLawful.{pending_after_hang}
 use Rattle.drm_state.proofs.ReapLawful.{reapable}
-use Rattle.drm_state.proofs.DeviceSteps.{at_record_is, not_when}
+use Rattle.drm_state.proofs.ArmLawful.{get_before_push}
+use Rattle.drm_state.proofs.DeviceSteps.{at_record_is, not_when, pick_kept, finish_kept, timeout_kept, reap_kept}
 use Rattle.drm_sched.proofs.Marks.{find_agree}
 
 -- the ring's pending jobs stay as they are, and so does the memory; more may be pending behind them
 pub record LeavesRing (d n : DeviceState) (ring : ℕ) : Type 0 where
-  pub spec : n.spec ≡ d.spec
   pub memory : n.memory ≡ d.memory
   pub extra : List ℕ
   pub pending : pending_of n ring ≡ pending_of d ring ++ extra
@@ -60,7 +61,7 @@ pending_record : (d : DeviceState) (ring k g : ℕ) → IsSteady d → ring < le
 pending_record d ring k g steady here at = ((steady.lawful.rings ring here).pending g).0 (contains_at (pending_of d ring) k g at)
 
 -- a packet that is out stays so, with the record of its job
-pub left_out : (d n : DeviceState) (ring : ℕ) (m : Mark) (out : IsOut d ring m) → IsSteady d → ring < length d.spec.rings → LeavesRing d n ring
+left_out : (d n : DeviceState) (ring : ℕ) (m : Mark) (out : IsOut d ring m) → IsSteady d → ring < length d.spec.rings → LeavesRing d n ring
     → IsOut n ring m × (slice_get n.journal m.fence ≡ slice_get d.journal m.fence)
 left_out d n ring m out steady here leaves =
     let c = current_is d ring m.fence steady.lawful here out.current in
@@ -91,25 +92,32 @@ mark_there marks ring m is =
       | Some x ↦ λ at e. slice_get_within marks ring x at
     ] refl is
 
--- a device with packets out stays steady where each of their rings is left
-pub still_steady : (d : MarkedDevice) (n : DeviceState) → IsSteadyMarked d → IsSteady n → n.spec ≡ d.state.spec
-    → ((ring : ℕ) (m : Mark) → mark_of d ring ≡ Some m → LeavesRing d.state n ring) → IsSteadyMarked (record d { state = n })
-still_steady d n steady new spec leaves =
-    let here : (ring : ℕ) (m : Mark) → mark_of d ring ≡ Some m → ring < length d.state.spec.rings =
-    λ ring m is. subst (λ c. ring < c) steady.count (mark_there d.marks ring m is) in
-    let left = λ (ring : ℕ) (m : Mark) (is : mark_of d ring ≡ Some m).
-    left_out d.state n ring m (steady.out ring m is) steady.state (here ring m is) (leaves ring m is) in
-    let same_out : (ring : ℕ) (m : Mark) → mark_of d ring ≡ Some m → out_by n.journal (Some m) ≡ out_by d.state.journal (Some m) =
-    λ ring m is.
-    ap (λ o. option_map_or touches (option_map_or (λ (r : JobRecord). slice_get r.job.packets m.packet) o None) []) (left ring m is).1 in
-    record {
-      state = new;
-      count = steady.count ∙ ap (λ (s : DeviceSpec). length s.rings) (sym spec);
-      out = λ ring m is. (left ring m is).0;
-      apart = λ i j m o other is_m is_o b in_m in_o.
-          steady.apart i j m o other is_m is_o b
-          (subst (λ (bs : List ℕ). Contains bs b) (same_out i m is_m) in_m) (subst (λ (bs : List ℕ). Contains bs b) (same_out j o is_o) in_o);
-    }
+-- a ring that has a packet out is there
+pub ring_is_there : (d : MarkedDevice) (ring : ℕ) (m : Mark) → IsSteadyMarked d → mark_of d ring ≡ Some m → ring < length d.state.spec.rings
+ring_is_there d ring m steady is = subst (λ c. ring < c) steady.count (mark_there d.marks ring m is)
+
+-- a ring that has nothing out is none of those that have
+pub apart_from : (d : MarkedDevice) (ring other : ℕ) (m : Mark) → ring_out d ring ≡ false → mark_of d other ≡ Some m → other ≢ ring
+apart_from d ring other m free is same =
+    both_ways (ring_out d ring) free (ap (λ o. not (is_none o)) (ap (mark_of d) (sym same) ∙ is))
+
+-- a mark stays, with the buffers of its packet
+abbrev pub Stays : DeviceState → DeviceState → ℕ → Mark → Type 0
+Stays d n ring m = IsOut n ring m × (out_by n.journal (Some m) ≡ out_by d.journal (Some m))
+
+-- the mark of a ring that is left stays
+left_stays : (d : MarkedDevice) (n : DeviceState) (ring : ℕ) (m : Mark) → IsSteadyMarked d → mark_of d ring ≡ Some m → LeavesRing d.state n ring → Stays d.state n ring m
+left_stays d n ring m steady is leaves =
+    let left = left_out d.state n ring m (steady.out ring m is) steady.state (ring_is_there d ring m steady is) leaves in
+    (left.0, ap (λ o. option_map_or touches (option_map_or (λ (r : JobRecord). slice_get r.job.packets m.packet) o None) []) left.1)
+
+-- all marks stay, in a device of the same description
+pub record LeavesMarks (d : MarkedDevice) (n : DeviceState) : Type 0 where
+  pub spec : n.spec ≡ d.state.spec
+  pub stays : (ring : ℕ) (m : Mark) → mark_of d ring ≡ Some m → Stays d.state n ring m
+
+pub marks_stay : (d : MarkedDevice) → IsSteadyMarked d → LeavesMarks d d.state
+marks_stay d steady = record { spec = refl; stays = λ ring m is. (steady.out ring m is, refl) }
 
 -- ---- what each event leaves
 
@@ -117,11 +125,11 @@ no_more : (xs : List ℕ) → xs ≡ xs ++ []
 no_more [] = refl
 no_more (x ∷ xs) = ap (λ ys. x ∷ ys) (no_more xs)
 
-pub leaves_itself : (d : DeviceState) (ring : ℕ) → LeavesRing d d ring
-leaves_itself d ring = record { spec = refl; memory = refl; extra = []; pending = no_more (pending_of d ring); records = λ k g at. refl }
+leaves_itself : (d : DeviceState) (ring : ℕ) → LeavesRing d d ring
+leaves_itself d ring = record { memory = refl; extra = []; pending = no_more (pending_of d ring); records = λ k g at. refl }
 
 -- a pick, on any ring
-pub pick_leaves : (d : DeviceState) (ring now other : ℕ) → IsSteady d → ring < length d.spec.rings → other < length d.spec.rings
+pick_leaves : (d : DeviceState) (ring now other : ℕ) → IsSteady d → ring < length d.spec.rings → other < length d.spec.rings
     → LeavesRing d (pick_outcome d ring now).1 other
 pick_leaves d ring now other steady here there = by_choice (choice d ring) refl
   where
@@ -141,13 +149,12 @@ pick_leaves d ring now other steady here there = by_choice (choice d ring) refl
         at_record_is (λ q. LeavesRing d q.1 other) d (λ number r. (answer.Picked number (is_guilty d r.job.entity), picked_device d ring now number)) (answer.Ok, d) f c.0 c.1.at
         (elim (cases_eq other ring) [
           | inl same ↦ record {
-            spec = refl;
             memory = refl;
             extra = f ∷ [];
             pending = subst (λ n. pending_of new n ≡ pending_of d n ++ f ∷ []) (sym same) p.here;
             records = kept;
           }
-          | inr apart ↦ record { spec = refl; memory = refl; extra = []; pending = p.there other apart ∙ no_more (pending_of d other); records = kept }
+          | inr apart ↦ record { memory = refl; extra = []; pending = p.there other apart ∙ no_more (pending_of d other); records = kept }
         ])
 
 -- the head of another ring is not pending here
@@ -159,7 +166,7 @@ head_apart d ring other f k g r steady there apart at on at_k e =
     apart (sym x.3 ∙ (ap (λ (z : JobRecord). z.ring) same ∙ on))
 
 -- the end of another ring's head
-pub finish_leaves : (d : DeviceState) (ring now other : ℕ) → IsSteady d → ring < length d.spec.rings → other < length d.spec.rings → other ≢ ring
+finish_leaves : (d : DeviceState) (ring now other : ℕ) → IsSteady d → ring < length d.spec.rings → other < length d.spec.rings → other ≢ ring
     → LeavesRing d (finish_outcome d ring now).1 other
 finish_leaves d ring now other steady here there apart = by_head (head_of d ring) refl
   where
@@ -171,7 +178,6 @@ finish_leaves d ring now other steady here there apart = by_head (head_of d ring
         let p = finish_is d ring f now h.0 (final_outcome h.0) steady.lawful here h.1.at in
         at_record_is (λ q. LeavesRing d q.1 other) d (λ number r. (answer.Finished number (final_outcome r), finished_device d ring now number (final_outcome r))) (answer.Ok, d) f h.0 h.1.at
         (record {
-          spec = refl;
           memory = refl;
           extra = [];
           pending = p.there other apart ∙ no_more (pending_of d other);
@@ -189,7 +195,7 @@ condemned_apart ring e r other =
     ]
 
 -- a timeout of another ring
-pub timeout_leaves : (d : DeviceState) (ring now other : ℕ) → IsSteady d → ring < length d.spec.rings → other < length d.spec.rings → other ≢ ring
+timeout_leaves : (d : DeviceState) (ring now other : ℕ) → IsSteady d → ring < length d.spec.rings → other < length d.spec.rings → other ≢ ring
     → LeavesRing d (timeout_outcome d ring now).1 other
 timeout_leaves d ring now other steady here there apart = by_head (head_of d ring) refl
   where
@@ -205,7 +211,6 @@ timeout_leaves d ring now other steady here there apart = by_head (head_of d rin
         (answer.Guilty r.job.entity, condemned_device (hung_device d ring now f) ring r.job.entity)
         (answer.Resumed, hung_device d ring now f)).1 other) [
           | true ↦ record {
-            spec = refl;
             memory = refl;
             extra = [];
             pending = pending;
@@ -214,7 +219,7 @@ timeout_leaves d ring now other steady here there apart = by_head (head_of d rin
                 to_map (condemned ring r.job.entity) (hung_device d ring now f).journal g x.0 (kept k g at ∙ x.1)
                 ∙ (ap (λ (z : JobRecord). Some z) (condemned_apart ring r.job.entity x.0 (ne_eqb x.0.ring ring (λ e. apart (sym x.3 ∙ e)))) ∙ sym x.1);
           }
-          | false ↦ record { spec = refl; memory = refl; extra = []; pending = pending; records = kept }
+          | false ↦ record { memory = refl; extra = []; pending = pending; records = kept }
         ]
 
     by_head : (o : Option ℕ) → head_of d ring ≡ o → LeavesRing d (at_record d (timeout_at d ring now) (answer.Empty, d) o).1 other
@@ -233,10 +238,10 @@ timeout_leaves d ring now other steady here there apart = by_head (head_of d rin
         ])
 
 -- a cancel, and a reap: that job was queued
-pub cancel_leaves : (d : DeviceState) (e ring : ℕ) → LeavesRing d (cancelled_device d e) ring
-cancel_leaves d e ring = record { spec = refl; memory = refl; extra = []; pending = no_more (pending_of d ring); records = λ k g at. refl }
+cancel_leaves : (d : DeviceState) (e ring : ℕ) → LeavesRing d (cancelled_device d e) ring
+cancel_leaves d e ring = record { memory = refl; extra = []; pending = no_more (pending_of d ring); records = λ k g at. refl }
 
-pub reap_leaves : (d : DeviceState) (e ring : ℕ) → IsSteady d → ring < length d.spec.rings → reap_refusal d e ≡ None → LeavesRing d (reap_outcome d e).1 ring
+reap_leaves : (d : DeviceState) (e ring : ℕ) → IsSteady d → ring < length d.spec.rings → reap_refusal d e ≡ None → LeavesRing d (reap_outcome d e).1 ring
 reap_leaves d e ring steady here may =
     let rest = (none_first (when (not (is_stopped d e) || is_none (first (queue_of e d.journal))) Nothing)
     (option_map_or (λ n. when (must_still_wait d.journal n.0 n.1) Waits) (first (queue_of e d.journal)) None ∷ []) may).1 in
@@ -250,7 +255,6 @@ reap_leaves d e ring steady here may =
     by_head (Some n) is may =
         let reap = reapable d e n is (not-false _ (not_when (must_still_wait d.journal n.0 n.1) Waits may)) in
         record {
-          spec = refl;
           memory = refl;
           extra = [];
           pending = no_more (pending_of d ring);
@@ -261,3 +265,47 @@ reap_leaves d e ring steady here may =
               ap (λ (js : List JobRecord). slice_get js g) (changed_is d.journal n.0 n.1 (ended outcome.Stopped) reap.at)
               ∙ get_set_other d.journal n.0 g (ended outcome.Stopped n.1) apart;
         }
+
+-- an arming
+arm_leaves : (d : DeviceState) (job : Draft) (ring : ℕ) → IsSteady d → ring < length d.spec.rings → LeavesRing d (armed_device d job) ring
+arm_leaves d job ring steady here = record {
+  memory = refl;
+  extra = (leaves_itself d ring).extra;
+  pending = (leaves_itself d ring).pending;
+  records = λ k g at.
+      let x = ((steady.lawful.rings ring here).pending g).0 (contains_at (pending_of d ring) k g at) in
+      get_before_push d.journal (new_record d job) g x.0 x.1 ∙ sym x.1;
+}
+
+-- ---- so all marks stay
+
+pub pick_leaves_marks : (d : MarkedDevice) (ring now : ℕ) → IsSteadyMarked d → ring < length d.state.spec.rings → pick_refusal d.state ring ≡ None → LeavesMarks d (pick_outcome d.state ring now).1
+pick_leaves_marks d ring now steady here may = record {
+  spec = (pick_kept d.state ring now steady.state here may).grows.spec;
+  stays = λ k m is. left_stays d _ k m steady is (pick_leaves d.state ring now k steady.state here (ring_is_there d k m steady is));
+}
+
+pub finish_leaves_marks : (d : MarkedDevice) (ring now : ℕ) → IsSteadyMarked d → ring < length d.state.spec.rings → ring_out d ring ≡ false → finish_refusal d.state ring ≡ None
+    → LeavesMarks d (finish_outcome d.state ring now).1
+finish_leaves_marks d ring now steady here free may = record {
+  spec = (finish_kept d.state ring now steady.state here may).grows.spec;
+  stays = λ k m is. left_stays d _ k m steady is (finish_leaves d.state ring now k steady.state here (ring_is_there d k m steady is) (apart_from d ring k m free is));
+}
+
+pub timeout_leaves_marks : (d : MarkedDevice) (ring now : ℕ) → IsSteadyMarked d → ring < length d.state.spec.rings → ring_out d ring ≡ false → LeavesMarks d (timeout_outcome d.state ring now).1
+timeout_leaves_marks d ring now steady here free = record {
+  spec = (timeout_kept d.state ring now steady.state here).grows.spec;
+  stays = λ k m is. left_stays d _ k m steady is (timeout_leaves d.state ring now k steady.state here (ring_is_there d k m steady is) (apart_from d ring k m free is));
+}
+
+pub cancel_leaves_marks : (d : MarkedDevice) (e : ℕ) → IsSteadyMarked d → LeavesMarks d (cancelled_device d.state e)
+cancel_leaves_marks d e steady = record { spec = refl; stays = λ k m is. left_stays d _ k m steady is (cancel_leaves d.state e k) }
+
+pub reap_leaves_marks : (d : MarkedDevice) (e : ℕ) → IsSteadyMarked d → reap_refusal d.state e ≡ None → LeavesMarks d (reap_outcome d.state e).1
+reap_leaves_marks d e steady may = record {
+  spec = (reap_kept d.state e steady.state may).grows.spec;
+  stays = λ k m is. left_stays d _ k m steady is (reap_leaves d.state e k steady.state (ring_is_there d k m steady is) may);
+}
+
+pub arm_leaves_marks : (d : MarkedDevice) (job : Draft) → IsSteadyMarked d → LeavesMarks d (armed_device d.state job)
+arm_leaves_marks d job steady = record { spec = refl; stays = λ k m is. left_stays d _ k m steady is (arm_leaves d.state job k steady.state (ring_is_there d k m steady is)) }

@@ -1,7 +1,7 @@
 -- What the calls of a device leave of its fences' words.
-use Rattle.std.proofs.Common.{◌≡◌, ◌≢◌, ℕ, zero, suc, ◌+◌, ◌<◌, ◌≤◌, ◌-◌, true, false, not, cond, ◌||◌, List, [], ◌∷◌, ◌++◌, set, map, length, Some, None, Option, Result, Ok, Err, refl, sym, ap, subst, ◌∙◌, ◌⊎◌, inl, inr, arith, slice_get}
+use Rattle.std.proofs.Common.{◌≡◌, ◌≢◌, ℕ, zero, suc, ◌+◌, ◌<◌, ◌≤◌, ◌-◌, true, false, not, cond, ◌||◌, List, [], ◌∷◌, ◌++◌, set, map, length, Some, None, Option, refl, sym, ap, subst, ◌∙◌, arith, slice_get}
 use Rattle.std.specs.Option.{option_map_or}
-use Rattle.std.specs.Prelude.{nat_lt, is_none, IfOk, IfErr, OnOk, MatchResult}
+use Rattle.std.specs.Prelude.{nat_lt, is_none}
 use Rattle.std.proofs.lemmas.Bool.{not-false}
 use Rattle.drm_types.specs.declared.outcome.Outcome.{Outcome}
 use Rattle.drm_types.specs.declared.outcome.Outcome.TheVariants as outcome
@@ -12,39 +12,27 @@ use Rattle.drm_fence.specs.declared.phase.Phase.{Phase}
 use Rattle.drm_fence.specs.declared.phase.Phase.TheVariants.{Queued, Scheduled, Ended}
 use Rattle.drm_fence.specs.Phases.{is_queued}
 use Rattle.drm_resv.specs.Reservation.{Reservation}
-use Rattle.drm_state.specs.declared.answer.Expired.{Expired}
 use Rattle.drm_state.specs.declared.answer.Finished.{Finished}
-use Rattle.drm_state.specs.declared.answer.Picked.{Picked}
-use Rattle.drm_state.specs.declared.answer.Stepped.{Stepped}
 use Rattle.drm_state.specs.declared.answer.Answer.{Answer}
 use Rattle.drm_state.specs.declared.answer.Answer.TheVariants as answer
-use Rattle.drm_state.specs.declared.errors.CancelError.{CancelError}
-use Rattle.drm_state.specs.declared.errors.FinishError.{FinishError}
-use Rattle.drm_state.specs.declared.errors.PickError.{PickError}
-use Rattle.drm_state.specs.declared.errors.ReapError.{ReapError}
-use Rattle.drm_state.specs.declared.errors.StepError.{StepError}
-use Rattle.drm_state.specs.Errors.{refusal_of_cancel, refusal_of_finish, refusal_of_pick, refusal_of_reap, refusal_of_step}
 use Rattle.drm_state.specs.declared.answer.Refusal.TheVariants.{Nothing, Waits}
 use Rattle.drm_state.specs.declared.journal.JobRecord.{JobRecord}
-use Rattle.drm_table.specs.declared.table.Table.{Table}
-use Rattle.drm_state.specs.Answers.{picked, stepped, finished, timed_out}
+use Rattle.drm_state.specs.Answers.{finished}
 use Rattle.drm_state.specs.Arming.{armed_device, new_record}
 use Rattle.drm_state.specs.Choice.{choice, queue_of}
-use Rattle.drm_state.specs.Grows.{GoesOn, Grows}
 use Rattle.drm_state.specs.Journal.{is_at, is_complete, changed_at}
 use Rattle.drm_state.specs.Keeps.{word_of, word_at, Keeps, KeepsBut, KeepsArmed}
-use Rattle.drm_state.specs.Outcomes.{at_record, picked_device, must_stall, ran_device, stepped_by, finished_device, final_outcome, hung, hung_device, condemned, condemned_device, is_too_much, hang_outcome, timeout_at, pick_outcome, step_outcome, finish_outcome, timeout_outcome, reap_outcome, cancelled_device, ended_at}
-use Rattle.drm_state.specs.Refusals.{arm_refusal, pick_refusal, step_refusal, finish_refusal, cancel_refusal, reap_refusal, must_still_wait}
+use Rattle.drm_state.specs.Outcomes.{at_record, picked_device, must_stall, ran_device, stepped_by, finished_device, final_outcome, hung, hung_device, condemned, condemned_device, is_too_much, hang_outcome, timeout_at, pick_outcome, step_outcome, finish_outcome, timeout_outcome, reap_outcome, ended_at}
+use Rattle.drm_state.specs.Refusals.{arm_refusal, reap_refusal, must_still_wait}
 use Rattle.drm_state.specs.Reservation.{Fits}
 use Rattle.drm_state.specs.Ring.{limit_of, head_of, current_of, age_of, is_guilty, is_stopped}
 use Rattle.drm_state.specs.State.{DeviceState}
-use Rattle.drm_table.specs.Tables.{state_of, IsWhole}
 use Rattle.std.proofs.lemmas.Option.{slice_get_within}
 use Rattle.drm_table.proofs.ArmDone.{may_arm}
 use Rattle.drm_state.proofs.ChoiceIs.{choice_is}
 use Rattle.drm_state.proofs.Covering.{not_declared}
 use Rattle.drm_state.specs.Events.{IsKept}
-use Rattle.drm_state.proofs.DeviceSteps.{not_when, pick_kept, step_kept, finish_kept, timeout_kept, cancel_kept, reap_kept}
+use Rattle.drm_state.proofs.DeviceSteps.{not_when}
 use Rattle.drm_state.proofs.FitsKept.{fits_kept, unused_fits, get_at_push}
 use Rattle.drm_state.proofs.Pairs.{get_set_same, get_set_other}
 use Rattle.drm_state.proofs.PickLawful.{given}
@@ -102,10 +90,10 @@ word_beside js f r o at g ne =
 -- ---- each call
 
 -- each fence shows what it showed
-abbrev SameWords : DeviceState → DeviceState → Type 0
+abbrev pub SameWords : DeviceState → DeviceState → Type 0
 SameWords d e = (g : ℕ) → word_at e.journal g ≡ word_at d.journal g
 
-pick_words : (d : DeviceState) (ring now : ℕ) → SameWords d (pick_outcome d ring now).1
+pub pick_words : (d : DeviceState) (ring now : ℕ) → SameWords d (pick_outcome d ring now).1
 pick_words d ring now g = by_choice (choice d ring) refl
   where
     by_choice : (o : Option ℕ) → choice d ring ≡ o
@@ -119,7 +107,7 @@ pick_words d ring now g = by_choice (choice d ring) refl
               (λ x at. let same : c.0 ≡ x = cc (c.1.at, at) in sym (word_queued x.phase (subst (λ (z : JobRecord). is_queued z.phase ≡ true) same c.1.queued))) g
         ]
 
-step_words : (d : DeviceState) (ring : ℕ) → SameWords d (step_outcome d ring).1
+pub step_words : (d : DeviceState) (ring : ℕ) → SameWords d (step_outcome d ring).1
 step_words d ring g =
     elim (current_of d ring) as (λ o. word_at (at_record {A = Answer × DeviceState} d (λ number r. option_map_or (stepped_by d number) (slice_get r.job.packets r.ran) (answer.Ok, d)) (answer.Ok, d) o).1.journal g ≡ word_at d.journal g) [
       | None ↦ refl
@@ -136,7 +124,7 @@ step_words d ring g =
       ]
     ]
 
-timeout_words : (d : DeviceState) (ring now : ℕ) → SameWords d (timeout_outcome d ring now).1
+pub timeout_words : (d : DeviceState) (ring now : ℕ) → SameWords d (timeout_outcome d ring now).1
 timeout_words d ring now g =
     elim (head_of d ring) as (λ o. word_at (at_record {A = Answer × DeviceState} d (timeout_at d ring now) (answer.Empty, d) o).1.journal g ≡ word_at d.journal g) [
       | None ↦ refl
@@ -172,7 +160,7 @@ ended_at_is d e f r o at is = record {
   words = λ g ne. ap (λ xs. word_at xs g) is ∙ word_beside d.journal f r o at g ne;
 }
 
-finish_words : (d new : DeviceState) (ring now : ℕ) (x : Finished) → finish_outcome d ring now ≡ (finished x, new) → EndsAt d new x.fence (word_of (Ended x.outcome))
+pub finish_words : (d new : DeviceState) (ring now : ℕ) (x : Finished) → finish_outcome d ring now ≡ (finished x, new) → EndsAt d new x.fence (word_of (Ended x.outcome))
 finish_words d new ring now x is = by_head (head_of d ring) is
   where
     by_record : (f : ℕ) (o : Option JobRecord) → slice_get d.journal f ≡ o
@@ -192,7 +180,7 @@ finish_words d new ring now x is = by_head (head_of d ring) is
     by_head None is = let never : answer.Ok ≡ answer.Finished x.fence x.outcome = ap (λ (z : Answer × DeviceState). z.0) is in absurd (cc (never))
     by_head (Some f) is = by_record f (slice_get d.journal f) refl is
 
-reap_words : (d new : DeviceState) (e f : ℕ) → reap_refusal d e ≡ None → reap_outcome d e ≡ (answer.Reaped f, new) → EndsAt d new f 4
+pub reap_words : (d new : DeviceState) (e f : ℕ) → reap_refusal d e ≡ None → reap_outcome d e ≡ (answer.Reaped f, new) → EndsAt d new f 4
 reap_words d new e f may is =
     let rest = (none_first (when (not (is_stopped d e) || is_none (first (queue_of e d.journal))) Nothing)
     (option_map_or (λ n. when (must_still_wait d.journal n.0 n.1) Waits) (first (queue_of e d.journal)) None ∷ []) may).1 in
@@ -210,74 +198,29 @@ reap_words d new e f may is =
         let fence : n.0 ≡ f = cc (told) in
         subst (λ k. EndsAt d new k 4) fence (ended_at_is d new n.0 n.1 outcome.Stopped reap.at (ap (λ (z : Answer × DeviceState). z.1.journal) (sym is)))
 
--- ---- the same of the tables
+-- ---- what a device keeps
 
 kept_fits : (d e : DeviceState) → IsKept d e → (b : ℕ) (x : Reservation) → Fits b d.journal x → Fits b e.journal x
 kept_fits d e k b x f = fits_kept b d.journal e.journal x k.count k.grows.journal f
 
-keeps_by : (d new : DeviceState) (a : Answer) (outcome : Answer × DeviceState) → outcome ≡ (a, new) → IsKept d outcome.1 → SameWords d outcome.1 → Keeps d new
-keeps_by d new a outcome is kept words =
-    let e = ap (λ (o : Answer × DeviceState). o.1) is in record { fits = kept_fits d new (subst (IsKept d) e kept); words = subst (SameWords d) e words }
+below : {f n m : ℕ} → f < n → n ≤ m → f < m
+below l e = omega (arith, l, e)
+
+-- what fitted fits, and each fence shows what it showed
+pub keeps_of : (d e : DeviceState) → IsKept d e → SameWords d e → Keeps d e
+keeps_of d e kept words = record { fits = kept_fits d e kept; words = words }
 
 pub keeps_itself : (d : DeviceState) → Keeps d d
 keeps_itself d = record { fits = λ b x f. f; words = λ g. refl }
 
-unchanged : (t n : Table) → n ≡ t → Keeps (state_of t) (state_of n)
-unchanged t n is = subst (λ m. Keeps (state_of t) (state_of m)) (sym is) (keeps_itself (state_of t))
-
-pub pick_keeps : (t n : Table) (ring now : ℕ) (r : Result Picked PickError) → IsWhole t → ring < length t.spec.rings
-    → IfOk r (λ p. (pick_refusal (state_of t) ring ≡ None) × (pick_outcome (state_of t) ring now ≡ (picked p, state_of n)))
-    → IfErr r (λ e. (pick_refusal (state_of t) ring ≡ Some (refusal_of_pick e)) × (n ≡ t)) → Keeps (state_of t) (state_of n)
-pick_keeps t n ring now (Ok p) whole there ok err = keeps_by (state_of t) (state_of n) (picked p) _ ok.1 (pick_kept (state_of t) ring now whole.steady there ok.0) (pick_words (state_of t) ring now)
-pick_keeps t n ring now (Err e) whole there ok err = unchanged t n err.1
-
-pub step_keeps : (t n : Table) (ring : ℕ) (r : Result Stepped StepError) → IsWhole t → ring < length t.spec.rings
-    → IfOk r (λ s. (step_refusal (state_of t) ring ≡ None) × (step_outcome (state_of t) ring ≡ (stepped s, state_of n)))
-    → IfErr r (λ e. (step_refusal (state_of t) ring ≡ Some (refusal_of_step e)) × (n ≡ t)) → Keeps (state_of t) (state_of n)
-step_keeps t n ring (Ok s) whole there ok err = keeps_by (state_of t) (state_of n) (stepped s) _ ok.1 (step_kept (state_of t) ring whole.steady there) (step_words (state_of t) ring)
-step_keeps t n ring (Err e) whole there ok err = unchanged t n err.1
-
-below : {f n m : ℕ} → f < n → n ≤ m → f < m
-below l e = omega (arith, l, e)
-
-pub finish_keeps : (t n : Table) (ring now : ℕ) (r : Result Finished FinishError) → IsWhole t → ring < length t.spec.rings
-    → IfOk r (λ f. (finish_refusal (state_of t) ring ≡ None) × (finish_outcome (state_of t) ring now ≡ (finished f, state_of n)))
-    → IfErr r (λ e. (finish_refusal (state_of t) ring ≡ Some (refusal_of_finish e)) × (n ≡ t))
-    → MatchResult r (λ f. KeepsBut f.fence (word_of (Ended f.outcome)) (state_of t) (state_of n)) (λ e. Keeps (state_of t) (state_of n))
-finish_keeps t n ring now (Ok f) whole there ok err =
-    let w = finish_words (state_of t) (state_of n) ring now f ok.1 in
-    record {
-      place = below w.there whole.count;
-      fits = kept_fits (state_of t) (state_of n) (subst (IsKept (state_of t)) (ap (λ (o : Answer × DeviceState). o.1) ok.1) (finish_kept (state_of t) ring now whole.steady there ok.0));
-      word = w.word;
-      words = w.words;
-    }
-finish_keeps t n ring now (Err e) whole there ok err = unchanged t n err.1
-
-pub timeout_keeps : (t n : Table) (ring now : ℕ) (r : Expired) → IsWhole t → ring < length t.spec.rings
-    → timeout_outcome (state_of t) ring now ≡ (timed_out r, state_of n) → Keeps (state_of t) (state_of n)
-timeout_keeps t n ring now r whole there is = keeps_by (state_of t) (state_of n) (timed_out r) _ is (timeout_kept (state_of t) ring now whole.steady there) (timeout_words (state_of t) ring now)
-
-pub cancel_keeps : (t n : Table) (entity : ℕ) (r : Result (Unit {0}) CancelError) → IsWhole t
-    → OnOk r ((cancel_refusal (state_of t) entity ≡ None) × (state_of n ≡ cancelled_device (state_of t) entity))
-    → IfErr r (λ e. (cancel_refusal (state_of t) entity ≡ Some (refusal_of_cancel e)) × (n ≡ t)) → Keeps (state_of t) (state_of n)
-cancel_keeps t n entity (Ok u) whole ok err =
-    subst (Keeps (state_of t)) (sym ok.1) (record { fits = kept_fits (state_of t) (cancelled_device (state_of t) entity) (cancel_kept (state_of t) entity whole.steady); words = λ g. refl })
-cancel_keeps t n entity (Err e) whole ok err = unchanged t n err.1
-
-pub reap_keeps : (t n : Table) (entity : ℕ) (r : Result ℕ ReapError) → IsWhole t
-    → IfOk r (λ f. (reap_refusal (state_of t) entity ≡ None) × (reap_outcome (state_of t) entity ≡ (answer.Reaped f, state_of n)))
-    → IfErr r (λ e. (reap_refusal (state_of t) entity ≡ Some (refusal_of_reap e)) × (n ≡ t))
-    → MatchResult r (λ f. KeepsBut f 4 (state_of t) (state_of n)) (λ e. Keeps (state_of t) (state_of n))
-reap_keeps t n entity (Ok f) whole ok err =
-    let w = reap_words (state_of t) (state_of n) entity f ok.0 ok.1 in
-    record {
-      place = below w.there whole.count;
-      fits = kept_fits (state_of t) (state_of n) (subst (IsKept (state_of t)) (ap (λ (o : Answer × DeviceState). o.1) ok.1) (reap_kept (state_of t) entity whole.steady ok.0));
-      word = w.word;
-      words = w.words;
-    }
-reap_keeps t n entity (Err e) whole ok err = unchanged t n err.1
+-- and the fence of the job that ended shows its outcome
+pub ended_keeps : (d e : DeviceState) (fence shown : ℕ) → length d.journal ≤ d.spec.max_jobs → IsKept d e → EndsAt d e fence shown → KeepsBut fence shown d e
+ended_keeps d e fence shown count kept ends = record {
+  place = below ends.there count;
+  fits = kept_fits d e kept;
+  word = ends.word;
+  words = ends.words;
+}
 
 pub arm_keeps : (d : DeviceState) (job : Draft) → arm_refusal d job ≡ None → KeepsArmed job (length d.journal) d (armed_device d job)
 arm_keeps d job may = record {
@@ -286,34 +229,3 @@ arm_keeps d job may = record {
   word = ap (λ o. option_map_or (λ (z : JobRecord). word_of z.phase) o 0) (get_at_push d.journal (new_record d job));
   words = λ g ne. word_push d.journal (new_record d job) g ne;
 }
-
--- ---- no word goes back
-
--- a word stays, or goes from 0 or 1 to a greater one
-abbrev pub GoesUp : ℕ → ℕ → Type 0
-GoesUp x y = (y ≡ x) ⊎ ((x < 2) × (x < y))
-
-phase_goes_up : (a b : Phase) → GoesOn a b → GoesUp (word_of a) (word_of b)
-phase_goes_up Queued Queued g = inl refl
-phase_goes_up Queued Scheduled g = inl refl
-phase_goes_up Queued (Ended outcome.Good) g = inr (omega arith, omega arith)
-phase_goes_up Queued (Ended outcome.Cancelled) g = inr (omega arith, omega arith)
-phase_goes_up Queued (Ended outcome.Stopped) g = inr (omega arith, omega arith)
-phase_goes_up Scheduled Queued g = absurd g
-phase_goes_up Scheduled Scheduled g = inl refl
-phase_goes_up Scheduled (Ended outcome.Good) g = inr (omega arith, omega arith)
-phase_goes_up Scheduled (Ended outcome.Cancelled) g = inr (omega arith, omega arith)
-phase_goes_up Scheduled (Ended outcome.Stopped) g = inr (omega arith, omega arith)
-phase_goes_up (Ended o) b g = inl (ap word_of g)
-
-from_zero : (y : ℕ) → GoesUp 0 y
-from_zero zero = inl refl
-from_zero (suc y) = inr (omega arith, omega arith)
-
-pub words_go_up : (p q : DeviceState) → Grows p q → (f : ℕ) → GoesUp (word_at p.journal f) (word_at q.journal f)
-words_go_up p q g f =
-    elim (slice_get p.journal f) as (λ o. slice_get p.journal f ≡ o → GoesUp (option_map_or (λ (z : JobRecord). word_of z.phase) o 0) (word_at q.journal f)) [
-      | None ↦ λ at. from_zero (word_at q.journal f)
-      | Some r ↦ λ at. let n = g.journal f r at in
-          subst (λ o. GoesUp (word_of r.phase) (option_map_or (λ (z : JobRecord). word_of z.phase) o 0)) (sym n.1) (phase_goes_up r.phase n.0.phase n.2.phase)
-    ] refl

@@ -6,8 +6,8 @@ use Rattle.drm_state.specs.declared.answer.Answer.TheVariants as answer
 use Rattle.drm_state.specs.declared.answer.Refusal.{Refusal}
 use Rattle.drm_state.specs.declared.answer.Refusal.TheVariants.{PacketOut}
 use Rattle.drm_state.specs.declared.journal.JobRecord.{JobRecord}
-use Rattle.drm_sched.specs.declared.marked.Begun.{Begun}
-use Rattle.drm_sched.specs.declared.marked.Begun.TheVariants.{Work, Stalled}
+use Rattle.drm_sched.specs.declared.outside.Begun.{Begun}
+use Rattle.drm_sched.specs.declared.outside.Begun.TheVariants.{Work, Stalled}
 use Rattle.drm_sched.specs.Marks.{Mark, MarkedDevice, Task, IsBusy, mark_of, mark_for, packet_at, begun_device, reported_device}
 use Rattle.drm_state.specs.Outcomes.{must_stall, step_outcome}
 use Rattle.drm_state.specs.Refusals.{step_refusal}

@@ -2,6 +2,6 @@ pub mod Marks
 pub mod Watching
 pub mod Candidates
 pub mod Heads
-pub mod MarkedTables
-pub mod Schedulers
+pub mod Parts
 pub mod Begun
+pub mod Calls

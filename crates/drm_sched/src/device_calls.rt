@@ -5,12 +5,9 @@ ghost use Rattle.drm_buffer.specs.Memory.{bytes_of, sizes_of};
 ghost use Rattle.drm_buffer.specs.Stored.{is_out_of};
 ghost use Rattle.drm_fence.specs.declared.phase.Phase.TheVariants.{Ended};
 ghost use Rattle.drm_fence.specs.Phases.{has_ended, status_of};
-ghost use Rattle.drm_state.specs.declared.answer.Answer.TheVariants as answer;
-ghost use Rattle.drm_state.specs.Answers.{picked, stepped, finished, timed_out};
-ghost use Rattle.drm_state.specs.Arming.{armed_device, load as load_of};
+ghost use Rattle.drm_state.specs.Arming.{load as load_of};
 ghost use Rattle.drm_table.specs.Building.{RefusesToBuild};
 ghost use Rattle.drm_state.specs.Plans.{DepsCover, all_named};
-ghost use Rattle.drm_state.specs.Grows.{Grows};
 ghost use Rattle.drm_state.specs.Lawful.{IsLawfulDevice};
 ghost use Rattle.drm_state.specs.Held.{HaveRoom, buffers_of, kept_of, armed_held, AllFit};
 ghost use Rattle.drm_state.specs.Keeps.{Keeps, KeepsBut, KeepsArmed, word_of};
@@ -18,17 +15,17 @@ ghost use Rattle.drm_state.specs.Writers.{HaveEnded};
 ghost use Rattle.drm_state.specs.Reservation.{Fits};
 ghost use Rattle.drm_state.specs.declared.answer.Refusal.TheVariants as refusal;
 ghost use Rattle.drm_job.specs.Fault.{IsJob};
-ghost use Rattle.drm_state.specs.Outcomes.{pick_outcome, step_outcome, finish_outcome, timeout_outcome, cancelled_device, reap_outcome};
-ghost use Rattle.drm_state.specs.Refusals.{arm_refusal, busy_fence, pick_refusal, step_refusal, finish_refusal, cancel_refusal, reap_refusal};
+ghost use Rattle.drm_state.specs.Refusals.{arm_refusal, busy_fence};
 ghost use Rattle.drm_state.specs.State.{opened_device};
-ghost use Rattle.drm_sched.specs.Begun.{HasBegun, IsReport, HasReported, KeepsTasks, MayRun, out_or, MayComeBack};
+ghost use Rattle.drm_sched.specs.Begun.{IsReport, HasReported, KeepsTasks, MayRun, out_or, MayComeBack};
+ghost use Rattle.drm_sched.specs.Calls.{PickIs, StepIs, FinishIs, TimeoutIs, CancelIs, ReapIs, BeginIs, ArmIs, ArmRefused, StaysLawful};
 ghost use Rattle.drm_sched.specs.Marks.{is_in_way, is_out, ring_out, unmarked, IsSteadyMarked};
 ghost use Rattle.drm_state.specs.Steady.{IsSteady};
 ghost use Rattle.drm_state.specs.Records.{fence_state_of};
-ghost use Rattle.drm_state.specs.Errors.{refusal_of_arm, refusal_of_cancel, refusal_of_finish, refusal_of_pick, refusal_of_read, refusal_of_reap, refusal_of_step, refusal_of_timeout};
+ghost use Rattle.drm_state.specs.Errors.{refusal_of_arm, refusal_of_read};
 
-use crate::marked::{Begun, MarkedTable};
-use crate::scheduler::Scheduler;
+use crate::outside::Begun;
+use crate::parts::Parts;
 use drm_buffer::Buffer;
 use drm_fence::Timeline;
 use drm_job::Job;
@@ -52,19 +49,18 @@ use std::marker::Model;
 /// `build` takes memory.
 #[derive(Drop)]
 pub struct Device {
-    parts: Box<Scheduler>,
+    parts: Box<Parts>,
 }
 
 impl Model for Device {
     ghost use Rattle.drm_sched.specs.Marks.{MarkedDevice};
-    ghost use Rattle.drm_sched.specs.MarkedTables.{marked_of, IsWholeMarked};
-    ghost use Rattle.drm_sched.specs.Schedulers.{HasHeads};
+    ghost use Rattle.drm_sched.specs.Parts.{marked_of, IsWholeMarked, HasHeads};
 
     ghost Value = { MarkedDevice };
 
-    ghost view = { λ d. marked_of d.parts.value.marked };
+    ghost view = { λ d. marked_of d.parts.value };
 
-    ghost invariant = { λ d. IsWholeMarked d.parts.value.marked × HasHeads d.parts.value };
+    ghost invariant = { λ d. IsWholeMarked d.parts.value × HasHeads d.parts.value };
 }
 
 impl Device {
@@ -81,7 +77,7 @@ impl Device {
         if let Err(bad) = spec.check() {
             return Err(BuildError::Spec(bad));
         }
-        match Scheduler::open(alloc, spec) {
+        match Parts::open(alloc, spec) {
             Ok(parts) => Ok(Device { parts }),
             Err(AllocError) => Err(BuildError::Memory),
         }
@@ -90,11 +86,8 @@ impl Device {
     /// Gives the ring the job that it takes next, if it fits (`drm_sched_run_job_work`).
     pub fn pick(&mut self, ring: RingId, now: Moment) -> Result<Picked, PickError>
         requires there { ring < length self.old.state.spec.rings }
-        ensures picked { IfOk result (λ p. (pick_refusal self.old.state ring ≡ None) × (pick_outcome self.old.state ring now ≡ (picked p, self.new.state))) }
-        ensures refused { IfErr result (λ r. (pick_refusal self.old.state ring ≡ Some (refusal_of_pick r)) × (self.new ≡ self.old)) }
-        ensures marks { self.new.marks ≡ self.old.marks }
-        ensures lawful { IsLawfulDevice self.new.state }
-        ensures grows { Grows self.old.state self.new.state }
+        ensures call { PickIs ring now result self.old self.new }
+        ensures sound { StaysLawful self.old.state self.new.state }
         ensures keeps { Keeps self.old.state self.new.state }
     {
         self.parts.pick(ring, now)
@@ -108,11 +101,8 @@ impl Device {
     /// job has packets left.
     pub fn step(&mut self, ring: RingId) -> Result<Stepped, StepError>
         requires there { ring < length self.old.state.spec.rings }
-        ensures ran { IfOk result (λ s. (out_or (is_in_way self.old ring) (step_refusal self.old.state ring) ≡ None) × (step_outcome self.old.state ring ≡ (stepped s, self.new.state))) }
-        ensures refused { IfErr result (λ r. (out_or (is_in_way self.old ring) (step_refusal self.old.state ring) ≡ Some (refusal_of_step r)) × (self.new ≡ self.old)) }
-        ensures marks { self.new.marks ≡ self.old.marks }
-        ensures lawful { IsLawfulDevice self.new.state }
-        ensures grows { Grows self.old.state self.new.state }
+        ensures call { StepIs ring result self.old self.new }
+        ensures sound { StaysLawful self.old.state self.new.state }
         ensures keeps { Keeps self.old.state self.new.state }
     {
         self.parts.step(ring)
@@ -126,12 +116,11 @@ impl Device {
     /// Those of `step`.
     pub fn begin_step(&mut self, ring: RingId) -> Result<Begun, StepError>
         requires there { ring < length self.old.state.spec.rings }
-        ensures begun { IfOk result (λ b. (out_or (is_in_way self.old ring) (step_refusal self.old.state ring) ≡ None) × HasBegun self.old ring b self.new) }
+        ensures call { BeginIs ring result self.old self.new }
         ensures state { self.new.state ≡ self.old.state }
         ensures runs { IfOk result MayRun }
         ensures back { IfOk result (MayComeBack self.new ring) }
         ensures tasks { KeepsTasks self.old ring self.new }
-        ensures refused { IfErr result (λ r. (out_or (is_in_way self.old ring) (step_refusal self.old.state ring) ≡ Some (refusal_of_step r)) × (self.new ≡ self.old)) }
     {
         self.parts.begin_step(ring)
     }
@@ -141,7 +130,7 @@ impl Device {
         requires there { ring < length self.now.state.spec.rings }
         ensures { result ≡ ring_out self.now ring }
     {
-        self.parts.marked.has_out(ring)
+        self.parts.has_out(ring)
     }
 
     /// Whether a packet that is out keeps the ring from a step: its own, or one that has a buffer of its next packet.
@@ -149,7 +138,7 @@ impl Device {
         requires there { ring < length self.now.state.spec.rings }
         ensures { result ≡ is_in_way self.now ring }
     {
-        self.parts.marked.is_in_way(ring)
+        self.parts.is_in_way(ring)
     }
 
     /// Whether the buffer is out with a packet.
@@ -157,7 +146,7 @@ impl Device {
         requires there { buffer < length self.now.state.memory }
         ensures { result ≡ is_out self.now buffer }
     {
-        self.parts.marked.table.memory.is_out(buffer)
+        self.parts.table.memory.is_out(buffer)
     }
 
     /// Takes back the packet that the ring has out, once it ran on its buffers (`drm_sched_job_done_cb`, by which the
@@ -170,10 +159,9 @@ impl Device {
         read: Option<Buffer>,
     ) -> (FenceId, u32)
         requires busy { IsReport self.old ring write read }
-        ensures reported { HasReported self.old ring result self.new }
+        ensures call { HasReported self.old ring result self.new }
         ensures tasks { KeepsTasks self.old ring self.new }
-        ensures lawful { IsLawfulDevice self.new.state }
-        ensures grows { Grows self.old.state self.new.state }
+        ensures sound { StaysLawful self.old.state self.new.state }
         ensures keeps { Keeps self.old.state self.new.state }
     {
         self.parts.report(ring, write, read)
@@ -186,11 +174,8 @@ impl Device {
     /// `PacketOut` where the ring has a packet out; else `Idle` where nothing is pending, or `NotComplete`.
     pub fn finish(&mut self, ring: RingId, now: Moment) -> Result<Finished, FinishError>
         requires there { ring < length self.old.state.spec.rings }
-        ensures finished { IfOk result (λ f. (out_or (ring_out self.old ring) (finish_refusal self.old.state ring) ≡ None) × (finish_outcome self.old.state ring now ≡ (finished f, self.new.state))) }
-        ensures refused { IfErr result (λ r. (out_or (ring_out self.old ring) (finish_refusal self.old.state ring) ≡ Some (refusal_of_finish r)) × (self.new ≡ self.old)) }
-        ensures marks { self.new.marks ≡ self.old.marks }
-        ensures lawful { IsLawfulDevice self.new.state }
-        ensures grows { Grows self.old.state self.new.state }
+        ensures call { FinishIs ring now result self.old self.new }
+        ensures sound { StaysLawful self.old.state self.new.state }
         ensures keeps { MatchResult result (λ f. KeepsBut f.fence (word_of (Ended f.outcome)) self.old.state self.new.state) (λ r. Keeps self.old.state self.new.state) }
     {
         self.parts.finish(ring, now)
@@ -204,11 +189,8 @@ impl Device {
     /// `PacketOut` where the ring has a packet out.
     pub fn timeout(&mut self, ring: RingId, now: Moment) -> Result<Expired, TimeoutError>
         requires there { ring < length self.old.state.spec.rings }
-        ensures expired { IfOk result (λ e. (out_or (ring_out self.old ring) None ≡ None) × (timeout_outcome self.old.state ring now ≡ (timed_out e, self.new.state))) }
-        ensures refused { IfErr result (λ r. (out_or (ring_out self.old ring) None ≡ Some (refusal_of_timeout r)) × (self.new ≡ self.old)) }
-        ensures marks { self.new.marks ≡ self.old.marks }
-        ensures lawful { IsLawfulDevice self.new.state }
-        ensures grows { Grows self.old.state self.new.state }
+        ensures call { TimeoutIs ring now result self.old self.new }
+        ensures sound { StaysLawful self.old.state self.new.state }
         ensures keeps { Keeps self.old.state self.new.state }
     {
         self.parts.timeout(ring, now)
@@ -217,11 +199,8 @@ impl Device {
     /// Stops the entity (`drm_sched_entity_kill`). Its queued jobs stay, and end one after another as they are reaped.
     pub fn cancel(&mut self, entity: EntityId) -> Result<(), CancelError>
         requires there { entity < length self.old.state.spec.entities }
-        ensures stopped { OnOk result ((cancel_refusal self.old.state entity ≡ None) × (self.new.state ≡ cancelled_device self.old.state entity)) }
-        ensures refused { IfErr result (λ r. (cancel_refusal self.old.state entity ≡ Some (refusal_of_cancel r)) × (self.new ≡ self.old)) }
-        ensures marks { self.new.marks ≡ self.old.marks }
-        ensures lawful { IsLawfulDevice self.new.state }
-        ensures grows { Grows self.old.state self.new.state }
+        ensures call { CancelIs entity result self.old self.new }
+        ensures sound { StaysLawful self.old.state self.new.state }
         ensures keeps { Keeps self.old.state self.new.state }
     {
         self.parts.cancel(entity)
@@ -231,11 +210,8 @@ impl Device {
     /// (`drm_sched_entity_kill_jobs_cb`).
     pub fn reap(&mut self, entity: EntityId) -> Result<FenceId, ReapError>
         requires there { entity < length self.old.state.spec.entities }
-        ensures reaped { IfOk result (λ f. (reap_refusal self.old.state entity ≡ None) × (reap_outcome self.old.state entity ≡ (answer.Reaped f, self.new.state))) }
-        ensures refused { IfErr result (λ r. (reap_refusal self.old.state entity ≡ Some (refusal_of_reap r)) × (self.new ≡ self.old)) }
-        ensures marks { self.new.marks ≡ self.old.marks }
-        ensures lawful { IsLawfulDevice self.new.state }
-        ensures grows { Grows self.old.state self.new.state }
+        ensures call { ReapIs entity result self.old self.new }
+        ensures sound { StaysLawful self.old.state self.new.state }
         ensures keeps { MatchResult result (λ f. KeepsBut f 4 self.old.state self.new.state) (λ r. Keeps self.old.state self.new.state) }
     {
         self.parts.reap(entity)
@@ -253,22 +229,21 @@ impl Device {
         requires job { IsJob self.old.state.spec plan.job }
         requires covers { DepsCover self.old.state plan.job plan.deps }
         requires room { HaveRoom plan.job held.old.items }
-        ensures armed { IfOk result (λ fence. (arm_refusal self.old.state plan.job ≡ None) × (fence ≡ length self.old.state.journal) × (self.new.state ≡ armed_device self.old.state plan.job)) }
+        ensures armed { IfOk result (λ fence. ArmIs plan.job fence self.old self.new) }
         ensures held { OnOk result (kept_of held.new.items ≡ armed_held self.old.state.journal plan.job (kept_of held.old.items)) }
         ensures order { buffers_of held.new.items ≡ buffers_of held.old.items }
         ensures fit { OnOk result (AllFit self.old.state.journal (kept_of held.old.items) → AllFit self.new.state.journal (kept_of held.new.items)) }
-        ensures refused { IfErr result (λ back. (arm_refusal self.old.state plan.job ≡ Some (refusal_of_arm back.1)) × (back.0 ≡ plan) × (self.new ≡ self.old) × (held.new ≡ held.old)) }
+        ensures refused { IfErr result (λ back. ArmRefused plan.job back.1 self.old self.new × (back.0 ≡ plan) × (held.new ≡ held.old)) }
         ensures marks { self.new.marks ≡ self.old.marks }
-        ensures lawful { IsLawfulDevice self.new.state }
-        ensures grows { Grows self.old.state self.new.state }
+        ensures sound { StaysLawful self.old.state self.new.state }
         ensures keeps { IfOk result (λ fence. KeepsArmed plan.job fence self.old.state self.new.state) }
     {
-        if let Some(error) = self.parts.marked.table.arm_refusal(&plan.job) {
+        if let Some(error) = self.parts.table.arm_refusal(&plan.job) {
             return Err((plan, error));
         }
         let fence = self.armed();
         let parts = &mut *self.parts;
-        add_held_uses(held, &plan.job, fence, &parts.marked.table.fences);
+        add_held_uses(held, &plan.job, fence, &parts.table.fences);
         Ok(parts.arm(plan.job, &mut plan.deps))
     }
 
@@ -277,7 +252,7 @@ impl Device {
     pub fn arm_refusal(&self, job: &Job) -> Option<ArmError>
         ensures { option_map refusal_of_arm result ≡ arm_refusal self.now.state job.now }
     {
-        self.parts.marked.table.arm_refusal(job)
+        self.parts.table.arm_refusal(job)
     }
 
     /// Arms a job that nothing refuses, for an owner of reservations that adds its uses to them itself (`add_use`, with
@@ -287,12 +262,9 @@ impl Device {
         requires job { IsJob self.old.state.spec job }
         requires covers { DepsCover self.old.state job deps.old }
         requires may { arm_refusal self.old.state job ≡ None }
-        ensures number { result ≡ length self.old.state.journal }
-        ensures armed { self.new.state ≡ armed_device self.old.state job }
+        ensures call { ArmIs job result self.old self.new }
         ensures named { deps.new ≡ all_named self.old.state.journal deps.old job.after }
-        ensures marks { self.new.marks ≡ self.old.marks }
-        ensures lawful { IsLawfulDevice self.new.state }
-        ensures grows { Grows self.old.state self.new.state }
+        ensures sound { StaysLawful self.old.state self.new.state }
         ensures keeps { KeepsArmed job result self.old.state self.new.state }
     {
         self.parts.arm(job, deps)
@@ -314,7 +286,7 @@ impl Device {
         ensures busy { IfErr result (λ r. (out_or (is_out self.now buffer) (option_map refusal.Busy (busy_fence self.now.state.journal resv.now.kept)) ≡ Some (refusal_of_read r)) × (out.new ≡ out.old)) }
         ensures writing { IfErr result (λ r. is_out self.now buffer ≡ false → HaveEnded buffer self.now.state.journal → ⊥) }
     {
-        let table = &self.parts.marked.table;
+        let table = &self.parts.table;
         if table.memory.is_out(buffer) {
             return Err(ReadError::PacketOut);
         }
@@ -332,7 +304,7 @@ impl Device {
         ensures value { result.now ≡ self.now.state.spec }
         ensures buffers { length self.now.state.memory ≡ length self.now.state.spec.buffers }
     {
-        &self.parts.marked.table.spec
+        &self.parts.table.spec
     }
 
     /// The bytes of the buffer, at this moment.
@@ -341,7 +313,7 @@ impl Device {
         requires inside { is_out self.now buffer ≡ false }
         ensures { result.now ≡ bytes_of self.now.state.memory buffer }
     {
-        self.parts.marked.table.memory.bytes(buffer)
+        self.parts.table.memory.bytes(buffer)
     }
 
     /// The status of the job's finished fence (`dma_fence_get_status`), as `Phase::status` tells it. `None` where no
@@ -349,7 +321,7 @@ impl Device {
     pub fn status(&self, fence: FenceId) -> Option<i32>
         ensures { MatchOption result (slice_get self.now.state.journal fence ≡ None) (λ s. option_map (λ r. status_of r.phase) (slice_get self.now.state.journal fence) ≡ Some s) }
     {
-        let table = &self.parts.marked.table;
+        let table = &self.parts.table;
         match table.journal.get(fence as usize) {
             Some(record) => Some(record.phase.status()),
             None => None,
@@ -360,21 +332,21 @@ impl Device {
     pub fn fences(&self) -> &Timeline
         ensures { result.now.list ≡ map fence_state_of self.now.state.journal }
     {
-        &self.parts.marked.table.fences
+        &self.parts.table.fences
     }
 
     /// How many jobs were armed: the number that the next one gets.
     pub fn armed(&self) -> u32
         ensures { result ≡ length self.now.state.journal }
     {
-        self.parts.marked.table.journal.len() as u32
+        self.parts.table.journal.len() as u32
     }
 
     /// How many jobs have an outcome: their finished fences are signaled (`dma_fence_is_signaled`).
     pub fn ended(&self) -> u32
         ensures { result ≡ length (filter (λ r. has_ended r.phase) self.now.state.journal) }
     {
-        self.parts.marked.table.loads.ended
+        self.parts.table.loads.ended
     }
 
     /// What holds of every device at every moment, for a caller that keeps more over it and has changed it. The call does
@@ -385,7 +357,7 @@ impl Device {
         ensures sizes { sizes_of self.now.state.memory ≡ sizes_of self.now.state.spec.buffers }
         ensures marked { IsSteadyMarked self.now }
     {
-        let _spec = &self.parts.marked.table.spec;
+        let _spec = &self.parts.table.spec;
     }
 
     /// How many jobs are queued for the ring or pending on it: those of its records that have no outcome (the `score`
@@ -394,19 +366,14 @@ impl Device {
         requires there { ring < length self.now.state.spec.rings }
         ensures { result ≡ load_of self.now.state.journal ring }
     {
-        self.parts.marked.table.load(ring)
+        self.parts.table.load(ring)
     }
 
     /// What is known of the job of this number, where it is armed.
     pub fn record(&self, fence: FenceId) -> Option<&JobRecord>
         ensures { MatchOption result (slice_get self.now.state.journal fence ≡ None) (λ r. slice_get self.now.state.journal fence ≡ Some r.now) }
     {
-        self.parts
-            .marked
-            .table
-            .journal
-            .as_slice()
-            .get(fence as usize)
+        self.parts.table.journal.as_slice().get(fence as usize)
     }
 
     /// Takes the device apart (`drm_sched_fini`), and takes no memory. A buffer that is out is still with who runs its
@@ -420,8 +387,7 @@ impl Device {
         ensures sizes { sizes_of self.state.memory ≡ sizes_of self.state.spec.buffers }
     {
         let Device { parts } = self;
-        let Scheduler { marked, .. } = Box::into_inner(parts);
-        let MarkedTable { table, .. } = marked;
+        let Parts { table, .. } = Box::into_inner(parts);
         let Table {
             spec,
             memory,

@@ -1,16 +1,33 @@
 //! A device (`drm_gpu_scheduler` with its entities and rings): its memory, its armed jobs, their fences, and which job
 //! a ring takes next.
 //!
+//! ```text
+//!               entity            run queue            ring
+//!   arm   +----------------+   +--------------+   +----------------+
+//!  -----> | job, job, head |-->| heads by     |-->| head, job, job |--> fence of the head
+//!         +----------------+   | priority and |   | runs packet by |    has its outcome
+//!         +----------------+   | number; the  |   | packet, here   |
+//!         | job, head      |-->| ready ones   |   | or outside     |
+//!         +----------------+   +--------------+   +----------------+
+//!           cancel, reap             pick           step, timeout     finish
+//! ```
+//!
+//! An armed job waits in the queue of its entity. The first one of each queue, where the entity is not stopped, is in
+//! the run queue of its ring, and ready once all that it waits for is met. A pick gives the ring the first ready one, if
+//! its credits fit; it is pending then, behind those that the ring has. The ring runs the packets of its jobs one after
+//! another, by steps or beside the device, and ends its head once that is complete.
+//!
 //! Contracts see a `Device` as its state, with the mark of each packet that is out of it. Each call promises what its
-//! definition says (`drm_state/specs/Refusals`, `Outcomes`), and that the state which it leads to is lawful
-//! (`drm_state/specs/Lawful`): memory is that of the machine that runs the armed jobs one after another. No call but
-//! `build` takes memory.
+//! word says (`specs/Calls`, by the definitions of `drm_state/specs/Refusals` and `Outcomes`), and that the state which
+//! it leads to is lawful (`drm_state/specs/Lawful`): memory is that of the machine that runs the armed jobs one after
+//! another. `Parts` has the bodies of the calls, and `Device` keeps what they need in one type. No call but `build`
+//! takes memory.
 #![tactic(auto)]
 
 mod device_calls;
 mod heads;
-mod marked;
-mod scheduler;
+mod outside;
+mod parts;
 
 pub use device_calls::Device;
 pub use drm_state::{
@@ -20,4 +37,4 @@ pub use drm_state::{
     reads_wait_for_writers,
 };
 pub use drm_table::{BuildError, Closed};
-pub use marked::Begun;
+pub use outside::Begun;

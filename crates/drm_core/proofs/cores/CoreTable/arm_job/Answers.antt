@@ -24,7 +24,7 @@ returns-clause-armed c =
     let fs = c.fences.result.now.list in
     (core_armed c.device_laws.ensures t c.arm_job.new.self (with_items t.reservations c.add_uses.new.reservations) c.args.job fs c.requires.core c.requires.job c.fences.ensures
     (uses_in_vector t (has_ended_at fs) c.armed-fence.result c.args.job c.deref_mut.result.now c.add_uses.new.reservations c.armed-fence.ensures c.deref_mut.ensures.value c.add_uses.ensures)
-    c.arm_job.ensures.armed c.arm_job.ensures.marks c.requires.apart).0
+    c.arm_job.ensures.call.armed c.arm_job.ensures.call.marks c.requires.apart).0
 
 pub returns-clause-core : goal.returns-clause-core
 returns-clause-core c =
@@ -32,4 +32,7 @@ returns-clause-core c =
     let fs = c.fences.result.now.list in
     (core_armed c.device_laws.ensures t c.arm_job.new.self (with_items t.reservations c.add_uses.new.reservations) c.args.job fs c.requires.core c.requires.job c.fences.ensures
     (uses_in_vector t (has_ended_at fs) c.armed-fence.result c.args.job c.deref_mut.result.now c.add_uses.new.reservations c.armed-fence.ensures c.deref_mut.ensures.value c.add_uses.ensures)
-    c.arm_job.ensures.armed c.arm_job.ensures.marks c.requires.apart).1
+    c.arm_job.ensures.call.armed c.arm_job.ensures.call.marks c.requires.apart).1
+
+pub returns-clause-number : goal.returns-clause-number
+returns-clause-number c = c.arm_job.ensures.call.number

@@ -1,5 +1,5 @@
 use Rattle.drm_gpu.specs.Answers.{CancelIs}
-use Rattle.drm_gpu.proofs.Called.{called, cancel_is}
+use Rattle.drm_gpu.proofs.Called.{called}
 use Rattle.drm_gpu.proofs.Chains.{pass_left}
 use Rattle.drm_gpu.proofs.gpu.Gpu.cancel.Goals as goal
 
@@ -9,8 +9,7 @@ returns g c =
     let a = c.cancel-answer in
     record {
       call = called (CancelIs c.args.entity a.result) c.args.self.now c.args.pass.now c.pass.inside.seat.place.table_id c.pass.inside.seat c.enter-device.new.seat c.leave.new.seat d c.of-found.result.value a.new.self
-          c.pass.view_is c.requires.pass c.enter-device.ensures.found c.enter-device.ensures.same c.of-found.ensures a.ensures.grows c.leave.ensures.seat c.leave.ensures.call
-          (cancel_is d a.new.self c.args.entity a.result a.ensures.stopped a.ensures.refused a.ensures.marks);
+          c.pass.view_is c.requires.pass c.enter-device.ensures.found c.enter-device.ensures.same c.of-found.ensures a.ensures.sound.grows c.leave.ensures.seat c.leave.ensures.call a.ensures.call;
     }
 
 pub invariant_of-pass : goal.invariant_of-pass

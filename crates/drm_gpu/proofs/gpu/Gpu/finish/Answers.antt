@@ -1,13 +1,9 @@
-use Rattle.std.proofs.Common.{Ok, Err, Some, None, subst, sym}
-use Rattle.drm_state.specs.Errors.{refusal_of_finish}
-use Rattle.drm_sched.specs.Marks.{ring_out}
-use Rattle.drm_state.specs.Refusals.{finish_refusal}
+use Rattle.std.proofs.Common.{Ok, Err, subst, sym}
 use Rattle.drm_state.specs.Held.{kept_of}
 use Rattle.drm_state.specs.Keeps.{KeepsBut}
 use Rattle.drm_gpu.specs.Answers.{FinishIs}
 use Rattle.drm_gpu.specs.Submissions.{KeepsOthers}
 use Rattle.drm_gpu.proofs.Called.{called}
-use Rattle.drm_gpu.proofs.Packets.{not_out}
 use Rattle.drm_gpu.proofs.Chains.{pass_left}
 use Rattle.drm_gpu.proofs.Holders.{fits_but, keeps_but}
 use Rattle.drm_gpu.proofs.gpu.Gpu.finish.Goals as goal
@@ -18,8 +14,8 @@ returns-in-Ok g c =
     let a = c.finish in
     record {
       call = called (FinishIs c.args.ring c.args.now (Ok c.in-Ok.done)) c.args.self.now c.args.pass.now c.pass.inside.seat.place.table_id c.pass.inside.seat c.enter_for-device.new.seat c.show_and_leave.new.seat d c.of-found.result.value a.new.self
-          c.pass.view_is c.requires.pass c.enter_for-device.ensures.found c.enter_for-device.ensures.same c.of-found.ensures a.ensures.grows c.show_and_leave.ensures.seat c.show_and_leave.ensures.call
-          (c.enter_for-device.ensures.free, not_out (ring_out d c.args.ring) (finish_refusal d.state c.args.ring) None c.enter_for-device.ensures.free c.in-Ok.ensures.finished.0, c.in-Ok.ensures.finished.1, a.ensures.marks);
+          c.pass.view_is c.requires.pass c.enter_for-device.ensures.found c.enter_for-device.ensures.same c.of-found.ensures a.ensures.sound.grows c.show_and_leave.ensures.seat c.show_and_leave.ensures.call
+          (c.enter_for-device.ensures.free, c.in-Ok.ensures.call);
     }
 
 pub returns : goal.returns
@@ -28,8 +24,8 @@ returns g c =
     let a = c.finish in
     record {
       call = called (FinishIs c.args.ring c.args.now (Err c.in-Err.error)) c.args.self.now c.args.pass.now c.pass.inside.seat.place.table_id c.pass.inside.seat c.enter_for-device.new.seat c.leave.new.seat d c.of-found.result.value a.new.self
-          c.pass.view_is c.requires.pass c.enter_for-device.ensures.found c.enter_for-device.ensures.same c.of-found.ensures a.ensures.grows c.leave.ensures.seat c.leave.ensures.call
-          (c.enter_for-device.ensures.free, not_out (ring_out d c.args.ring) (finish_refusal d.state c.args.ring) (Some (refusal_of_finish c.in-Err.error)) c.enter_for-device.ensures.free c.in-Err.ensures.refused.0, c.in-Err.ensures.refused.1);
+          c.pass.view_is c.requires.pass c.enter_for-device.ensures.found c.enter_for-device.ensures.same c.of-found.ensures a.ensures.sound.grows c.leave.ensures.seat c.leave.ensures.call
+          (c.enter_for-device.ensures.free, c.in-Err.ensures.call);
     }
 
 pub invariant_of-pass-in-Err : goal.invariant_of-pass-in-Err

@@ -13,8 +13,7 @@ returns-in-Ok g c =
     let a = c.reap in
     record {
       call = called (ReapIs c.args.entity (Ok c.in-Ok.fence)) c.args.self.now c.args.pass.now c.pass.inside.seat.place.table_id c.pass.inside.seat c.enter-device.new.seat c.show_and_leave.new.seat d c.of-found.result.value a.new.self
-          c.pass.view_is c.requires.pass c.enter-device.ensures.found c.enter-device.ensures.same c.of-found.ensures a.ensures.grows c.show_and_leave.ensures.seat c.show_and_leave.ensures.call
-          (c.in-Ok.ensures.reaped.0, c.in-Ok.ensures.reaped.1, a.ensures.marks);
+          c.pass.view_is c.requires.pass c.enter-device.ensures.found c.enter-device.ensures.same c.of-found.ensures a.ensures.sound.grows c.show_and_leave.ensures.seat c.show_and_leave.ensures.call c.in-Ok.ensures.call;
     }
 
 pub returns : goal.returns
@@ -23,8 +22,7 @@ returns g c =
     let a = c.reap in
     record {
       call = called (ReapIs c.args.entity (Err c.in-Err.error)) c.args.self.now c.args.pass.now c.pass.inside.seat.place.table_id c.pass.inside.seat c.enter-device.new.seat c.leave.new.seat d c.of-found.result.value a.new.self
-          c.pass.view_is c.requires.pass c.enter-device.ensures.found c.enter-device.ensures.same c.of-found.ensures a.ensures.grows c.leave.ensures.seat c.leave.ensures.call
-          c.in-Err.ensures.refused;
+          c.pass.view_is c.requires.pass c.enter-device.ensures.found c.enter-device.ensures.same c.of-found.ensures a.ensures.sound.grows c.leave.ensures.seat c.leave.ensures.call c.in-Err.ensures.call;
     }
 
 pub invariant_of-pass-in-Err : goal.invariant_of-pass-in-Err

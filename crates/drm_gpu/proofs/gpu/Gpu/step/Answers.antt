@@ -3,7 +3,7 @@ use Rattle.ww_lock.specs.Seats.{sees}
 use Rattle.drm_state.specs.declared.errors.StepError.TheVariants.{Idle}
 use Rattle.drm_state.specs.declared.answer.Stepped.{Stepped}
 use Rattle.drm_state.specs.declared.answer.Stepped.TheVariants.{Stalled}
-use Rattle.drm_sched.specs.declared.marked.Begun.TheVariants.{Work}
+use Rattle.drm_sched.specs.declared.outside.Begun.TheVariants.{Work}
 use Rattle.drm_sched.specs.Begun.{HasBegun}
 use Rattle.drm_sched.specs.Marks.{MarkedDevice}
 use Rattle.drm_gpu.specs.declared.running.OutPacket.{OutPacket}

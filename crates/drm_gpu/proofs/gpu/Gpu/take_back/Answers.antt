@@ -40,7 +40,7 @@ returns-clause-call g c =
     let e = c.report.new.self in
     let out = c.requires.sent in
     let busy = c.enter-device.ensures.busy _ c.requires.has.waits in
-    let reported = subst (λ (o : OutPacket). HasReported d o.ring c.report.result e) c.requires.bytes c.report.ensures.reported in
+    let reported = subst (λ (o : OutPacket). HasReported d o.ring c.report.result e) c.requires.bytes c.report.ensures.call in
     let event = subst (λ (o : OutPacket). HasReported d o.ring (o.fence, o.packet) e) (sym c.requires.bytes) (reported_is d e out c.report.result busy reported) in
     calls_as (StepIs c.args.ran.out.ring (Ok (Ran c.args.ran.out.fence c.args.ran.out.packet))) (sees c.args.seat.now) (sees c.enter-device.new.seat) (sees c.leave_reported.new.seat) d c.of-found.result.value e
-    c.enter-device.ensures.found c.enter-device.ensures.same c.of-found.ensures c.report.ensures.grows c.leave_reported.ensures.seat.1 c.leave_reported.ensures.call event
+    c.enter-device.ensures.found c.enter-device.ensures.same c.of-found.ensures c.report.ensures.sound.grows c.leave_reported.ensures.seat.1 c.leave_reported.ensures.call event

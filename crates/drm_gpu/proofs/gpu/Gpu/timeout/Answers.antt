@@ -9,8 +9,8 @@ returns g c =
     let a = c.timeout in
     record {
       call = called (TimeoutIs c.args.ring c.args.now c.in-Ok.answer) c.args.self.now c.args.pass.now c.pass.inside.seat.place.table_id c.pass.inside.seat c.enter_for-device.new.seat c.leave.new.seat d c.of-found.result.value a.new.self
-          c.pass.view_is c.requires.pass c.enter_for-device.ensures.found c.enter_for-device.ensures.same c.of-found.ensures a.ensures.grows c.leave.ensures.seat c.leave.ensures.call
-          (c.enter_for-device.ensures.free, c.in-Ok.ensures.expired.1, a.ensures.marks);
+          c.pass.view_is c.requires.pass c.enter_for-device.ensures.found c.enter_for-device.ensures.same c.of-found.ensures a.ensures.sound.grows c.leave.ensures.seat c.leave.ensures.call
+          (c.enter_for-device.ensures.free, c.in-Ok.ensures.call);
     }
 
 pub invariant_of-pass : goal.invariant_of-pass

@@ -1,4 +1,4 @@
-use Rattle.std.proofs.Common.{◌≡◌, ◌∙◌, ap, sym, subst, true, Some, None, map}
+use Rattle.std.proofs.Common.{◌≡◌, ◌∙◌, ap, sym, subst, true, None, map}
 use Rattle.ww_lock.specs.Acquiring.{Holds, view}
 use Rattle.ww_lock.specs.Seats.{sees}
 use Rattle.ww_lock.specs.Steps.{number_of}
@@ -9,8 +9,6 @@ use Rattle.drm_state.specs.Collected.{CoverWhereFit}
 use Rattle.drm_state.specs.Held.{HaveRoom, HoldsAll, kept_of, armed_held}
 use Rattle.drm_state.specs.Keeps.{Keeps}
 use Rattle.drm_sched.specs.Marks.{MarkedDevice}
-use Rattle.drm_state.specs.Errors.{refusal_of_arm}
-use Rattle.drm_state.specs.Refusals.{arm_refusal}
 use Rattle.drm_gpu.specs.Passes.{Entered, Fitting, IsSameBut, pass_of}
 use Rattle.drm_gpu.specs.Submissions.{PlannedSubmission, DeviceAcquire, KeepsOthers, ArmIs, ArmRefused}
 use Rattle.drm_gpu.proofs.Grown.{keeps_itself}
@@ -93,10 +91,7 @@ returns-in-Ok-clause-armed g c =
     let fit : Fitting d (kept_of held.items) = subst (λ h. Fitting d (kept_of h.items)) c.enter-device.ensures.holds.0.1 c.enter-device.ensures.fit in
     let same = ap (λ (a : DeviceAcquire). view a) c.put_values.ensures.values ∙ ap (λ (a : DeviceAcquire). view a) c.take_values-held.ensures.left in
     let does : ArmIs job c.self.inside.plan.deps (kept_of held.items) (kept_of last.held.items) c.in-Ok.fence d e = record {
-      taken = c.in-Ok.ensures.armed.0;
-      number = c.in-Ok.ensures.armed.1;
-      armed = c.in-Ok.ensures.armed.2;
-      marks = c.arm-answer.ensures.marks;
+      call = c.in-Ok.ensures.armed;
       covers = c.self.invariant.4.in_each d.state c.enter-device.ensures.found.lawful
           (subst (λ (s : DeviceSpec). IsJob s job) (sym (c.enter-device.ensures.found.later.spec ∙ c.self.invariant.0.seat.knows.described)) c.self.invariant.2)
           (all_fit d (kept_of held.items) fit);
@@ -107,7 +102,7 @@ returns-in-Ok-clause-armed g c =
     called_with (ArmIs c.args.self.submission.job c.args.self.deps c.args.self.submission.held (kept_of last.held.items) c.in-Ok.fence) gpu c.args.self.submission.pass
     (view c.self.inside.acquire) (view c.put_values.new.self) (sees last) d c.of-found.result.value e
     (ap (λ (p : PlannedSubmission). p.submission.pass) c.self.view_is) c.self.invariant.0.seat.knows c.enter-device.ensures.found
-    (subst (λ v. IsSameBut (view c.self.inside.acquire) v) (sym same) c.enter-device.ensures.same) c.of-found.ensures c.arm-answer.ensures.grows
+    (subst (λ v. IsSameBut (view c.self.inside.acquire) v) (sym same) c.enter-device.ensures.same) c.of-found.ensures c.arm-answer.ensures.sound.grows
     c.show_and_leave.ensures.seat.0.knows c.show_and_leave.ensures.seat.1 c.show_and_leave.ensures.call
     (subst (λ (p : PlannedSubmission). ArmIs p.submission.job p.deps p.submission.held (kept_of last.held.items) c.in-Ok.fence d e) c.self.view_is does)
 
@@ -124,13 +119,13 @@ leave-requires-clause-entered g c =
 pub leave-requires-clause-fit : goal.leave-requires-clause-fit
 leave-requires-clause-fit g c =
     subst (λ d. Fitting d (kept_of c.put_values.new.self.seat.held.items)) (sym c.of-found.ensures)
-    (subst (λ h. Fitting c.enter-device.result (kept_of h.items)) (sym (ap (λ (a : DeviceAcquire). a.seat.held) c.put_values.ensures.values ∙ (c.in-Err.ensures.refused.3 ∙ c.take_values-held.ensures.values))) c.enter-device.ensures.fit)
+    (subst (λ h. Fitting c.enter-device.result (kept_of h.items)) (sym (ap (λ (a : DeviceAcquire). a.seat.held) c.put_values.ensures.values ∙ (c.in-Err.ensures.refused.2 ∙ c.take_values-held.ensures.values))) c.enter-device.ensures.fit)
 
 pub leave-requires-clause-keeps : goal.leave-requires-clause-keeps
 leave-requires-clause-keeps g c =
     let d = c.enter-device.result in
     subst (λ (x : MarkedDevice). Keeps x.state c.arm-answer.new.self.state) (sym c.of-found.ensures)
-    (subst (λ (x : MarkedDevice). Keeps d.state x.state) (sym c.in-Err.ensures.refused.2) (keeps_itself d))
+    (subst (λ (x : MarkedDevice). Keeps d.state x.state) (sym c.in-Err.ensures.refused.0.1) (keeps_itself d))
 
 pub invariant_of-result-in-Err : goal.invariant_of-result-in-Err
 invariant_of-result-in-Err g c =
@@ -139,7 +134,7 @@ invariant_of-result-in-Err g c =
     let plan : c.in-Err.plan ≡ c.self.inside.plan = c.in-Err.ensures.refused.1 in
     let taken = c.take_values-held.ensures.values ∙ c.enter-device.ensures.holds.0.1 in
     let last = c.leave.new.seat in
-    let back = c.leave.ensures.holds.0.1 ∙ (ap (λ (a : DeviceAcquire). a.seat.held) c.put_values.ensures.values ∙ (c.in-Err.ensures.refused.3 ∙ taken)) in
+    let back = c.leave.ensures.holds.0.1 ∙ (ap (λ (a : DeviceAcquire). a.seat.held) c.put_values.ensures.values ∙ (c.in-Err.ensures.refused.2 ∙ taken)) in
     let inside = inside_still gpu c.enter-device.result c.self.inside.acquire c.enter-device.new.seat c.self.invariant.0.own c.enter-device.ensures.holds c.enter-device.ensures.entered in
     let held : Holds true gpu.home put = c.put_values.ensures.holds true gpu.home (c.take_values-held.ensures.lent true gpu.home inside).0 in
     let idle : (view put).task ≡ None = ap (λ (a : DeviceAcquire). (view a).task) c.put_values.ensures.values ∙ (ap (λ (a : DeviceAcquire). (view a).task) c.take_values-held.ensures.left ∙ (c.enter-device.ensures.holds.1 ∙ c.self.invariant.0.idle)) in
@@ -166,11 +161,11 @@ returns-clause-refused g c =
     let job : c.in-Err.plan.job ≡ c.args.self.submission.job = ap (λ (p : Plan). p.job) refused.1 ∙ ap (λ (p : PlannedSubmission). p.submission.job) c.self.view_is in
     let deps : c.in-Err.plan.deps ≡ c.args.self.deps = ap (λ (p : Plan). p.deps) refused.1 ∙ ap (λ (p : PlannedSubmission). p.deps) c.self.view_is in
     let held : kept_of last.held.items ≡ c.args.self.submission.held =
-    ap (λ h. kept_of h.items) (c.leave.ensures.holds.0.1 ∙ (ap (λ (a : DeviceAcquire). a.seat.held) c.put_values.ensures.values ∙ (refused.3 ∙ taken))) ∙ ap (λ (p : PlannedSubmission). p.submission.held) c.self.view_is in (
+    ap (λ h. kept_of h.items) (c.leave.ensures.holds.0.1 ∙ (ap (λ (a : DeviceAcquire). a.seat.held) c.put_values.ensures.values ∙ (refused.2 ∙ taken))) ∙ ap (λ (p : PlannedSubmission). p.submission.held) c.self.view_is in (
       called_with (ArmRefused c.args.self.submission.job c.in-Err.error) gpu c.args.self.submission.pass (view c.self.inside.acquire) (view c.put_values.new.self) (sees last) d c.of-found.result.value e
           (ap (λ (p : PlannedSubmission). p.submission.pass) c.self.view_is) c.self.invariant.0.seat.knows c.enter-device.ensures.found
-          (subst (λ v. IsSameBut (view c.self.inside.acquire) v) (sym same) c.enter-device.ensures.same) c.of-found.ensures c.arm-answer.ensures.grows
+          (subst (λ v. IsSameBut (view c.self.inside.acquire) v) (sym same) c.enter-device.ensures.same) c.of-found.ensures c.arm-answer.ensures.sound.grows
           c.leave.ensures.seat.0.knows c.leave.ensures.seat.1 c.leave.ensures.call
-          (subst (λ (p : PlannedSubmission). arm_refusal d.state p.submission.job ≡ Some (refusal_of_arm c.in-Err.error)) c.self.view_is refused.0, refused.2),
+          (subst (λ (p : PlannedSubmission). ArmRefused p.submission.job c.in-Err.error d e) c.self.view_is refused.0),
       λ i. record { submission = record { pass = pass_of gpu.home (sees last); ticket = ticket i; job = job i; held = held i }; deps = deps i },
     )

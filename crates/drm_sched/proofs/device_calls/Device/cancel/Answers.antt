@@ -1,23 +1,20 @@
-use Rattle.std.proofs.Common.{rules, subst}
-use Rattle.drm_state.specs.Grows.{Grows}
-use Rattle.drm_state.specs.Keeps.{Keeps}
-use Rattle.drm_sched.specs.Marks.{MarkedDevice}
-use Rattle.drm_table.specs.Tables.{state_of}
-use Rattle.drm_sched.proofs.MarkedGrows.{cancel_grows}
-use Rattle.drm_sched.proofs.MarkedKeeps.{cancel_keeps_marked}
-use Rattle.drm_sched.proofs.SchedulerSame.{tables_left}
-use Rattle.drm_sched.proofs.Boxed.{view_read, whole_read}
+use Rattle.std.proofs.Common.{subst}
+use Rattle.drm_sched.specs.Calls.{CancelIs}
+use Rattle.drm_sched.specs.Marks.{IsSteadyMarked}
+use Rattle.drm_sched.specs.Parts.{marked_of}
+use Rattle.drm_sched.proofs.Boxed.{device_read}
+use Rattle.drm_sched.proofs.Calls.{after_cancel, cancel_keeps, stays_lawful}
 use Rattle.drm_sched.proofs.device_calls.Device.cancel.Goals as goal
 
-pub returns-clause-grows : goal.returns-clause-grows
-returns-clause-grows c =
-    subst (λ (d : MarkedDevice). Grows d.state (state_of c.cancel.new.self.marked.table)) (view_read c.deref_mut.ensures.value c.self.view_is)
-    (cancel_grows c.deref_mut.result.now.marked c.cancel.new.self.marked c.args.entity c.cancel.result (whole_read c.deref_mut.ensures.value c.self.invariant.0) c.cancel.ensures.stopped (tables_left c.cancel.result _ c.deref_mut.result.now c.cancel.new.self c.cancel.ensures.refused))
+pub returns-clause-call : goal.returns-clause-call
+returns-clause-call c = device_read (λ d. CancelIs c.args.entity c.cancel.result d (marked_of c.cancel.new.self)) c.deref_mut.ensures.value c.self.view_is c.cancel.ensures.call
+
+pub returns-clause-sound : goal.returns-clause-sound
+returns-clause-sound c =
+    let steady = subst IsSteadyMarked c.self.view_is c.self.invariant.0.steady in
+    stays_lawful (after_cancel c.args.self.now (marked_of c.cancel.new.self) c.args.entity c.cancel.result steady.state (returns-clause-call c))
 
 pub returns-clause-keeps : goal.returns-clause-keeps
 returns-clause-keeps c =
-    subst (λ (d : MarkedDevice). Keeps d.state (state_of c.cancel.new.self.marked.table)) (view_read c.deref_mut.ensures.value c.self.view_is)
-    (cancel_keeps_marked c.deref_mut.result.now.marked c.cancel.new.self.marked c.args.entity c.cancel.result (whole_read c.deref_mut.ensures.value c.self.invariant.0) c.cancel.ensures.stopped (tables_left c.cancel.result _ c.deref_mut.result.now c.cancel.new.self c.cancel.ensures.refused))
-
-pub returns-clause-stopped : goal.returns-clause-stopped
-returns-clause-stopped c = search rules
+    let steady = subst IsSteadyMarked c.self.view_is c.self.invariant.0.steady in
+    cancel_keeps c.args.self.now (marked_of c.cancel.new.self) c.args.entity c.cancel.result steady.state (returns-clause-call c)

@@ -9,6 +9,6 @@ use Rattle.drm_sched.proofs.device_calls.Device.ended.Goals as goal
 
 pub returns : goal.returns
 returns c =
-    let t = c.deref.result.now.marked.table in
+    let t = c.deref.result.now.table in
     subst (λ (d : MarkedDevice). t.loads.ended ≡ length (filter (λ (r : JobRecord). has_ended r.phase) d.state.journal)) (view_read c.deref.ensures c.self.view_is)
     ((whole_read c.deref.ensures c.self.invariant.0).table.loads.ended ∙ sym (ended_is t.journal.items))

@@ -6,4 +6,4 @@ use Rattle.drm_sched.proofs.device_calls.Device.fences.Goals as goal
 
 pub returns : goal.returns
 returns c =
-    subst (λ (d : MarkedDevice). c.deref.result.now.marked.table.fences.list ≡ map fence_state_of d.state.journal) (view_read c.deref.ensures c.self.view_is) (whole_read c.deref.ensures c.self.invariant.0).table.fences
+    subst (λ (d : MarkedDevice). c.deref.result.now.table.fences.list ≡ map fence_state_of d.state.journal) (view_read c.deref.ensures c.self.view_is) (whole_read c.deref.ensures c.self.invariant.0).table.fences

@@ -1,27 +1,21 @@
-use Rattle.std.proofs.Common.{rules, ◌<◌, length, sym, subst}
-use Rattle.std.specs.Prelude.{MatchResult}
-use Rattle.drm_fence.specs.declared.phase.Phase.TheVariants.{Ended}
-use Rattle.drm_state.specs.Grows.{Grows}
-use Rattle.drm_state.specs.Keeps.{word_of, Keeps, KeepsBut}
-use Rattle.drm_sched.specs.Marks.{MarkedDevice}
-use Rattle.drm_table.specs.Tables.{state_of}
-use Rattle.drm_sched.proofs.MarkedGrows.{finish_grows}
-use Rattle.drm_sched.proofs.MarkedKeeps.{finish_keeps_marked}
-use Rattle.drm_sched.proofs.SchedulerSame.{tables_left}
-use Rattle.drm_sched.proofs.Boxed.{view_read, whole_read}
+use Rattle.std.proofs.Common.{◌≤◌, length, subst}
+use Rattle.drm_sched.specs.Calls.{FinishIs}
+use Rattle.drm_sched.specs.Marks.{MarkedDevice, IsSteadyMarked}
+use Rattle.drm_sched.specs.Parts.{marked_of}
+use Rattle.drm_sched.proofs.Boxed.{device_read}
+use Rattle.drm_sched.proofs.Calls.{after_finish, finish_keeps, stays_lawful}
 use Rattle.drm_sched.proofs.device_calls.Device.finish.Goals as goal
 
-pub returns-clause-grows : goal.returns-clause-grows
-returns-clause-grows c =
-    subst (λ (d : MarkedDevice). Grows d.state (state_of c.finish.new.self.marked.table)) (view_read c.deref_mut.ensures.value c.self.view_is)
-    (finish_grows c.deref_mut.result.now.marked c.finish.new.self.marked c.args.ring c.args.now c.finish.result (whole_read c.deref_mut.ensures.value c.self.invariant.0)
-    (subst (λ (d : MarkedDevice). c.args.ring < length d.state.spec.rings) (sym (view_read c.deref_mut.ensures.value c.self.view_is)) c.requires.there) c.finish.ensures.finished (tables_left c.finish.result _ c.deref_mut.result.now c.finish.new.self c.finish.ensures.refused))
+pub returns-clause-call : goal.returns-clause-call
+returns-clause-call c = device_read (λ d. FinishIs c.args.ring c.args.now c.finish.result d (marked_of c.finish.new.self)) c.deref_mut.ensures.value c.self.view_is c.finish.ensures.call
+
+pub returns-clause-sound : goal.returns-clause-sound
+returns-clause-sound c =
+    let steady = subst IsSteadyMarked c.self.view_is c.self.invariant.0.steady in
+    stays_lawful (after_finish c.args.self.now (marked_of c.finish.new.self) c.args.ring c.args.now c.finish.result steady.state c.requires.there (returns-clause-call c))
 
 pub returns-clause-keeps : goal.returns-clause-keeps
 returns-clause-keeps c =
-    subst (λ (d : MarkedDevice). MatchResult c.finish.result (λ f. KeepsBut f.fence (word_of (Ended f.outcome)) d.state (state_of c.finish.new.self.marked.table)) (λ r. Keeps d.state (state_of c.finish.new.self.marked.table))) (view_read c.deref_mut.ensures.value c.self.view_is)
-    (finish_keeps_marked c.deref_mut.result.now.marked c.finish.new.self.marked c.args.ring c.args.now c.finish.result (whole_read c.deref_mut.ensures.value c.self.invariant.0)
-    (subst (λ (d : MarkedDevice). c.args.ring < length d.state.spec.rings) (sym (view_read c.deref_mut.ensures.value c.self.view_is)) c.requires.there) c.finish.ensures.finished (tables_left c.finish.result _ c.deref_mut.result.now c.finish.new.self c.finish.ensures.refused))
-
-pub returns-clause-refused : goal.returns-clause-refused
-returns-clause-refused c = search rules
+    let steady = subst IsSteadyMarked c.self.view_is c.self.invariant.0.steady in
+    let count = subst (λ (d : MarkedDevice). length d.state.journal ≤ d.state.spec.max_jobs) c.self.view_is c.self.invariant.0.table.count in
+    finish_keeps c.args.self.now (marked_of c.finish.new.self) c.args.ring c.args.now c.finish.result steady.state count c.requires.there (returns-clause-call c)

@@ -7,4 +7,4 @@ use Rattle.drm_sched.proofs.device_calls.Device.is_buffer_out.Goals as goal
 pub returns : goal.returns
 returns c =
     let there = subst (λ (d : MarkedDevice). c.args.buffer < length d.state.memory) (sym (view_read c.deref.ensures c.self.view_is)) c.requires.there in
-    c.is_out.ensures ∙ (says_out c.deref.result.now.marked c.args.buffer (whole_read c.deref.ensures c.self.invariant.0) there ∙ ap (λ (d : MarkedDevice). is_out d c.args.buffer) (view_read c.deref.ensures c.self.view_is))
+    c.is_out.ensures ∙ (says_out c.deref.result.now c.args.buffer (whole_read c.deref.ensures c.self.invariant.0) there ∙ ap (λ (d : MarkedDevice). is_out d c.args.buffer) (view_read c.deref.ensures c.self.view_is))

@@ -14,14 +14,14 @@ pub bytes-requires-clause-inside : goal.bytes-requires-clause-inside
 bytes-requires-clause-inside c =
     let there = subst (λ (d : MarkedDevice). c.args.buffer < length d.state.memory) (sym (view_read c.deref.ensures c.self.view_is)) c.requires.buffer in
     ap (λ (d : MarkedDevice). is_out d c.args.buffer) (sym (view_read c.deref.ensures c.self.view_is))
-    ∙ (sym (says_out c.deref.result.now.marked c.args.buffer (whole_read c.deref.ensures c.self.invariant.0) there) ∙ (sym c.is_out.ensures ∙ c.if-is_out.false))
+    ∙ (sym (says_out c.deref.result.now c.args.buffer (whole_read c.deref.ensures c.self.invariant.0) there) ∙ (sym c.is_out.ensures ∙ c.if-is_out.false))
 
 pub returns-then-is_out-clause-busy : goal.returns-then-is_out-clause-busy
 returns-then-is_out-clause-busy c =
     let there = subst (λ (d : MarkedDevice). c.args.buffer < length d.state.memory) (sym (view_read c.deref.ensures c.self.view_is)) c.requires.buffer in
     let out : is_out c.args.self.now c.args.buffer ≡ true =
     ap (λ (d : MarkedDevice). is_out d c.args.buffer) (sym (view_read c.deref.ensures c.self.view_is))
-    ∙ (sym (says_out c.deref.result.now.marked c.args.buffer (whole_read c.deref.ensures c.self.invariant.0) there) ∙ (sym c.is_out.ensures ∙ c.if-is_out.true)) in
+    ∙ (sym (says_out c.deref.result.now c.args.buffer (whole_read c.deref.ensures c.self.invariant.0) there) ∙ (sym c.is_out.ensures ∙ c.if-is_out.true)) in
     (ap (λ b. out_or b (option_map refusal.Busy (busy_fence c.args.self.now.state.journal c.args.resv.now.kept))) out, refl)
 
 pub returns-then-is_out-clause-writing : goal.returns-then-is_out-clause-writing
@@ -29,7 +29,7 @@ returns-then-is_out-clause-writing c free ended =
     let there = subst (λ (d : MarkedDevice). c.args.buffer < length d.state.memory) (sym (view_read c.deref.ensures c.self.view_is)) c.requires.buffer in
     let out : is_out c.args.self.now c.args.buffer ≡ true =
     ap (λ (d : MarkedDevice). is_out d c.args.buffer) (sym (view_read c.deref.ensures c.self.view_is))
-    ∙ (sym (says_out c.deref.result.now.marked c.args.buffer (whole_read c.deref.ensures c.self.invariant.0) there) ∙ (sym c.is_out.ensures ∙ c.if-is_out.true)) in
+    ∙ (sym (says_out c.deref.result.now c.args.buffer (whole_read c.deref.ensures c.self.invariant.0) there) ∙ (sym c.is_out.ensures ∙ c.if-is_out.true)) in
     cc (free, out)
 
 pub returns-in-Some-clause-busy : goal.returns-in-Some-clause-busy
@@ -37,7 +37,7 @@ returns-in-Some-clause-busy c =
     let there = subst (λ (d : MarkedDevice). c.args.buffer < length d.state.memory) (sym (view_read c.deref.ensures c.self.view_is)) c.requires.buffer in
     let inside : is_out c.args.self.now c.args.buffer ≡ false =
     ap (λ (d : MarkedDevice). is_out d c.args.buffer) (sym (view_read c.deref.ensures c.self.view_is))
-    ∙ (sym (says_out c.deref.result.now.marked c.args.buffer (whole_read c.deref.ensures c.self.invariant.0) there) ∙ (sym c.is_out.ensures ∙ c.if-is_out.false)) in
+    ∙ (sym (says_out c.deref.result.now c.args.buffer (whole_read c.deref.ensures c.self.invariant.0) there) ∙ (sym c.is_out.ensures ∙ c.if-is_out.false)) in
     let busy : busy_fence c.args.self.now.state.journal c.args.resv.now.kept ≡ Some c.in-Some.fence =
     ap (λ (d : MarkedDevice). busy_fence d.state.journal c.args.resv.now.kept) (sym (view_read c.deref.ensures c.self.view_is)) ∙ (sym c.busy_fence.ensures ∙ c.in-Some.is) in (
       ap (λ b. out_or b (option_map refusal.Busy (busy_fence c.args.self.now.state.journal c.args.resv.now.kept))) inside ∙ ap (option_map refusal.Busy) busy,
@@ -65,7 +65,7 @@ returns-in-None-clause-read c =
     let there = subst (λ (d : MarkedDevice). c.args.buffer < length d.state.memory) (sym (view_read c.deref.ensures c.self.view_is)) c.requires.buffer in
     let inside : is_out c.args.self.now c.args.buffer ≡ false =
     ap (λ (d : MarkedDevice). is_out d c.args.buffer) (sym (view_read c.deref.ensures c.self.view_is))
-    ∙ (sym (says_out c.deref.result.now.marked c.args.buffer (whole_read c.deref.ensures c.self.invariant.0) there) ∙ (sym c.is_out.ensures ∙ c.if-is_out.false)) in
+    ∙ (sym (says_out c.deref.result.now c.args.buffer (whole_read c.deref.ensures c.self.invariant.0) there) ∙ (sym c.is_out.ensures ∙ c.if-is_out.false)) in
     let free : busy_fence c.args.self.now.state.journal c.args.resv.now.kept ≡ None =
     ap (λ (d : MarkedDevice). busy_fence d.state.journal c.args.resv.now.kept) (sym (view_read c.deref.ensures c.self.view_is)) ∙ (sym c.busy_fence.ensures ∙ c.in-None.is) in
     (inside, free, search rules)

@@ -1,24 +1,21 @@
-use Rattle.std.proofs.Common.{rules, subst}
-use Rattle.std.specs.Prelude.{MatchResult}
-use Rattle.drm_state.specs.Grows.{Grows}
-use Rattle.drm_state.specs.Keeps.{Keeps, KeepsBut}
-use Rattle.drm_sched.specs.Marks.{MarkedDevice}
-use Rattle.drm_table.specs.Tables.{state_of}
-use Rattle.drm_sched.proofs.MarkedGrows.{reap_grows}
-use Rattle.drm_sched.proofs.MarkedKeeps.{reap_keeps_marked}
-use Rattle.drm_sched.proofs.SchedulerSame.{tables_left}
-use Rattle.drm_sched.proofs.Boxed.{view_read, whole_read}
+use Rattle.std.proofs.Common.{◌≤◌, length, subst}
+use Rattle.drm_sched.specs.Calls.{ReapIs}
+use Rattle.drm_sched.specs.Marks.{MarkedDevice, IsSteadyMarked}
+use Rattle.drm_sched.specs.Parts.{marked_of}
+use Rattle.drm_sched.proofs.Boxed.{device_read}
+use Rattle.drm_sched.proofs.Calls.{after_reap, reap_keeps, stays_lawful}
 use Rattle.drm_sched.proofs.device_calls.Device.reap.Goals as goal
 
-pub returns-clause-grows : goal.returns-clause-grows
-returns-clause-grows c =
-    subst (λ (d : MarkedDevice). Grows d.state (state_of c.reap.new.self.marked.table)) (view_read c.deref_mut.ensures.value c.self.view_is)
-    (reap_grows c.deref_mut.result.now.marked c.reap.new.self.marked c.args.entity c.reap.result (whole_read c.deref_mut.ensures.value c.self.invariant.0) c.reap.ensures.reaped (tables_left c.reap.result _ c.deref_mut.result.now c.reap.new.self c.reap.ensures.refused))
+pub returns-clause-call : goal.returns-clause-call
+returns-clause-call c = device_read (λ d. ReapIs c.args.entity c.reap.result d (marked_of c.reap.new.self)) c.deref_mut.ensures.value c.self.view_is c.reap.ensures.call
+
+pub returns-clause-sound : goal.returns-clause-sound
+returns-clause-sound c =
+    let steady = subst IsSteadyMarked c.self.view_is c.self.invariant.0.steady in
+    stays_lawful (after_reap c.args.self.now (marked_of c.reap.new.self) c.args.entity c.reap.result steady.state (returns-clause-call c))
 
 pub returns-clause-keeps : goal.returns-clause-keeps
 returns-clause-keeps c =
-    subst (λ (d : MarkedDevice). MatchResult c.reap.result (λ f. KeepsBut f 4 d.state (state_of c.reap.new.self.marked.table)) (λ r. Keeps d.state (state_of c.reap.new.self.marked.table))) (view_read c.deref_mut.ensures.value c.self.view_is)
-    (reap_keeps_marked c.deref_mut.result.now.marked c.reap.new.self.marked c.args.entity c.reap.result (whole_read c.deref_mut.ensures.value c.self.invariant.0) c.reap.ensures.reaped (tables_left c.reap.result _ c.deref_mut.result.now c.reap.new.self c.reap.ensures.refused))
-
-pub returns-clause-refused : goal.returns-clause-refused
-returns-clause-refused c = search rules
+    let steady = subst IsSteadyMarked c.self.view_is c.self.invariant.0.steady in
+    let count = subst (λ (d : MarkedDevice). length d.state.journal ≤ d.state.spec.max_jobs) c.self.view_is c.self.invariant.0.table.count in
+    reap_keeps c.args.self.now (marked_of c.reap.new.self) c.args.entity c.reap.result steady.state count (returns-clause-call c)

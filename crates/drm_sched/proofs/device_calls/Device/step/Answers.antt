@@ -1,25 +1,20 @@
-use Rattle.std.proofs.Common.{rules, ◌<◌, length, sym, subst}
-use Rattle.drm_state.specs.Grows.{Grows}
-use Rattle.drm_state.specs.Keeps.{Keeps}
-use Rattle.drm_sched.specs.Marks.{MarkedDevice}
-use Rattle.drm_table.specs.Tables.{state_of}
-use Rattle.drm_sched.proofs.MarkedGrows.{step_grows}
-use Rattle.drm_sched.proofs.MarkedKeeps.{step_keeps_marked}
-use Rattle.drm_sched.proofs.SchedulerSame.{tables_left}
-use Rattle.drm_sched.proofs.Boxed.{view_read, whole_read}
+use Rattle.std.proofs.Common.{subst}
+use Rattle.drm_sched.specs.Calls.{StepIs}
+use Rattle.drm_sched.specs.Marks.{IsSteadyMarked}
+use Rattle.drm_sched.specs.Parts.{marked_of}
+use Rattle.drm_sched.proofs.Boxed.{device_read}
+use Rattle.drm_sched.proofs.Calls.{after_step, step_keeps, stays_lawful}
 use Rattle.drm_sched.proofs.device_calls.Device.step.Goals as goal
 
-pub returns-clause-grows : goal.returns-clause-grows
-returns-clause-grows c =
-    subst (λ (d : MarkedDevice). Grows d.state (state_of c.step.new.self.marked.table)) (view_read c.deref_mut.ensures.value c.self.view_is)
-    (step_grows c.deref_mut.result.now.marked c.step.new.self.marked c.args.ring c.step.result (whole_read c.deref_mut.ensures.value c.self.invariant.0)
-    (subst (λ (d : MarkedDevice). c.args.ring < length d.state.spec.rings) (sym (view_read c.deref_mut.ensures.value c.self.view_is)) c.requires.there) c.step.ensures.ran (tables_left c.step.result _ c.deref_mut.result.now c.step.new.self c.step.ensures.refused))
+pub returns-clause-call : goal.returns-clause-call
+returns-clause-call c = device_read (λ d. StepIs c.args.ring c.step.result d (marked_of c.step.new.self)) c.deref_mut.ensures.value c.self.view_is c.step.ensures.call
+
+pub returns-clause-sound : goal.returns-clause-sound
+returns-clause-sound c =
+    let steady = subst IsSteadyMarked c.self.view_is c.self.invariant.0.steady in
+    stays_lawful (after_step c.args.self.now (marked_of c.step.new.self) c.args.ring c.step.result steady.state c.requires.there (returns-clause-call c))
 
 pub returns-clause-keeps : goal.returns-clause-keeps
 returns-clause-keeps c =
-    subst (λ (d : MarkedDevice). Keeps d.state (state_of c.step.new.self.marked.table)) (view_read c.deref_mut.ensures.value c.self.view_is)
-    (step_keeps_marked c.deref_mut.result.now.marked c.step.new.self.marked c.args.ring c.step.result (whole_read c.deref_mut.ensures.value c.self.invariant.0)
-    (subst (λ (d : MarkedDevice). c.args.ring < length d.state.spec.rings) (sym (view_read c.deref_mut.ensures.value c.self.view_is)) c.requires.there) c.step.ensures.ran (tables_left c.step.result _ c.deref_mut.result.now c.step.new.self c.step.ensures.refused))
-
-pub returns-clause-refused : goal.returns-clause-refused
-returns-clause-refused c = search rules
+    let steady = subst IsSteadyMarked c.self.view_is c.self.invariant.0.steady in
+    step_keeps c.args.self.now (marked_of c.step.new.self) c.args.ring c.step.result steady.state c.requires.there (returns-clause-call c)
