@@ -44,21 +44,15 @@ impl Ward for Packets {
 
     type Task = u32;
 
-    ghost good = { λ _. Unit {0} };
+    ghost facts = { record {
+      good = λ _. Unit {0};
+      fits = λ _ _ _. Unit {0};
+      grows = λ _ _. Unit {0};
+      posted = λ _ _. 0;
+      busy = λ engines engine. slice_get engines.is_busy.items engine ≡ Some true;
+    } };
 
-    ghost fits = { λ _ _ _. Unit {0} };
-
-    ghost grows = { λ _ _. Unit {0} };
-
-    ghost posted = { λ _ _. 0 };
-
-    ghost busy = { λ engines engine. slice_get engines.is_busy.items engine ≡ Some true };
-
-    ghost reflexive = { λ _. tt };
-
-    ghost transitive = { λ _ _ _ _ _. tt };
-
-    ghost onward = { λ _ _ _ _. still 0 };
+    ghost lawful = { record { reflexive = λ _. tt; transitive = λ _ _ _ _ _. tt; onward = λ _ _ _ _. still 0 } };
 }
 
 type PacketSeat = Seat<Engines, u64, u32>;

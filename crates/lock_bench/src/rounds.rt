@@ -1,5 +1,5 @@
 //! The rounds of one thread.
-ghost use Rattle.std.specs.Prelude.{◌≡◌, ◌<◌, ℕ, All, [], IfOk, IfSome};
+ghost use Rattle.std.specs.Prelude.{◌≡◌, ◌<◌, All, [], IfOk, IfSome};
 ghost use Rattle.atomic_table.specs.Seated.{TableId};
 ghost use Rattle.std.specs.List.Sorted.{IsPermutation};
 ghost use Rattle.ww_lock.specs.Acquiring.{IsReady};
@@ -46,21 +46,15 @@ impl Ward for Counters {
 
     type Task = ();
 
-    ghost good = { λ _. Unit {0} };
+    ghost facts = { record {
+      good = λ _. Unit {0};
+      fits = λ _ _ _. Unit {0};
+      grows = λ _ _. Unit {0};
+      posted = λ _ _. 0;
+      busy = λ _ _. Unit {0};
+    } };
 
-    ghost fits = { λ _ _ _. Unit {0} };
-
-    ghost grows = { λ _ _. Unit {0} };
-
-    ghost posted = { λ _ _. 0 };
-
-    ghost busy = { λ _ _. Unit {0} };
-
-    ghost reflexive = { λ _. tt };
-
-    ghost transitive = { λ _ _ _ _ _. tt };
-
-    ghost onward = { λ _ _ _ _. still 0 };
+    ghost lawful = { record { reflexive = λ _. tt; transitive = λ _ _ _ _ _. tt; onward = λ _ _ _ _. still 0 } };
 }
 
 type Counting = Acquire<u64, u64, ()>;

@@ -1,5 +1,5 @@
 //! Rounds that threads share.
-ghost use Rattle.std.specs.Prelude.{◌≡◌, All, IfOk};
+ghost use Rattle.std.specs.Prelude.{All, IfOk};
 ghost use Rattle.ww_lock.specs.Boards.{table_of};
 ghost use Rattle.ww_lock.specs.Seats.{IsIdle};
 

@@ -1,5 +1,5 @@
 //! Rounds over counters that threads share.
-ghost use Rattle.std.specs.Prelude.{◌≡◌, ◌≤◌, All};
+ghost use Rattle.std.specs.Prelude.{◌≤◌, All};
 ghost use Rattle.ww_lock.specs.Boards.{table_of};
 ghost use Rattle.ww_lock.specs.Seats.{IsIdle};
 

@@ -1,4 +1,4 @@
--- A board that is taken apart.
+-- A board is taken apart, and what was at home comes back.
 use Rattle.std.proofs.Common.{◌≡◌, ◌≢◌, ℕ, ◌+◌, ◌<◌, ◌≤◌, zero, suc, List, [], ◌∷◌, ◌++◌, length, length-append, get_or, set, sym, refl, ap, ◌∙◌, subst, arith, Bool, false, map}
 use Rattle.std.specs.Prelude as plain
 use Rattle.std.proofs.lemmas.Bool.{false≢true}
@@ -14,6 +14,7 @@ use Rattle.ww_lock.specs.declared.board.PivotView.{PivotView}
 use Rattle.ww_lock.specs.declared.board.View.{View}
 use Rattle.ww_lock.specs.declared.board.Slot.{Slot}
 use Rattle.ww_lock.specs.declared.board.Slot.TheVariants.{Pivot, Value}
+use Rattle.ww_lock.specs.Facts.{Facts}
 use Rattle.ww_lock.specs.Rule.{In, At, Keeps, looked_only, lock_of, pivot_of}
 use Rattle.ww_lock.specs.Lifetime.{FitsAll, HasAll, AreHome, IsPivot}
 use Rattle.ww_lock.proofs.Lists.{same_view}
@@ -74,7 +75,7 @@ more_whole {P} {X} {T} ws xs out b o len whole here i low at_zero = dite (ℕ_di
 pub whole_same : {P X T : Type 0} (ws ws' : List ℕ) (xs xs' : List (Slot P X T)) (out : List (plain.Option X)) → ws ≡ ws' → xs ≡ xs' → Whole ws xs out → Whole ws' xs' out
 whole_same ws ws' xs xs' out d e whole = subst (λ l. Whole ws' l out) e (subst (λ l. Whole l xs out) d whole)
 
--- what stands within a list
+-- a place within a list has its number
 at_within : (l : List ℕ) (i : ℕ) → i < length l → get_elem? l i ≡ some (get_or l i 0)
 at_within [] i low = absurd (omega arith)
 at_within (x ∷ xs) zero low = refl
@@ -95,15 +96,16 @@ of_map f [] i b e = absurd (some-ne-none b (sym e))
 of_map f (x ∷ xs) zero b e = (x, refl, some-injective (f x) b e)
 of_map f (x ∷ xs) (suc i) b e = of_map f xs i b e
 
-module _ {P X T : Type 0} (good : P → Type 0) (fits : ℕ → P → X → Type 0) (grows : P → P → Type 0) (posted : P → ℕ → ℕ) (busy : P → T → Type 0) (posts : ℕ) (id : ℕ) (v : View P X T) (ws : List ℕ) (xs : List (Slot P X T)) where
+module _ {P X T : Type 0} (facts : Facts P X T) (posts : ℕ) (id : ℕ) (v : View P X T) (ws : List ℕ) (xs : List (Slot P X T)) where
+  -- the table has ended under the rule, with these words and slots, and the seat id knows v
   abbrev pub Ended : Type 0
-  Ended = Final (Seen (Keeps good fits grows posted busy posts) id v) ws xs
+  Ended = Final (Seen (Keeps facts posts) id v) ws xs
 
   abbrev shown_at : Ended → P
   shown_at e = e.1.0.shown
 
   -- the slot of a value whose word is 0 has a value
-  pub home_value : (e : Ended) (b : ℕ) → b + 1 < length xs → get_elem? ws (b + 2) ≡ some 0 → (x : X) × (get_elem? xs (b + 1) ≡ some (Value x)) × fits b (shown_at e) x
+  pub home_value : (e : Ended) (b : ℕ) → b + 1 < length xs → get_elem? ws (b + 2) ≡ some 0 → (x : X) × (get_elem? xs (b + 1) ≡ some (Value x)) × facts.fits b (shown_at e) x
   home_value e b low z = let r = e.1.0 in let deep = r.deep in let len = e.3 in let inside : b < r.n = omega arith in
       let h = r.locks.home b inside (ap (λ l. get_or l (b + 2) 0) e.2 ∙ at_get ws (b + 2) 0 z) in (h.0, e.4 (b + 1) (Value h.0) h.1, h.2)
 
@@ -116,14 +118,14 @@ module _ {P X T : Type 0} (good : P → Type 0) (fits : ℕ → P → X → Type
 
   -- what comes back is what the board showed
   pub comes_back : Ended → (p : P) (out : List (plain.Option X)) → length out + 1 ≤ length xs → get_elem? ws 1 ≡ some 0 → get_elem? xs 0 ≡ some (Pivot p) → Back ws xs out
-      → good p × ((q : P) → In q v.pivot.seen → grows q p) × FitsAll (λ b x. fits b p x) 0 out
+      → facts.good p × ((q : P) → In q v.pivot.seen → facts.grows q p) × FitsAll (λ b x. facts.fits b p x) 0 out
   comes_back e p out low z here back = let r = e.1.0 in
       let same : shown_at e ≡ p = ap (pivot_or p) (some-injective _ _ (sym (home_pivot e z) ∙ here)) in (
-        subst good same r.pivots.is_good,
-        (λ q h. subst (grows q) same ((r.pivots.each id v.pivot (at_map pivot_of e.0.views id v e.1.1)).grown q h)),
-        fits_all (λ b x. fits b p x) 0 out (λ i x at. let b = back i x at in let l = below out i (Some x) at in let t = home_value e i (omega arith) b.1 in
+        subst facts.good same r.pivots.is_good,
+        (λ q h. subst (facts.grows q) same ((r.pivots.each id v.pivot (at_map pivot_of e.0.views id v e.1.1)).grown q h)),
+        fits_all (λ b x. facts.fits b p x) 0 out (λ i x at. let b = back i x at in let l = below out i (Some x) at in let t = home_value e i (omega arith) b.1 in
             let one : t.0 ≡ x = ap (value_or x) (some-injective _ _ (sym t.1 ∙ b.0)) in
-            subst (λ k. fits k p x) (let q : i ≡ 0 + i = omega arith in q) (subst (λ y. fits i p y) one (subst (λ u. fits i u t.0) same t.2))),
+            subst (λ k. facts.fits k p x) (let q : i ≡ 0 + i = omega arith in q) (subst (λ y. facts.fits i p y) one (subst (λ u. facts.fits i u t.0) same t.2))),
       )
 
   -- the values that come back are those at home
@@ -151,12 +153,13 @@ module _ {P X T : Type 0} (good : P → Type 0) (fits : ℕ → P → X → Type
         it.1 ∙ ap (λ y. some (Some y)) one)
         (λ ne. let gone = (r.locks.out b inside ne).0 in let never : some none ≡ some (some (Value x)) = sym gone ∙ at in absurd (some-ne-none _ (sym (some-injective _ _ never))))
 
-  -- the pivot that comes back is the one at home, and where none does it is out
+  -- the pivot that comes back is the one at home
   pub gives_pivot : (e : Ended) (p : P) → get_elem? ws 1 ≡ some 0 → get_elem? xs 0 ≡ some (Pivot p) → IsPivot e.0 (Some p)
   gives_pivot e p z here =
       let same : shown_at e ≡ p = ap (pivot_or p) (some-injective _ _ (sym (home_pivot e z) ∙ here)) in
       subst (λ q. get_elem? e.0.homes 0 ≡ some (some (Pivot q))) same (e.1.0.pivots.at_home (ap (λ l. get_or l 1 0) e.2 ∙ at_get ws 1 0 z))
 
+  -- where none comes back, the pivot is out
   pub pivot_is_out : (e : Ended) (n : ℕ) → get_elem? ws 1 ≡ some n → n ≢ 0 → IsPivot e.0 None
   pivot_is_out e n at ne = (e.1.0.pivots.away (λ z. ne (sym (at_get ws 1 n at) ∙ (sym (ap (λ l. get_or l 1 0) e.2) ∙ z)))).1
 
@@ -170,19 +173,19 @@ module _ {P X T : Type 0} (good : P → Type 0) (fits : ℕ → P → X → Type
       (λ same. let is : h.1 ≡ v.lock = sym m.2 ∙ ap lock_of (same_view e.0.views id h.0 v m.0 e.1.1 m.1 same) in absurd (subst (In (b, x)) (ap (λ (l : LockView X). l.owes) is ∙ all.1) h.5))
       (λ apart. let is : h.1 ≡ (looked_only {P = P} {X = X} {T = T} []).lock = sym m.2 ∙ ap lock_of (others_apart e all h.0 m.0 m.1 apart) in absurd (subst (λ (l : LockView X). In (b, x) l.owes) is h.5)))
 
-  -- and the pivot is at home
+  -- beside the seat that has taken in all others the pivot is not out
   pub pivot_not_out : (e : Ended) → HasAll v → (n : ℕ) → get_elem? ws 1 ≡ some n → n ≢ 0 → ⊥
   pivot_not_out e all n at ne = let a = e.1.0.pivots.away (λ z. ne (sym (at_get ws 1 n at) ∙ (sym (ap (λ l. get_or l 1 0) e.2) ∙ z))) in let h = a.2 in let m = of_map pivot_of e.0.views h.0 h.1 h.2 in
       dite (ℕ_discrete h.0 id)
       (λ same. let is : h.1 ≡ v.pivot = sym m.2 ∙ ap pivot_of (same_view e.0.views id h.0 v m.0 e.1.1 m.1 same) in false≢true (sym all.2 ∙ (sym (ap (λ (l : PivotView P). l.inside) is) ∙ h.3)))
       (λ apart. let is : h.1 ≡ (looked_only {P = P} {X = X} {T = T} []).pivot = sym m.2 ∙ ap pivot_of (others_apart e all h.0 m.0 m.1 apart) in false≢true (sym (ap (λ (l : PivotView P). l.inside) is) ∙ h.3))
 
-  -- it comes back as the seat saw it last
+  -- the pivot comes back as the seat that has taken in all others saw it last
   pub comes_as_seen : (e : Ended) → HasAll v → (p : P) → get_elem? ws 1 ≡ some 0 → get_elem? xs 0 ≡ some (Pivot p) → In p v.pivot.seen
   comes_as_seen e all p z here = let same : shown_at e ≡ p = ap (pivot_or p) (some-injective _ _ (sym (home_pivot e z) ∙ here)) in
       subst (λ q. In q v.pivot.seen) same (seen_by_all e.0.views id v (shown_at e) e.1.1 e.1.0.parts all.0 e.1.0.latest)
 
-  -- each value comes back
+  -- each value comes back to the seat that has taken in all others
   pub all_there : (e : Ended) (out : List (plain.Option X)) → length out + 1 ≡ length xs → Whole ws xs out → HasAll v → (b : ℕ) → b < length out → (x : X) × (get_elem? out b ≡ some (Some x))
   all_there e out count whole all b low = let r = e.1.0 in let deep = r.deep in let wide = r.wide in let len = e.3 in let inside : b < r.n = omega arith in
       let here : get_elem? ws (b + 2) ≡ some 0 = ap (λ l. get_elem? l (b + 2)) (sym e.2) ∙ (at_within e.0.words (b + 2) (omega arith) ∙ ap some (no_value_out e all b inside)) in

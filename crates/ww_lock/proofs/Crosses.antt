@@ -1,4 +1,4 @@
--- What of a board may cross threads: as its pivot and its values may.
+-- A seat may be sent and a board shared where the pivot and the values may be sent.
 use denote.RattleType.{RattleType}
 use denote.Param.Send.{IsSend, IsSync, sendable}
 use Rattle.atomic_table.proofs.shared.Seat.TheSendSync as place

@@ -1,4 +1,4 @@
--- Where a value that is held stands.
+-- A value that is held is found in the list.
 use Rattle.std.proofs.Common.{◌≡◌, ◌≢◌, ℕ, ◌+◌, ◌<◌, zero, suc, List, [], ◌∷◌, take, drop, set, map, length, get_or, sym, refl, ap, ◌∙◌, subst, ⊎_elim, inl, inr, arith, eq-eqb, ne_eqb, Bool}
 use Rattle.std.specs.Prelude.{if◌then◌else◌}
 use mathlib.Core.Option.{some, some-injective, some-ne-none}
@@ -27,7 +27,7 @@ module _ {A : Type 0} where
   below (y ∷ xs) zero x e = omega arith
   below (y ∷ xs) (suc i) x e = let r = below xs i x e in omega arith
 
--- a list with the same numbers in the same order
+-- what holds of a list holds of one with the same numbers in the same order
 module _ {A : Type 0} where
   same_head : (p q : ℕ × A) (xs ys : List (ℕ × A)) → IsSameKeys (p ∷ xs) (q ∷ ys) → p.0 ≡ q.0
   same_head p q xs ys e = ap (λ l. get_or l 0 0) e

@@ -25,9 +25,10 @@ use Rattle.ww_lock.proofs.LocksKept as lk
 use Rattle.ww_lock.proofs.PivotsKept as pk
 use Rattle.ww_lock.proofs.LooksKept as fk
 use Rattle.ww_lock.proofs.TasksKept as tk
-use Rattle.ww_lock.specs.Fences.{NotBack}
+use Rattle.ww_lock.specs.Facts.{Facts, AreLawful}
+use Rattle.ww_lock.specs.Leaving.{MayLeave, MayPost}
 use Rattle.ww_lock.specs.Rule.{Looks, Tasks, looked_of, task_of, looked_only, spent}
-use Rattle.ww_lock.specs.Steps.{with_post, with_look, posted_as, posts_word, looks_at, read_back, Turns}
+use Rattle.ww_lock.specs.Steps.{with_post, with_look, posted_as, posts_word, looks_at, read_back}
 use Rattle.ww_lock.specs.declared.board.TaskChange.{TaskChange}
 use Rattle.ww_lock.specs.declared.board.TaskChange.TheVariants.{Same}
 use Rattle.std.specs.Prelude.{Bool, ◌&&◌, not}
@@ -51,39 +52,41 @@ module _ {P X T : Type 0} (v : View P X T) where
   by_owed : (b : ℕ) (x : X) → In (b, x) v.lock.owes → v ≡ looked_only v.looked → ⊥
   by_owed b x h e = subst (λ (z : View P X T). In (b, x) z.lock.owes) e h
 
-module _ {P X T : Type 0} (good : P → Type 0) (fits : ℕ → P → X → Type 0) (grows : P → P → Type 0) (posted : P → ℕ → ℕ) (busy : P → T → Type 0) (same : (p : P) → grows p p) (trans : (p q r : P) → grows p q → grows q r → grows p r) (onward : (p q : P) → grows p q → (f : ℕ) → NotBack (posted p f) (posted q f)) (posts : ℕ) where
+module _ {P X T : Type 0} (facts : Facts P X T) (lawful : AreLawful facts) (posts : ℕ) where
   abbrev Rule : State (Slot P X T) (View P X T) → Type 0
-  Rule = Keeps good fits grows posted busy posts
+  Rule = Keeps facts posts
 
   abbrev Homes : Type 0
   Homes = List (maybe.Option (Slot P X T))
 
   abbrev Fit : P → ℕ → X → Type 0
-  Fit p b x = fits b p x
+  Fit p b x = facts.fits b p x
 
   wider : (s : State (Slot P X T) (View P X T)) (r : Rule s) → r.n + 2 ≤ length s.words
   wider s r = let w = r.wide in omega arith
 
-  -- a word below the fences', and a seat that looked at nothing
-  looks_same : (s : State (Slot P X T) (View P X T)) (r : Rule s) (i n' id : ℕ) (v w : View P X T) → At s.views id v → i < r.n + 2 → w.looked ≡ v.looked → Looks (posted r.shown) r.n posts (set s.words i n') (map looked_of (set s.views id w))
-  looks_same s r i n' id v w at near e = subst (Looks (posted r.shown) r.n posts (set s.words i n'))
+  -- the fence words stay where a step changes a word below them, and its seat looks at none
+  looks_same : (s : State (Slot P X T) (View P X T)) (r : Rule s) (i n' id : ℕ) (v w : View P X T) → At s.views id v → i < r.n + 2 → w.looked ≡ v.looked → Looks (facts.posted r.shown) r.n posts (set s.words i n') (map looked_of (set s.views id w))
+  looks_same s r i n' id v w at near e = subst (Looks (facts.posted r.shown) r.n posts (set s.words i n'))
       (sym (map-set looked_of s.views id w ∙ (ap (λ (l : List (ℕ × ℕ)). set (map looked_of s.views) id l) e ∙ set_again (map looked_of s.views) id v.looked (at_map looked_of s.views id v at))))
-      (fk.looks_stay r.n posts (map looked_of s.views) (posted r.shown) s.words (set s.words i n') (λ f _. get_or-set_other s.words i (r.n + 2 + f) n' 0 (λ e. omega arith)) r.looks)
+      (fk.looks_stay r.n posts (map looked_of s.views) (facts.posted r.shown) s.words (set s.words i n') (λ f _. get_or-set_other s.words i (r.n + 2 + f) n' 0 (λ e. omega arith)) r.looks)
 
-  tasks_same : (s : State (Slot P X T) (View P X T)) (r : Rule s) (id : ℕ) (v w : View P X T) → At s.views id v → w.task ≡ v.task → Tasks (busy r.shown) (map task_of (set s.views id w))
-  tasks_same s r id v w at e = subst (Tasks (busy r.shown))
+  -- the tasks stay where the seat of a step keeps its task
+  tasks_same : (s : State (Slot P X T) (View P X T)) (r : Rule s) (id : ℕ) (v w : View P X T) → At s.views id v → w.task ≡ v.task → Tasks (facts.busy r.shown) (map task_of (set s.views id w))
+  tasks_same s r id v w at e = subst (Tasks (facts.busy r.shown))
       (sym (map-set task_of s.views id w ∙ (ap (λ (t : plain.Option T). set (map task_of s.views) id t) e ∙ set_again (map task_of s.views) id v.task (at_map task_of s.views id v at)))) r.tasks
 
-  -- a step of a seat that has something, and keeps its part
+  -- the parts stay where the seat of a step has something and keeps its part
   parts_same : (s : State (Slot P X T) (View P X T)) (r : Rule s) (id : ℕ) (v w : View P X T) → At s.views id v → w.part ≡ v.part → (v ≡ looked_only v.looked → ⊥) → Parts (set s.views id w)
   parts_same s r id v w at e some_left = parts_stay s.views id v w at e (λ none. absurd (some_left (r.parts.blank id v at (sym e ∙ none)))) r.parts
 
+  -- some seat has seen the pivot still, where the seat of a step has seen what it had
   latest_same : (s : State (Slot P X T) (View P X T)) (r : Rule s) (id : ℕ) (v w : View P X T) → At s.views id v → w.pivot.seen ≡ v.pivot.seen → (j : ℕ) × (u : View P X T) × At (set s.views id w) j u × In r.shown u.pivot.seen
   latest_same s r id v w at e = let h = r.latest in dite (ℕ_discrete h.0 id)
       (λ same_seat. (id, w, set_at s.views id v w at, subst (In r.shown) (sym e) (subst (λ (z : View P X T). In r.shown z.pivot.seen) (same_view s.views id h.0 v h.1 at h.2 same_seat) h.3)))
       (λ ne. (h.0, h.1, set_else s.views id h.0 w ne ∙ h.2, h.3))
 
-  -- a step that changes the values' half alone
+  -- the rule stays where a step changes the values' part alone
   lock_step : (s : State (Slot P X T) (View P X T)) (r : Rule s) (i n' id : ℕ) (v : View P X T) (l : LockView X) (homes' : Homes) → At s.views id v → (v ≡ looked_only v.looked → ⊥) → i ≢ 1 → i < r.n + 2 → length homes' ≡ length s.homes → get_elem? homes' 0 ≡ get_elem? s.homes 0
       → Locks (Fit r.shown) r.n (set s.words i n') homes' (set (map lock_of s.views) id l) → Rule record { words = set s.words i n'; homes = homes'; views = set s.views id (record v { lock = l }) }
   lock_step s r i n' id v l homes' at some_left ne near deep there locks = let w : View P X T = record v { lock = l } in record {
@@ -92,14 +95,15 @@ module _ {P X T : Type 0} (good : P → Type 0) (fits : ℕ → P → X → Type
     wide = length-set s.words i n' ∙ r.wide;
     deep = deep ∙ r.deep;
     locks = subst (Locks (Fit r.shown) r.n (set s.words i n') homes') (sym (map-set lock_of s.views id w)) locks;
-    pivots = subst (Pivots good grows r.shown _ homes') (sym (map-set pivot_of s.views id w ∙ set_again (map pivot_of s.views) id v.pivot (at_map pivot_of s.views id v at)))
-        (pk.slots_stay good grows same trans r.shown (get_or s.words 1 0) _ s.homes homes' (map pivot_of s.views) (get_or-set_other s.words i 1 n' 0 (λ e. ne (sym e))) there r.pivots);
+    pivots = subst (Pivots facts r.shown _ homes') (sym (map-set pivot_of s.views id w ∙ set_again (map pivot_of s.views) id v.pivot (at_map pivot_of s.views id v at)))
+        (pk.slots_stay facts lawful r.shown (get_or s.words 1 0) _ s.homes homes' (map pivot_of s.views) (get_or-set_other s.words i 1 n' 0 (λ e. ne (sym e))) there r.pivots);
     looks = looks_same s r i n' id v w at near refl;
     tasks = tasks_same s r id v w at refl;
     parts = parts_same s r id v w at refl some_left;
     latest = latest_same s r id v w at refl;
   }
 
+  -- the rule stays where a step changes nothing
   unmoved : (s : State (Slot P X T) (View P X T)) (r : Rule s) (i id : ℕ) (v : View P X T) → At s.views id v → Rule record { words = set s.words i (get_or s.words i 0); homes = s.homes; views = set s.views id v }
   unmoved s r i id v at = subst (λ (z : List ℕ × List (View P X T)). Rule record { words = z.0; homes = s.homes; views = z.1 }) (λ k. (sym (set-get_or s.words i 0) k, sym (set_again s.views id v at) k)) r
 
@@ -159,7 +163,7 @@ module _ {P X T : Type 0} (good : P → Type 0) (fits : ℕ → P → X → Type
         (λ c e. let same : b ≡ c = omega arith in ((λ hit. absurd (miss hit)), λ _. (f.0, ap (λ (z : ℕ). (with_met z n me.0, me.1)) same))),
       ))
 
-  pub releases : (slots id : ℕ) (me : Sat P X T) (b : ℕ) (x y : X) → me.1 ≡ (b + 1, Value y) ∷ rest me.1 → In (b, x) me.0.lock.owes → ((p : P) → fits b p x → fits b p y)
+  pub releases : (slots id : ℕ) (me : Sat P X T) (b : ℕ) (x y : X) → me.1 ≡ (b + 1, Value y) ∷ rest me.1 → In (b, x) me.0.lock.owes → ((p : P) → facts.fits b p x → facts.fits b p y)
       → Allows Rule slots id me (b + 2) (λ _. 0) (λ _. released (step slots (b + 2) 0 0 none) me 0)
   releases slots id me b x y front has like s r deep at _ = let locks = r.locks in let due = locks.owed id me.0.lock b x (at_map lock_of s.views id me.0 at) has in let homes' : Homes = set s.homes (b + 1) (some (Value y)) in
       let w : View P X T = with_release b me.0 in (
@@ -184,15 +188,15 @@ module _ {P X T : Type 0} (good : P → Type 0) (fits : ℕ → P → X → Type
     locks = subst (Locks (Fit r.shown) r.n s.words s.homes)
         (sym (map-append lock_of views' (u ∷ []) ∙ ap (λ (l : List (LockView X)). l ++ idle ∷ []) (map-set lock_of s.views id w ∙ set_again (map lock_of s.views) id v.lock (at_map lock_of s.views id v at))))
         (lk.seated (Fit r.shown) r.n s.words s.homes (map lock_of s.views) r.locks);
-    pivots = subst (Pivots good grows r.shown (get_or s.words 1 0) s.homes)
+    pivots = subst (Pivots facts r.shown (get_or s.words 1 0) s.homes)
         (sym (map-append pivot_of views' (u ∷ []) ∙ ap (λ (l : List (PivotView P)). l ++ saw v.pivot.seen ∷ []) (map-set pivot_of s.views id w ∙ set_again (map pivot_of s.views) id v.pivot (at_map pivot_of s.views id v at))))
-        (pk.splits good grows same trans r.shown s.homes (map pivot_of s.views) id v.pivot (at_map pivot_of s.views id v at) (get_or s.words 1 0) r.pivots);
-    looks = subst (Looks (posted r.shown) r.n posts s.words)
+        (pk.splits facts lawful r.shown s.homes (map pivot_of s.views) id v.pivot (at_map pivot_of s.views id v at) (get_or s.words 1 0) r.pivots);
+    looks = subst (Looks (facts.posted r.shown) r.n posts s.words)
         (sym (map-append looked_of views' (u ∷ []) ∙ ap (λ (l : List (List (ℕ × ℕ))). l ++ v.looked ∷ []) (looked_again s id v w at refl)))
-        (fk.looks_split r.n posts (map looked_of s.views) (posted r.shown) s.words r.looks id v.looked (at_map looked_of s.views id v at));
-    tasks = subst (Tasks (busy r.shown))
+        (fk.looks_split r.n posts (map looked_of s.views) (facts.posted r.shown) s.words r.looks id v.looked (at_map looked_of s.views id v at));
+    tasks = subst (Tasks (facts.busy r.shown))
         (sym (map-append task_of views' (u ∷ []) ∙ ap (λ (l : List (plain.Option T)). l ++ plain.None ∷ []) (map-set task_of s.views id w ∙ set_again (map task_of s.views) id v.task (at_map task_of s.views id v at))))
-        (tk.tasks_split (busy r.shown) (map task_of s.views) r.tasks);
+        (tk.tasks_split (facts.busy r.shown) (map task_of s.views) r.tasks);
     parts = parts_split s.views id v w u at refl refl (λ none. ap left_half (r.parts.blank id v at (none_halved v.part none))) (λ none. ap right_half (r.parts.blank id v at (none_halved v.part none))) r.parts;
     latest = let h = latest_same s r id v w at refl in (h.0, h.1, at_longer views' (u ∷ []) h.0 h.1 h.2, h.3);
   }
@@ -206,12 +210,12 @@ module _ {P X T : Type 0} (good : P → Type 0) (fits : ℕ → P → X → Type
         deep = r.deep;
         locks = subst (Locks (Fit r.shown) r.n s.words s.homes) (sym (map-set lock_of (set s.views id w) other spent ∙ ap (λ (l : List (LockView X)). set l other idle) (map-set lock_of s.views id w)))
             (lk.joins (Fit r.shown) r.n s.words s.homes (map lock_of s.views) r.locks id v.lock (at_map lock_of s.views id v at) (wider s r) r.deep other u.lock (at_map lock_of s.views other u there) ne bare);
-        pivots = subst (Pivots good grows r.shown (get_or s.words 1 0) s.homes) (sym (map-set pivot_of (set s.views id w) other spent ∙ ap (λ (l : List (PivotView P)). set l other (saw [])) (map-set pivot_of s.views id w)))
-            (pk.joins good grows same trans r.shown (get_or s.words 1 0) s.homes (map pivot_of s.views) id v.pivot other u.pivot (at_map pivot_of s.views id v at) (at_map pivot_of s.views other u there) ne off away r.pivots);
-        looks = subst (Looks (posted r.shown) r.n posts s.words) (sym (map-set looked_of (set s.views id w) other spent ∙ ap (λ (l : List (List (ℕ × ℕ))). set l other []) (map-set looked_of s.views id w)))
-            (fk.looks_join r.n posts (map looked_of s.views) (posted r.shown) s.words r.looks id v.looked (at_map looked_of s.views id v at) other u.looked (at_map looked_of s.views other u there));
-        tasks = subst (Tasks (busy r.shown)) (sym (map-set task_of (set s.views id w) other spent ∙ ap (λ (l : List (plain.Option T)). set l other plain.None) (map-set task_of s.views id w ∙ set_again (map task_of s.views) id v.task (at_map task_of s.views id v at))))
-            (tk.tasks_spent (busy r.shown) (map task_of s.views) other r.tasks);
+        pivots = subst (Pivots facts r.shown (get_or s.words 1 0) s.homes) (sym (map-set pivot_of (set s.views id w) other spent ∙ ap (λ (l : List (PivotView P)). set l other (saw [])) (map-set pivot_of s.views id w)))
+            (pk.joins facts lawful r.shown (get_or s.words 1 0) s.homes (map pivot_of s.views) id v.pivot other u.pivot (at_map pivot_of s.views id v at) (at_map pivot_of s.views other u there) ne off away r.pivots);
+        looks = subst (Looks (facts.posted r.shown) r.n posts s.words) (sym (map-set looked_of (set s.views id w) other spent ∙ ap (λ (l : List (List (ℕ × ℕ))). set l other []) (map-set looked_of s.views id w)))
+            (fk.looks_join r.n posts (map looked_of s.views) (facts.posted r.shown) s.words r.looks id v.looked (at_map looked_of s.views id v at) other u.looked (at_map looked_of s.views other u there));
+        tasks = subst (Tasks (facts.busy r.shown)) (sym (map-set task_of (set s.views id w) other spent ∙ ap (λ (l : List (plain.Option T)). set l other plain.None) (map-set task_of s.views id w ∙ set_again (map task_of s.views) id v.task (at_map task_of s.views id v at))))
+            (tk.tasks_spent (facts.busy r.shown) (map task_of s.views) other r.tasks);
         parts = parts_join s.views id v other u w spent at there ne refl refl refl (λ _ _ a b. (λ i. joined (a i) (b i))) r.parts;
         latest = let h = r.latest in let here : get_elem? (set (set s.views id w) other spent) id ≡ some w = set_else (set s.views id w) other id spent (λ e. ne (sym e)) ∙ set_at s.views id v w at in dite (ℕ_discrete h.0 other)
             (λ e. (id, w, here, in_right r.shown v.pivot.seen u.pivot.seen (subst (λ (z : View P X T). In r.shown z.pivot.seen) (same_view s.views other h.0 u h.1 there h.2 e) h.3)))
@@ -221,7 +225,7 @@ module _ {P X T : Type 0} (good : P → Type 0) (fits : ℕ → P → X → Type
       }
 
   -- the pivot shown is later than what the seat knows
-  later : (s : State (Slot P X T) (View P X T)) (r : Rule s) (id : ℕ) (v : View P X T) → At s.views id v → IsLater good grows posted busy v r.shown
+  later : (s : State (Slot P X T) (View P X T)) (r : Rule s) (id : ℕ) (v : View P X T) → At s.views id v → IsLater facts v r.shown
   later s r id v at = let pivots = r.pivots in let looks = r.looks in let tasks = r.tasks in record {
     fine = pivots.is_good;
     grown = (pivots.each id v.pivot (at_map pivot_of s.views id v at)).grown;
@@ -230,7 +234,7 @@ module _ {P X T : Type 0} (good : P → Type 0) (fits : ℕ → P → X → Type
     alone = λ all. seen_by_all s.views id v r.shown at r.parts all r.latest;
   }
 
-  pub enters : (slots id : ℕ) (me : Sat P X T) → HasSeen me.0 → Allows Rule slots id me 1 (λ n. either (eqb n 0) 1 n) (entered good fits grows posted busy (step slots 1 0 1 none) me)
+  pub enters : (slots id : ℕ) (me : Sat P X T) → HasSeen me.0 → Allows Rule slots id me 1 (λ n. either (eqb n 0) 1 n) (entered facts (step slots 1 0 1 none) me)
   enters slots id me saw_one s r deep at _ = let n : ℕ = get_or s.words 1 0 in let tall = r.deep in let wide = r.wide in let p : P = r.shown in let pivots = r.pivots in let locks = r.locks in
       dite (ℕ_discrete n 0)
       (λ hit. let w : View P X T = with_entry p me.0 in let now = get_or-set_same s.words 1 1 0 (omega arith) in let words' : List ℕ = set s.words 1 1 in let homes' : Homes = set s.homes 0 none in
@@ -241,8 +245,8 @@ module _ {P X T : Type 0} (good : P → Type 0) (fits : ℕ → P → X → Type
         deep = length-set s.homes 0 none ∙ r.deep;
         locks = subst (Locks (Fit p) r.n words' homes') (sym (map-set lock_of s.views id w ∙ set_again (map lock_of s.views) id me.0.lock (at_map lock_of s.views id me.0 at)))
             (lk.locks_stay (Fit p) r.n s.words words' s.homes homes' (map lock_of s.views) r.locks (get_or-set_other s.words 1 0 1 0 (λ e. omega arith)) (λ b _. get_or-set_other s.words 1 (b + 2) 1 0 (λ e. omega arith)) (λ b. set_else s.homes 0 (b + 1) none (λ e. omega arith)));
-        pivots = subst (λ (z : ℕ × List (PivotView P)). Pivots good grows p z.0 homes' z.1) (λ i. (sym now i, sym (map-set pivot_of s.views id w) i))
-            (pk.enters good grows same trans p s.homes (map pivot_of s.views) id me.0.pivot (at_map pivot_of s.views id me.0 at) (subst (λ (z : ℕ). Pivots good grows p z s.homes (map pivot_of s.views)) hit pivots) (omega arith));
+        pivots = subst (λ (z : ℕ × List (PivotView P)). Pivots facts p z.0 homes' z.1) (λ i. (sym now i, sym (map-set pivot_of s.views id w) i))
+            (pk.enters facts lawful p s.homes (map pivot_of s.views) id me.0.pivot (at_map pivot_of s.views id me.0 at) (subst (λ (z : ℕ). Pivots facts p z s.homes (map pivot_of s.views)) hit pivots) (omega arith));
         looks = looks_same s r 1 1 id me.0 w at (omega arith) refl;
         tasks = tasks_same s r id me.0 w at refl;
         parts = parts_same s r id me.0 w at refl (by_seen me.0 saw_one);
@@ -270,15 +274,17 @@ module _ {P X T : Type 0} (good : P → Type 0) (fits : ℕ → P → X → Type
         ((λ hit. absurd (miss hit)), λ _. refl),
       ))
 
+  -- the fence words stay where a seat turns p into q, which shows the same
   turned_looks : (s : State (Slot P X T) (View P X T)) (r : Rule s) (id : ℕ) (v w : View P X T) → At s.views id v → w.looked ≡ v.looked → (p q : P) → r.shown ≡ p → (words' : List ℕ) → ((f : ℕ) → f < posts → get_or words' (r.n + 2 + f) 0 ≡ get_or s.words (r.n + 2 + f) 0)
-      → ((f : ℕ) → posted q f ≡ posted p f) → Looks (posted q) r.n posts words' (map looked_of (set s.views id w))
-  turned_looks s r id v w at e p q shows words' words still = subst (Looks (posted q) r.n posts words') (sym (looked_again s id v w at e))
-      (fk.looks_turn r.n posts (map looked_of s.views) (posted p) (posted q) s.words words' words still (subst (λ (z : P). Looks (posted z) r.n posts s.words (map looked_of s.views)) shows r.looks))
+      → ((f : ℕ) → facts.posted q f ≡ facts.posted p f) → Looks (facts.posted q) r.n posts words' (map looked_of (set s.views id w))
+  turned_looks s r id v w at e p q shows words' words still = subst (Looks (facts.posted q) r.n posts words') (sym (looked_again s id v w at e))
+      (fk.looks_turn r.n posts (map looked_of s.views) (facts.posted p) (facts.posted q) s.words words' words still (subst (λ (z : P). Looks (facts.posted z) r.n posts s.words (map looked_of s.views)) shows r.looks))
 
-  pub leaves : (slots id : ℕ) (me : Sat P X T) (p : P) (said : Slot P X T) (is_call : Bool) (change : TaskChange T) (q : P) (xs : List (ℕ × X)) → left_as (p ∷ []) (some said) me ≡ (with_exit is_call change p q xs me.0, rest me.1) → me.0.pivot.inside ≡ true → me.0.pivot.seen ≡ p ∷ [] → me.1 ≡ (0, Pivot q) ∷ rest me.1
-      → map number_of me.0.lock.owes ≡ map number_of xs → good q → grows p q → ((b : ℕ) (x : X) → In (b, x) xs → fits b q x) → ((b : ℕ) (x : X) → ((y : X) → In (b, y) me.0.lock.owes → ⊥) → fits b p x → fits b q x) → ((f : ℕ) → posted q f ≡ posted p f) → Turns busy p q me.0.task change
+  -- the seat that is inside leaves q, and its task changes
+  pub leaves : (slots id : ℕ) (me : Sat P X T) (said : Slot P X T) (is_call : Bool) (change : TaskChange T) (q : P) (xs : List (ℕ × X)) (may : MayLeave facts me.0 xs q change)
+      → left_as (may.0 ∷ []) (some said) me ≡ (with_exit is_call change may.0 q xs me.0, rest me.1) → me.0.pivot.inside ≡ true → me.1 ≡ (0, Pivot q) ∷ rest me.1 → map number_of me.0.lock.owes ≡ map number_of xs
       → Allows Rule slots id me 1 (λ n. either (eqb n 1) 0 n) (left (step slots 1 1 0 (some said)) me)
-  leaves slots id me p said is_call change q xs tells within seen front keys fine up own others still turns s r deep at _ = let n : ℕ = get_or s.words 1 0 in let tall = r.deep in let wide = r.wide in let pivots = r.pivots in let at' = at_map pivot_of s.views id me.0 at in
+  leaves slots id me said is_call change q xs may tells within front keys s r deep at _ = let p = may.0 in let seen = may.1 in let up = may.3 in let n : ℕ = get_or s.words 1 0 in let tall = r.deep in let wide = r.wide in let pivots = r.pivots in let at' = at_map pivot_of s.views id me.0 at in
       let known = (pivots.each id me.0.pivot at').inside within in let shows : r.shown ≡ p = ap (first_or r.shown) (sym known.1 ∙ seen) in
       let w : View P X T = with_exit is_call change p q xs me.0 in let now = get_or-set_same s.words 1 0 0 (omega arith) in let words' : List ℕ = set s.words 1 0 in let homes' : Homes = set s.homes 0 (some (Pivot q)) in
       let rule : Rule record { words = words'; homes = homes'; views = set s.views id w } = record {
@@ -289,12 +295,12 @@ module _ {P X T : Type 0} (good : P → Type 0) (fits : ℕ → P → X → Type
         locks = subst (Locks (Fit q) r.n words' homes') (sym (map-set lock_of s.views id w))
             (lk.locks_stay (Fit q) r.n s.words words' s.homes homes' (set (map lock_of s.views) id w.lock)
             (lk.leaves (Fit p) r.n s.words s.homes (map lock_of s.views) (subst (λ (z : P). Locks (Fit z) r.n s.words s.homes (map lock_of s.views)) shows r.locks) id me.0.lock (at_map lock_of s.views id me.0 at) (wider s r) r.deep
-            (Fit q) xs (key_in xs me.0.lock.owes (sym keys)) (key_in me.0.lock.owes xs keys) own others)
+            (Fit q) xs (key_in xs me.0.lock.owes (sym keys)) (key_in me.0.lock.owes xs keys) may.4 may.5)
             (get_or-set_other s.words 1 0 0 0 (λ e. omega arith)) (λ b _. get_or-set_other s.words 1 (b + 2) 0 0 (λ e. omega arith)) (λ b. set_else s.homes 0 (b + 1) (some (Pivot q)) (λ e. omega arith)));
-        pivots = subst (λ (z : ℕ × List (PivotView P)). Pivots good grows q z.0 homes' z.1) (λ i. (sym now i, sym (map-set pivot_of s.views id w) i))
-            (pk.leaves good grows same trans p s.homes (map pivot_of s.views) id me.0.pivot at' (is_call && not me.0.pivot.posted) n q (subst (λ (z : P). Pivots good grows z n s.homes (map pivot_of s.views)) shows pivots) within fine up (omega arith));
-        looks = turned_looks s r id me.0 w at refl p q shows (set s.words 1 0) (λ f _. get_or-set_other s.words 1 (r.n + 2 + f) 0 0 (λ e. omega arith)) still;
-        tasks = subst (Tasks (busy q)) (sym (map-set task_of s.views id w)) (tk.tasks_turn busy p q (map task_of s.views) id me.0.task change (at_map task_of s.views id me.0 at) turns (subst (λ (z : P). Tasks (busy z) (map task_of s.views)) shows r.tasks));
+        pivots = subst (λ (z : ℕ × List (PivotView P)). Pivots facts q z.0 homes' z.1) (λ i. (sym now i, sym (map-set pivot_of s.views id w) i))
+            (pk.leaves facts lawful p s.homes (map pivot_of s.views) id me.0.pivot at' (is_call && not me.0.pivot.posted) n q (subst (λ (z : P). Pivots facts z n s.homes (map pivot_of s.views)) shows pivots) within may.2 up (omega arith));
+        looks = turned_looks s r id me.0 w at refl p q shows (set s.words 1 0) (λ f _. get_or-set_other s.words 1 (r.n + 2 + f) 0 0 (λ e. omega arith)) may.6;
+        tasks = subst (Tasks (facts.busy q)) (sym (map-set task_of s.views id w)) (tk.tasks_turn facts.busy p q (map task_of s.views) id me.0.task change (at_map task_of s.views id me.0 at) may.7 (subst (λ (z : P). Tasks (facts.busy z) (map task_of s.views)) shows r.tasks));
         parts = parts_same s r id me.0 w at refl (by_inside me.0 within);
         latest = (id, w, set_at s.views id me.0 w at, inl refl);
       } in (
@@ -305,12 +311,12 @@ module _ {P X T : Type 0} (good : P → Type 0) (fits : ℕ → P → X → Type
         sym (subst (λ (z : List P). left_as z (some said) me ≡ (w, rest me.1)) (sym seen) tells),
       )
 
-  -- the seat has seen something
-  pub settles : (slots id : ℕ) (me : Sat P X T) (q : P) (qs : List P) → me.0.pivot.seen ≡ q ∷ qs → me.0.pivot.inside ≡ false → Allows Rule slots id me 0 (λ n. n) (settled grows (step slots 0 0 0 none) me)
+  -- a joined seat puts its calls in order
+  pub settles : (slots id : ℕ) (me : Sat P X T) (q : P) (qs : List P) → me.0.pivot.seen ≡ q ∷ qs → me.0.pivot.inside ≡ false → Allows Rule slots id me 0 (λ n. n) (settled facts.grows (step slots 0 0 0 none) me)
   settles slots id me q qs seen off s r deep at _ = let h = r.latest in let at' = at_map pivot_of s.views id me.0 at in let pivots = r.pivots in let own = pivots.each id me.0.pivot at' in
-      let near : (a b : P) → In a (q ∷ qs) → In b (q ∷ qs) → grows a b ⊎ grows b a = λ a b h k. own.order a b (subst (In a) (sym seen) h) (subst (In b) (sym seen) k) in
-      let shared = pk.last_seen grows same trans q qs near in let c = pk.chained grows same trans me.0.pivot.mine own.calls own.ordered in
-      let pick : (p : P) × In p me.0.pivot.seen × ((a : P) → In a me.0.pivot.seen → grows a p) × (h.0 ≡ id → r.shown ≡ p) = dite (ℕ_discrete h.0 id)
+      let near : (a b : P) → In a (q ∷ qs) → In b (q ∷ qs) → facts.grows a b ⊎ facts.grows b a = λ a b h k. own.order a b (subst (In a) (sym seen) h) (subst (In b) (sym seen) k) in
+      let shared = pk.last_seen facts lawful q qs near in let c = pk.chained facts lawful me.0.pivot.mine own.calls own.ordered in
+      let pick : (p : P) × In p me.0.pivot.seen × ((a : P) → In a me.0.pivot.seen → facts.grows a p) × (h.0 ≡ id → r.shown ≡ p) = dite (ℕ_discrete h.0 id)
       (λ e. (r.shown, subst (λ (z : View P X T). In r.shown z.pivot.seen) (same_view s.views id h.0 me.0 h.1 at h.2 e) h.3, own.grown, λ _. refl))
       (λ ne. (shared.0, subst (In shared.0) (sym seen) shared.1, (λ a k. shared.2 a (subst (In a) seen k)), λ e. absurd (ne e))) in
       let w : View P X T = record me.0 { pivot = record me.0.pivot { seen = pick.0 ∷ []; mine = c.0 } } in (
@@ -323,19 +329,19 @@ module _ {P X T : Type 0} (good : P → Type 0) (fits : ℕ → P → X → Type
           wide = r.wide;
           deep = r.deep;
           locks = subst (Locks (Fit r.shown) r.n s.words s.homes) (sym (map-set lock_of s.views id w ∙ set_again (map lock_of s.views) id me.0.lock (at_map lock_of s.views id me.0 at))) r.locks;
-          pivots = subst (Pivots good grows r.shown (get_or s.words 1 0) s.homes) (sym (map-set pivot_of s.views id w))
-              (pk.settles grows same trans good r.shown (get_or s.words 1 0) s.homes (map pivot_of s.views) id me.0.pivot at' off pivots pick.0 c.0 pick.1 pick.2 c.1 c.2);
-          looks = subst (Looks (posted r.shown) r.n posts s.words) (sym (looked_again s id me.0 w at refl)) r.looks;
+          pivots = subst (Pivots facts r.shown (get_or s.words 1 0) s.homes) (sym (map-set pivot_of s.views id w))
+              (pk.settles facts lawful r.shown (get_or s.words 1 0) s.homes (map pivot_of s.views) id me.0.pivot at' off pivots pick.0 c.0 pick.1 pick.2 c.1 c.2);
+          looks = subst (Looks (facts.posted r.shown) r.n posts s.words) (sym (looked_again s id me.0 w at refl)) r.looks;
           tasks = tasks_same s r id me.0 w at refl;
           parts = parts_same s r id me.0 w at refl (by_seen me.0 (q, qs, seen));
           latest = dite (ℕ_discrete h.0 id) (λ e. (id, w, set_at s.views id me.0 w at, inl (pick.3 e))) (λ ne. (h.0, h.1, set_else s.views id h.0 w ne ∙ h.2, h.3));
         },
-        (pick.0, c.0, refl, c.1, c.2, pick.1, pick.2, λ d k. let l = own.lefts d (in_permutation d c.0 me.0.pivot.mine (IsPermutation-sym me.0.pivot.mine c.0 c.2) k) in trans _ _ _ l.2 (pick.2 l.0 l.1)),
+        (pick.0, c.0, refl, c.1, c.2, pick.1, pick.2, λ d k. let l = own.lefts d (in_permutation d c.0 me.0.pivot.mine (IsPermutation-sym me.0.pivot.mine c.0 c.2) k) in lawful.transitive _ _ _ l.2 (pick.2 l.0 l.1)),
       )
 
-  -- who is inside reads the word of a fence
+  -- the seat that is inside reads the word of a fence
   pub reads_back : (slots id : ℕ) (me : Sat P X T) (f : ℕ) → me.0.pivot.inside ≡ true → f < posts
-      → Allows Rule slots id me (slots + 1 + f) (λ n. n) (read_back posted (step slots (slots + 1 + f) 0 0 none) me)
+      → Allows Rule slots id me (slots + 1 + f) (λ n. n) (read_back facts.posted (step slots (slots + 1 + f) 0 0 none) me)
   reads_back slots id me f within low s r deep at _ = let tall = r.deep in let n₀ : r.n + 1 ≡ slots = omega arith in let pivots = r.pivots in let looks = r.looks in (
     me.0,
     keeps,
@@ -346,15 +352,15 @@ module _ {P X T : Type 0} (good : P → Type 0) (fits : ℕ → P → X → Type
       λ g p e within' seen.
           let known = (pivots.each id me.0.pivot (at_map pivot_of s.views id me.0 at)).inside within in let shows : r.shown ≡ p = ap (first_or r.shown) (sym known.1 ∙ seen) in let g_is : f ≡ g = omega arith in
           let place : slots + 1 + f ≡ r.n + 2 + f = omega arith in
-          ap (λ (k : ℕ). get_or s.words k 0) place ∙ (looks.at f low ∙ (ap (λ (z : P). posted z f) shows ∙ ap (posted p) g_is)),
+          ap (λ (k : ℕ). get_or s.words k 0) place ∙ (looks.at f low ∙ (ap (λ (z : P). facts.posted z f) shows ∙ ap (facts.posted p) g_is)),
     ),
   )
 
-  -- a look at the word of a fence
-  pub looks_on : (slots id : ℕ) (me : Sat P X T) (f : ℕ) → f < posts → Allows Rule slots id me (slots + 1 + f) (λ n. n) (looks_at good grows posted busy (step slots (slots + 1 + f) 0 0 none) me)
+  -- a seat looks at the word of a fence
+  pub looks_on : (slots id : ℕ) (me : Sat P X T) (f : ℕ) → f < posts → Allows Rule slots id me (slots + 1 + f) (λ n. n) (looks_at facts (step slots (slots + 1 + f) 0 0 none) me)
   looks_on slots id me f low s r deep at _ = let tall = r.deep in let pivots = r.pivots in let looks = r.looks in let own = pivots.each id me.0.pivot (at_map pivot_of s.views id me.0 at) in
       let place : slots + 1 + f ≡ r.n + 2 + f = omega arith in let x : ℕ = get_or s.words (slots + 1 + f) 0 in let w : View P X T = with_look f x me.0 in let at' = at_map looked_of s.views id me.0 at in
-      let is : x ≡ posted r.shown f = ap (λ (k : ℕ). get_or s.words k 0) place ∙ looks.at f low in (
+      let is : x ≡ facts.posted r.shown f = ap (λ (k : ℕ). get_or s.words k 0) place ∙ looks.at f low in (
         w,
         keeps,
         tt,
@@ -364,44 +370,43 @@ module _ {P X T : Type 0} (good : P → Type 0) (fits : ℕ → P → X → Type
           wide = r.wide;
           deep = r.deep;
           locks = subst (Locks (Fit r.shown) r.n s.words s.homes) (sym (map-set lock_of s.views id w ∙ set_again (map lock_of s.views) id me.0.lock (at_map lock_of s.views id me.0 at))) r.locks;
-          pivots = subst (Pivots good grows r.shown (get_or s.words 1 0) s.homes) (sym (map-set pivot_of s.views id w ∙ set_again (map pivot_of s.views) id me.0.pivot (at_map pivot_of s.views id me.0 at))) r.pivots;
-          looks = subst (Looks (posted r.shown) r.n posts s.words) (sym (map-set looked_of s.views id w ∙ ap (λ (k : ℕ). set (map looked_of s.views) id (me.0.looked ++ (f, get_or s.words k 0) ∷ [])) place))
-              (fk.looks_more r.n posts (map looked_of s.views) (posted r.shown) s.words looks id me.0.looked at' f low);
+          pivots = subst (Pivots facts r.shown (get_or s.words 1 0) s.homes) (sym (map-set pivot_of s.views id w ∙ set_again (map pivot_of s.views) id me.0.pivot (at_map pivot_of s.views id me.0 at))) r.pivots;
+          looks = subst (Looks (facts.posted r.shown) r.n posts s.words) (sym (map-set looked_of s.views id w ∙ ap (λ (k : ℕ). set (map looked_of s.views) id (me.0.looked ++ (f, get_or s.words k 0) ∷ [])) place))
+              (fk.looks_more r.n posts (map looked_of s.views) (facts.posted r.shown) s.words looks id me.0.looked at' f low);
           tasks = tasks_same s r id me.0 w at refl;
           parts = parts_stay s.views id me.0 w at refl (λ none. ap (with_look f x) (r.parts.blank id me.0 at none)) r.parts;
           latest = latest_same s r id me.0 w at refl;
         },
         λ g e. let g_is : f ≡ g = omega arith in (
           ap (λ (k : ℕ). (with_look k x me.0, me.1)) g_is,
-          (r.shown, later s r id me.0 at, is ∙ ap (posted r.shown) g_is),
+          (r.shown, later s r id me.0 at, is ∙ ap (facts.posted r.shown) g_is),
         ),
       )
 
-  -- who is inside shows q, by the word of a fence
-  pub posts_one : (slots id : ℕ) (me : Sat P X T) (p : P) (said : Slot P X T) (q : P) (xs : List (ℕ × X)) (f old new : ℕ) → posted_as (p ∷ []) (some said) me ≡ (with_post p q xs me.0, me.1) → me.0.pivot.inside ≡ true → me.0.pivot.seen ≡ p ∷ []
-      → map number_of me.0.lock.owes ≡ map number_of xs → good q → grows p q → ((b : ℕ) (x : X) → In (b, x) xs → fits b q x) → ((b : ℕ) (x : X) → ((y : X) → In (b, y) me.0.lock.owes → ⊥) → fits b p x → fits b q x)
-      → f < posts → old ≡ posted p f → new ≡ posted q f → ((g : ℕ) → g ≢ f → posted q g ≡ posted p g) → ((t : T) → busy p t → busy q t)
+  -- the seat that is inside shows q by the word of a fence
+  pub posts_one : (slots id : ℕ) (me : Sat P X T) (said : Slot P X T) (q : P) (xs : List (ℕ × X)) (f old new : ℕ) (may : MayPost facts me.0 xs q f new) → posted_as (may.0 ∷ []) (some said) me ≡ (with_post may.0 q xs me.0, me.1)
+      → me.0.pivot.inside ≡ true → map number_of me.0.lock.owes ≡ map number_of xs → f < posts → old ≡ facts.posted may.0 f
       → Allows Rule slots id me (slots + 1 + f) (λ n. either (eqb n old) new n) (posts_word (step slots (slots + 1 + f) old new (some said)) me)
-  posts_one slots id me p said q xs f old new tells within seen keys fine up own others low was now still busier s r deep at _ = let tall = r.deep in let pivots = r.pivots in let looks = r.looks in let at' = at_map pivot_of s.views id me.0 at in
+  posts_one slots id me said q xs f old new may tells within keys low was s r deep at _ = let p = may.0 in let seen = may.1 in let up = may.3 in let now = may.6 in let tall = r.deep in let pivots = r.pivots in let looks = r.looks in let at' = at_map pivot_of s.views id me.0 at in
       let known = (pivots.each id me.0.pivot at').inside within in let shows : r.shown ≡ p = ap (first_or r.shown) (sym known.1 ∙ seen) in
       let place : slots + 1 + f ≡ r.n + 2 + f = omega arith in let n : ℕ = get_or s.words (slots + 1 + f) 0 in
-      let hit : n ≡ old = ap (λ (k : ℕ). get_or s.words k 0) place ∙ (looks.at f low ∙ (ap (λ (z : P). posted z f) shows ∙ sym was)) in
-      let w : View P X T = with_post p q xs me.0 in let words' : List ℕ = set s.words (r.n + 2 + f) (posted q f) in
+      let hit : n ≡ old = ap (λ (k : ℕ). get_or s.words k 0) place ∙ (looks.at f low ∙ (ap (λ (z : P). facts.posted z f) shows ∙ sym was)) in
+      let w : View P X T = with_post p q xs me.0 in let words' : List ℕ = set s.words (r.n + 2 + f) (facts.posted q f) in
       let rule : Rule record { words = words'; homes = s.homes; views = set s.views id w } = record {
         n = r.n;
         shown = q;
-        wide = length-set s.words (r.n + 2 + f) (posted q f) ∙ r.wide;
+        wide = length-set s.words (r.n + 2 + f) (facts.posted q f) ∙ r.wide;
         deep = r.deep;
         locks = subst (Locks (Fit q) r.n words' s.homes) (sym (map-set lock_of s.views id w))
             (lk.locks_stay (Fit q) r.n s.words words' s.homes s.homes (set (map lock_of s.views) id w.lock)
             (lk.leaves (Fit p) r.n s.words s.homes (map lock_of s.views) (subst (λ (z : P). Locks (Fit z) r.n s.words s.homes (map lock_of s.views)) shows r.locks) id me.0.lock (at_map lock_of s.views id me.0 at) (wider s r) r.deep
-            (Fit q) xs (key_in xs me.0.lock.owes (sym keys)) (key_in me.0.lock.owes xs keys) own others)
-            (get_or-set_other s.words (r.n + 2 + f) 0 (posted q f) 0 (λ e. omega arith)) (λ b l. get_or-set_other s.words (r.n + 2 + f) (b + 2) (posted q f) 0 (λ e. omega arith)) (λ b. refl));
-        pivots = subst (λ (z : ℕ × List (PivotView P)). Pivots good grows q z.0 s.homes z.1) (λ i. (sym (get_or-set_other s.words (r.n + 2 + f) 1 (posted q f) 0 (λ e. omega arith)) i, sym (map-set pivot_of s.views id w) i))
-            (pk.posts good grows same trans p s.homes (map pivot_of s.views) id me.0.pivot at' (get_or s.words 1 0) q (subst (λ (z : P). Pivots good grows z (get_or s.words 1 0) s.homes (map pivot_of s.views)) shows pivots) within fine up);
-        looks = subst (Looks (posted q) r.n posts words') (sym (looked_again s id me.0 w at refl))
-            (fk.looks_post r.n posts (map looked_of s.views) (posted p) (posted q) s.words f low (let y = r.wide in omega arith) still (onward p q up) (subst (λ (z : P). Looks (posted z) r.n posts s.words (map looked_of s.views)) shows looks));
-        tasks = subst (Tasks (busy q)) (sym (map-set task_of s.views id w)) (tk.tasks_turn busy p q (map task_of s.views) id me.0.task Same (at_map task_of s.views id me.0 at) busier (subst (λ (z : P). Tasks (busy z) (map task_of s.views)) shows r.tasks));
+            (Fit q) xs (key_in xs me.0.lock.owes (sym keys)) (key_in me.0.lock.owes xs keys) may.4 may.5)
+            (get_or-set_other s.words (r.n + 2 + f) 0 (facts.posted q f) 0 (λ e. omega arith)) (λ b l. get_or-set_other s.words (r.n + 2 + f) (b + 2) (facts.posted q f) 0 (λ e. omega arith)) (λ b. refl));
+        pivots = subst (λ (z : ℕ × List (PivotView P)). Pivots facts q z.0 s.homes z.1) (λ i. (sym (get_or-set_other s.words (r.n + 2 + f) 1 (facts.posted q f) 0 (λ e. omega arith)) i, sym (map-set pivot_of s.views id w) i))
+            (pk.posts facts lawful p s.homes (map pivot_of s.views) id me.0.pivot at' (get_or s.words 1 0) q (subst (λ (z : P). Pivots facts z (get_or s.words 1 0) s.homes (map pivot_of s.views)) shows pivots) within may.2 up);
+        looks = subst (Looks (facts.posted q) r.n posts words') (sym (looked_again s id me.0 w at refl))
+            (fk.looks_post r.n posts (map looked_of s.views) (facts.posted p) (facts.posted q) s.words f low (let y = r.wide in omega arith) may.7 (lawful.onward p q up) (subst (λ (z : P). Looks (facts.posted z) r.n posts s.words (map looked_of s.views)) shows looks));
+        tasks = subst (Tasks (facts.busy q)) (sym (map-set task_of s.views id w)) (tk.tasks_turn facts.busy p q (map task_of s.views) id me.0.task Same (at_map task_of s.views id me.0 at) may.8 (subst (λ (z : P). Tasks (facts.busy z) (map task_of s.views)) shows r.tasks));
         parts = parts_same s r id me.0 w at refl (by_inside me.0 within);
         latest = (id, w, set_at s.views id me.0 w at, inl refl);
       } in (

@@ -1,4 +1,4 @@
--- Lists as the rule reads them.
+-- What stands in lists and at their places.
 use Rattle.std.proofs.Common.{◌≡◌, ◌≢◌, ℕ, ◌<◌, zero, suc, List, [], ◌∷◌, ◌++◌, length, set, sym, refl, ap, ◌∙◌, subst, ⊎_elim, inl, inr, ◌⊎◌, arith, Bool, map, drop, get_or, eq-eqb, ne_eqb}
 use Rattle.std.specs.Prelude.{IsPermutation}
 use Rattle.std.proofs.lemmas.List.Sorted.{Contains-permutation}
@@ -54,7 +54,7 @@ module _ {A : Type 0} where
   pub in_permutation : (a : A) (xs ys : List A) → IsPermutation xs ys → In a xs → In a ys
   in_permutation a xs ys p h = let c = Contains-permutation xs ys a p (place_in a xs h) in in_place a ys c.0 c.1 c.2
 
--- a fact of each seat, after a step of the seat id
+-- a fact holds of each seat after a step of the seat id
 pub seats : {V : Type 0} (K : ℕ → V → Type 0) (vs : List V) (id : ℕ) (w : V) → K id w → ((j : ℕ) (d : V) → j ≢ id → get_elem? vs j ≡ some d → K j d)
     → (j : ℕ) (d : V) → get_elem? (set vs id w) j ≡ some d → K j d
 seats {V} K vs id w mine others j d e = ⊎_elim (λ (t : (j ≡ id) × (w ≡ d)). subst (λ (x : ℕ × V). K x.0 x.1) (λ i. (sym t.0 i, t.1 i)) mine)
@@ -63,7 +63,7 @@ seats {V} K vs id w mine others j d e = ⊎_elim (λ (t : (j ≡ id) × (w ≡ d
 pub same_view : {V : Type 0} (vs : List V) (j k : ℕ) (v w : V) → get_elem? vs j ≡ some v → get_elem? vs k ≡ some w → k ≡ j → w ≡ v
 same_view vs j k v w a b e = some-injective w v (sym b ∙ (ap (get_elem? vs) e ∙ a))
 
--- a pair of another key stays, and none of this key is left
+-- a pair of another number stays, and none of this number is left
 module _ {A : Type 0} where
   pub in_without : (b : ℕ) (p : ℕ × A) (xs : List (ℕ × A)) → In p (without b xs) → In p xs × (p.0 ≢ b)
   in_without b p [] h = absurd h
@@ -79,7 +79,7 @@ module _ {A : Type 0} where
       (⊎_elim (λ t. absurd (ne (ap (λ (z : ℕ × A). z.0) t ∙ e))) (λ t. without_in b p xs t ne) h))
       (λ no. subst (λ (k : Bool). In p (if k then without b xs else x ∷ without b xs)) (sym (ne_eqb x.0 b no)) (⊎_elim (λ t. inl t) (λ t. inr (without_in b p xs t ne)) h))
 
--- the pair of a key, where another list has the same keys
+-- a number has a pair in each list with the same numbers
 pub key_in : {A B : Type 0} (xs : List (ℕ × A)) (ys : List (ℕ × B)) → map number_of xs ≡ map number_of ys → (b : ℕ) (x : A) → In (b, x) xs → (y : B) × In (b, y) ys
 key_in [] ys e b x h = absurd h
 key_in (p ∷ xs) [] e b x h = absurd (let n : suc (length (map number_of xs)) ≡ 0 = ap length e in omega arith)

@@ -1,4 +1,4 @@
--- The values' half of the rule, over a step of one seat.
+-- A step of one seat keeps the values' part of the rule.
 use Rattle.std.proofs.Common.{◌≡◌, ◌≢◌, ℕ, ◌+◌, ◌^◌, ◌<◌, ◌≤◌, List, [], ◌∷◌, ◌++◌, length, get_or, set, sym, refl, ap, ◌∙◌, subst, ⊎_elim, inl, inr, ◌⊎◌, Bool, true, false, arith, get_or-set_other, get_or-set_same}
 use Rattle.std.specs.Prelude.{◌||◌}
 use Rattle.std.proofs.lemmas.Bool.{false≢true}
@@ -48,7 +48,7 @@ module _ {X : Type 0} where
       (λ ne. (k, u, x, set_else vs id k w ne ∙ there, is, has))
 
 module _ {P X T : Type 0} where
-  -- what a step of the seat id owes
+  -- to keep the rule of the values, a step of the seat id owes these facts
   pub record Moves (fit fit' : ℕ → X → Type 0) (n : ℕ) (words words' : List ℕ) (homes homes' : List (Option (Slot P X T))) (views : List (LockView X)) (id : ℕ) (v w : LockView X) : Type 0 where
     pub counter : (0 < get_or words' 0 0) × (get_or words' 0 0 ≤ 2 ^ 63)
     pub up : get_or words 0 0 ≤ get_or words' 0 0
@@ -65,6 +65,7 @@ module _ {P X T : Type 0} where
     pub drawn : (t : ℕ) → t < get_or words' 0 0 → (t < get_or words 0 0) ⊎ Drew (set views id w) t
     pub ended : w.ended ≡ true → get_or words' 0 0 ≡ 2 ^ 63
 
+  -- a step that meets what it owes keeps the rule of the values
   pub moved : (fit fit' : ℕ → X → Type 0) (n : ℕ) (words words' : List ℕ) (homes homes' : List (Option (Slot P X T))) (views : List (LockView X)) (id : ℕ) (v w : LockView X) → Locks fit n words homes views
       → At views id v → Moves fit fit' n words words' homes homes' views id v w → Locks fit' n words' homes' (set views id w)
   moved fit fit' n words words' homes homes' views id v w r at m = let up = m.up in let stay = met_stays views id v w at m.had in record {
@@ -83,7 +84,7 @@ module _ {P X T : Type 0} where
     met = λ j d b h p. seats (λ _ d. In (b, h) d.met → Met (set views id w) b h) views id w (λ has. stay b h (m.met b h has)) (λ j d _ a has. stay b h (r.met j d b h a has)) j d p;
   }
 
-  -- the same where word 0 and the words from 2 on, and the slots from 1 on, stay
+  -- the rule of the values reads word 0, the words from 2 on and the slots from 1 on alone
   pub locks_stay : (fit : ℕ → X → Type 0) (n : ℕ) (words words' : List ℕ) (homes homes' : List (Option (Slot P X T))) (views : List (LockView X)) → Locks fit n words homes views
       → get_or words' 0 0 ≡ get_or words 0 0 → ((b : ℕ) → b < n → get_or words' (b + 2) 0 ≡ get_or words (b + 2) 0) → ((b : ℕ) → get_elem? homes' (b + 1) ≡ get_elem? homes (b + 1))
       → Locks fit n words' homes' views
@@ -118,6 +119,7 @@ module _ {P X T : Type 0} where
       }
 
   module _ (fit : ℕ → X → Type 0) (n : ℕ) (words : List ℕ) (homes : List (Option (Slot P X T))) (views : List (LockView X)) (r : Locks fit n words homes views) (id : ℕ) (v : LockView X) (at : At views id v) (wide : n + 2 ≤ length words) (deep : length homes ≡ n + 1) where
+    -- the seat draws the next ticket
     pub draws : (old : ℕ) → old < 2 ^ 63 → get_or words 0 0 ≡ old → v.owes ≡ [] → Locks fit n (set words 0 (old + 1)) homes (set views id (record v { ticket = old; drew = v.drew ++ old ∷ [] }))
     draws old small hit bare = let w : LockView X = record v { ticket = old; drew = v.drew ++ old ∷ [] } in let words' : List ℕ = set words 0 (old + 1) in
         let now : get_or words' 0 0 ≡ old + 1 = get_or-set_same words 0 (old + 1) 0 (omega arith) in let low = r.counter in let low₀ = low.0 in
@@ -144,6 +146,7 @@ module _ {P X T : Type 0} where
           ended = λ e. let o = r.ended id v at e in absurd (omega arith);
         }
 
+    -- the seat takes a value that is at home
     pub claims : (b t : ℕ) (x : X) → b < n → v.ticket ≡ t → 0 < t → get_or words (b + 2) 0 ≡ 0 → fit b x
         → Locks fit n (set words (b + 2) t) (set homes (b + 1) none) (set views id (record v { owes = v.owes ++ (b, x) ∷ []; had = v.had ++ (b, v.ticket) ∷ [] }))
     claims b t x inside mine pos hit good = let w : LockView X = record v { owes = v.owes ++ (b, x) ∷ []; had = v.had ++ (b, v.ticket) ∷ [] } in
@@ -212,6 +215,7 @@ module _ {P X T : Type 0} where
           },
         )
 
+    -- the seat gives a value back
     pub releases : (b : ℕ) (x y : X) → In (b, x) v.owes → fit b y → Locks fit n (set words (b + 2) 0) (set homes (b + 1) (some (Value y))) (set views id (record v { owes = without b v.owes }))
     releases b x y has good = let w : LockView X = record v { owes = without b v.owes } in let words' : List ℕ = set words (b + 2) 0 in let homes' = set homes (b + 1) (some (Value y)) in
         let due = r.owed id v b x at has in let inside = due.0 in let due₁ = due.1 in let due₂ = due.2 in let low = r.counter in let low₀ = low.0 in let low₁ = low.1 in let own = r.tickets id v at in

@@ -1,16 +1,11 @@
--- The fences' half of the rule, over a step of one seat.
-use Rattle.std.proofs.Common.{◌≡◌, ◌≢◌, ℕ, ◌+◌, ◌<◌, ◌≤◌, List, [], ◌∷◌, ◌++◌, length, get_or, set, sym, ◌∙◌, subst, ⊎_elim, inl, inr, arith, get_or-set_other, get_or-set_same}
+-- A step of one seat keeps the fence words' part of the rule.
+use Rattle.std.proofs.Common.{◌≡◌, ◌≢◌, ℕ, ◌+◌, ◌<◌, ◌≤◌, List, [], ◌∷◌, ◌++◌, length, get_or, set, sym, ◌∙◌, subst, ⊎_elim, inl, arith, get_or-set_other, get_or-set_same}
 use mathlib.Core.Logic.{dite}
 use native.Mathlib.Decide.{ℕ_discrete}
 use Rattle.atomic_table.proofs.Lists.{at_snoc}
-use Rattle.ww_lock.specs.Fences.{NotBack}
+use Rattle.ww_lock.specs.Fences.{NotBack, not_back_twice}
 use Rattle.ww_lock.specs.Rule.{In, At, Looks}
 use Rattle.ww_lock.proofs.Lists.{in_both, in_last, seats}
-
-pub not_back_trans : (x y z : ℕ) → NotBack x y → NotBack y z → NotBack x z
-not_back_trans x y z p q = ⊎_elim
-    (λ e. subst (λ k. NotBack k z) e q)
-    (λ up. ⊎_elim (λ e. inr (up.0, subst (λ k. x < k) (sym e) up.1)) (λ on. inr (up.0, let a = up.1 in let b = on.1 in omega arith)) q) p
 
 module _ (n posts : ℕ) (views : List (List (ℕ × ℕ))) where
   -- the words of the fences stay
@@ -28,11 +23,11 @@ module _ (n posts : ℕ) (views : List (List (ℕ × ℕ))) where
     at = λ g l. dite (ℕ_discrete g f)
         (λ e. subst (λ (k : ℕ). get_or (set words (n + 2 + f) (word' f)) (n + 2 + k) 0 ≡ word' k) (sym e) (get_or-set_same words (n + 2 + f) (word' f) 0 (omega arith)))
         (λ ne. get_or-set_other words (n + 2 + f) (n + 2 + g) (word' f) 0 (λ e. ne (omega arith)) ∙ (r.at g l ∙ sym (still g ne)));
-    past = λ j v g x a h. not_back_trans x (word g) (word' g) (r.past j v g x a h) (on g);
+    past = λ j v g x a h. not_back_twice x (word g) (word' g) (r.past j v g x a h) (on g);
   }
 
   module _ (word : ℕ → ℕ) (words : List ℕ) (r : Looks word n posts words views) (id : ℕ) (v : List (ℕ × ℕ)) (at : At views id v) where
-    -- a look, at a word that is there
+    -- the seat looks at a word that is there
     pub looks_more : (f : ℕ) → f < posts → Looks word n posts words (set views id (v ++ (f, get_or words (n + 2 + f) 0) ∷ []))
     looks_more f l = let x : ℕ = get_or words (n + 2 + f) 0 in let w : List (ℕ × ℕ) = v ++ (f, x) ∷ [] in record {
       at = r.at;
@@ -41,9 +36,11 @@ module _ (n posts : ℕ) (views : List (List (ℕ × ℕ))) where
           (λ j u _ a h. r.past j u g y a h) j u p h;
     }
 
+    -- the seat is split, and the new one has looked at as much
     pub looks_split : Looks word n posts words (views ++ v ∷ [])
     looks_split = record { at = r.at; past = λ j u g y p h. ⊎_elim (λ a. r.past j u g y a h) (λ e. r.past id v g y at (subst (In (g, y)) (sym e) h)) (at_snoc views v u j p) }
 
+    -- the seat takes in what another one looked at
     pub looks_join : (other : ℕ) (u : List (ℕ × ℕ)) → At views other u → Looks word n posts words (set (set views id (v ++ u)) other [])
     looks_join other u there = record {
       at = r.at;

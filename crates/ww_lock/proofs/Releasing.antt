@@ -1,5 +1,5 @@
--- What is held, without one value.
-use Rattle.std.proofs.Common.{◌≡◌, ◌≢◌, ℕ, ◌+◌, ◌-◌, ◌<◌, ◌≤◌, zero, suc, List, [], ◌∷◌, ◌++◌, take, drop, map, length, sym, refl, ap, ◌∙◌, subst, ⊎_elim, inl, inr, arith, eq-eqb, ne_eqb, Bool}
+-- A value is taken out of what is held.
+use Rattle.std.proofs.Common.{◌≡◌, ◌≢◌, ℕ, ◌+◌, ◌-◌, zero, suc, List, [], ◌∷◌, ◌++◌, take, drop, map, length, sym, refl, ap, ◌∙◌, subst, inl, inr, arith, eq-eqb, ne_eqb, Bool}
 use Rattle.std.specs.Prelude.{if◌then◌else◌}
 use mathlib.Core.Logic.{dite}
 use mathlib.Core.Option.{some, some-injective, some-ne-none}
@@ -18,7 +18,7 @@ module _ {A : Type 0} where
   without_none b (x ∷ xs) h = let ne : x.0 ≢ b = λ e. h x.1 (inl (λ i. (sym e i, x.1))) in
       subst (λ (k : Bool). (if k then without b xs else x ∷ without b xs) ≡ x ∷ xs) (sym (ne_eqb x.0 b ne)) (ap (λ l. x ∷ l) (without_none b xs (λ y t. h y (inr t))))
 
-  -- numbers stand once, so the one that is taken out is the only one of its number
+  -- where each number stands once, the pair that is taken out is the only one of its number
   pub removed : (b : ℕ) (x : A) (xs : List (ℕ × A)) (i : ℕ) → IsApart xs → get_elem? xs i ≡ some (b, x) → take i xs ++ drop (i + 1) xs ≡ without b xs
   removed b x [] i h e = absurd (some-ne-none (b, x) (sym e))
   removed b x (p ∷ xs) zero h e = let same : p.0 ≡ b = ap (λ z. z.0) (some-injective p (b, x) e) in
@@ -35,7 +35,7 @@ module _ {A : Type 0} where
       (λ s. subst (λ (k : Bool × Bool). IsSameKeys (if k.0 then without b xs else p ∷ without b xs) (if k.1 then without b ys else q ∷ without b ys)) (λ i. (sym (eq-eqb p.0 b (head ∙ s)) i, sym (eq-eqb q.0 b s) i)) tail)
       (λ ne. subst (λ (k : Bool × Bool). IsSameKeys (if k.0 then without b xs else p ∷ without b xs) (if k.1 then without b ys else q ∷ without b ys)) (λ i. (sym (ne_eqb p.0 b (λ s. ne (sym head ∙ s))) i, sym (ne_eqb q.0 b ne) i)) (λ i. head i ∷ tail i))
 
-  -- the slots turn until that of the value is first, and after it is given back until they stand as before
+  -- the slots turn until that of the value is first
   pub brought : {P T : Type 0} (b : ℕ) (x : A) (xs : List (ℕ × A)) (i : ℕ) → get_elem? xs i ≡ some (b, x)
       → turned_by i (emptied {P = P} {X = A} {T = T} xs) ≡ (b + 1, Gone) ∷ emptied (drop (i + 1) xs) ++ emptied (take i xs)
   brought {P} {T} b x xs i e = ap (turned_by i) (parted xs i e) ∙ (ap (λ n. turned_by n (emptied {P = P} {X = A} {T = T} (take i xs) ++ (b + 1, Gone) ∷ emptied (drop (i + 1) xs))) (sym (count xs i e)) ∙ turned_whole (emptied (take i xs)) ((b + 1, Gone) ∷ emptied (drop (i + 1) xs))) where
@@ -57,5 +57,6 @@ module _ {A : Type 0} where
   emptied_length P T [] = refl
   emptied_length P T (p ∷ xs) = ap suc (emptied_length P T xs)
 
+  -- after it is given back they turn until they stand as before
   pub turned_back : {P T : Type 0} (early late : List (ℕ × A)) (n : ℕ) → n ≡ length late → turned_by n (emptied {P = P} {X = A} {T = T} late ++ emptied early) ≡ emptied (early ++ late)
   turned_back {P} {T} early late n e = ap (λ k. turned_by k (emptied {P = P} {X = A} {T = T} late ++ emptied early)) (e ∙ sym (emptied_length P T late)) ∙ (turned_whole (emptied late) (emptied early) ∙ sym (emptied_more early late))

@@ -1,5 +1,5 @@
--- The parts of the seats make up the whole, over a step of one seat.
-use Rattle.std.proofs.Common.{◌≡◌, ◌≢◌, ℕ, zero, suc, ◌+◌, ◌-◌, ◌^◌, ◌*◌, ◌<◌, ◌≤◌, List, [], ◌∷◌, ◌++◌, map, set, sym, refl, ap, ◌∙◌, subst, ⊎_elim, arith}
+-- The parts of the seats go on to make up the whole over a step of one seat.
+use Rattle.std.proofs.Common.{◌≡◌, ◌≢◌, ℕ, zero, suc, ◌+◌, ◌-◌, ◌^◌, ◌≤◌, List, [], ◌∷◌, ◌++◌, map, set, sym, refl, ap, ◌∙◌, subst, ⊎_elim, arith}
 use Rattle.std.proofs.Math.Nat.{pow-suc}
 use Rattle.std.proofs.lemmas.Nat.{pow_pos}
 use mathlib.Core.Logic.{dite}
@@ -16,7 +16,7 @@ use Rattle.ww_lock.proofs.Lists.{same_view, seats}
 twice : (n : ℕ) → 2 ^ suc n ≡ 2 ^ n + 2 ^ n
 twice n = let e = pow-suc 2 n in omega arith
 
--- the same pieces, told in halves of what they were told in
+-- told in pieces half as large, the same pieces weigh twice as much
 finer : (n : ℕ) (ds : List ℕ) → AreWithin n ds → weight (suc n) ds ≡ weight n ds + weight n ds
 finer n [] h = refl
 finer n (d ∷ ds) h = let r = finer n ds h.1 in let low = h.0 in let e : suc n - d ≡ suc (n - d) = omega arith in
@@ -26,7 +26,7 @@ finer_within : (n : ℕ) (ds : List ℕ) → AreWithin n ds → AreWithin (suc n
 finer_within n [] h = tt
 finer_within n (d ∷ ds) h = (let low = h.0 in omega arith, finer_within n ds h.1)
 
--- half of the pieces, told in halves
+-- told in pieces half as large, halved pieces weigh as much as the whole ones did
 half : (n : ℕ) (ds : List ℕ) → weight (suc n) (halved ds) ≡ weight n ds
 half n [] = refl
 half n (d ∷ ds) = let r = half n ds in let e : suc n - (d + 1) ≡ n - d = omega arith in let p : 2 ^ (suc n - (d + 1)) ≡ 2 ^ (n - d) = ap (λ (k : ℕ). 2 ^ k) e in omega arith
@@ -60,16 +60,18 @@ none_right : (ds es : List ℕ) → ds ++ es ≡ [] → es ≡ []
 none_right [] es e = e
 none_right (d ∷ ds) es e = absurd (let n : suc (Rattle.std.proofs.Common.length (ds ++ es)) ≡ 0 = ap Rattle.std.proofs.Common.length e in omega arith)
 
--- the total, where one part is another
+-- the total changes by what one part changes
 total_set : (n : ℕ) (parts : List (List ℕ)) (id : ℕ) (ds es : List ℕ) → At parts id ds → total n (set parts id es) + weight n ds ≡ total n parts + weight n es
 total_set n [] id ds es at = absurd (some-ne-none ds (sym at))
 total_set n (p ∷ parts) zero ds es at = let e : weight n p ≡ weight n ds = ap (weight n) (some-injective p ds at) in omega arith
 total_set n (p ∷ parts) (suc id) ds es at = let r = total_set n parts id ds es at in omega arith
 
+-- the total gains what a new part weighs
 total_more : (n : ℕ) (parts : List (List ℕ)) (ds : List ℕ) → total n (parts ++ ds ∷ []) ≡ total n parts + weight n ds
 total_more n [] ds = omega arith
 total_more n (p ∷ parts) ds = let r = total_more n parts ds in omega arith
 
+-- told in pieces half as large, the total is twice as much
 total_finer : (n : ℕ) (parts : List (List ℕ)) → ((j : ℕ) (ds : List ℕ) → At parts j ds → AreWithin n ds) → total (suc n) parts ≡ total n parts + total n parts
 total_finer n [] h = refl
 total_finer n (p ∷ parts) h = let r = total_finer n parts (λ j ds at. h (suc j) ds at) in let f = finer n p (h 0 p refl) in omega arith
@@ -111,14 +113,14 @@ module _ {P X T : Type 0} where
   pub others_spent : (views : List (View P X T)) (id : ℕ) (v : View P X T) → At views id v → Parts views → IsWhole v.part → (k : ℕ) (w : View P X T) → At views k w → k ≢ id → w ≡ looked_only w.looked
   others_spent views id v here r all k w at ne = r.blank k w at (none_beside r.n (map part_of views) r.within r.whole id v.part (at_map part_of views id v here) all k w.part (at_map part_of views k w at) ne)
 
-  -- so what some seat saw last is what it saw
+  -- what some seat has seen last, the seat that has the whole has seen
   pub seen_by_all : (views : List (View P X T)) (id : ℕ) (v : View P X T) (shown : P) → At views id v → Parts views → IsWhole v.part
       → (j : ℕ) × (u : View P X T) × At views j u × In shown u.pivot.seen → In shown v.pivot.seen
   seen_by_all views id v shown here r all last = dite (ℕ_discrete last.0 id)
       (λ one. subst (λ (u : View P X T). In shown u.pivot.seen) (same_view views id last.0 v last.1 here last.2 one) last.3)
       (λ apart. absurd (subst (λ (u : View P X T). In shown u.pivot.seen) (others_spent views id v here r all last.0 last.1 last.2 apart) last.3))
 
-  -- a step of a seat that has a part, and keeps it
+  -- the parts stay where a seat keeps its part
   pub parts_stay : (views : List (View P X T)) (id : ℕ) (v w : View P X T) → At views id v → w.part ≡ v.part → (w.part ≡ [] → w ≡ looked_only w.looked) → Parts views → Parts (set views id w)
   parts_stay views id v w at same none r = let at' = at_map part_of views id v at in record {
     n = r.n;

@@ -1,4 +1,4 @@
--- The tasks' half of the rule, over a step of one seat.
+-- A step of one seat keeps the tasks' part of the rule.
 use Rattle.std.proofs.Common.{◌≡◌, ℕ, List, [], ◌∷◌, ◌++◌, set, sym, refl, ap, ◌∙◌, subst, ⊎_elim, Option, Some, None}
 use Rattle.std.proofs.lemmas.Option.{same_Some}
 use Rattle.atomic_table.proofs.Lists.{at_snoc}
@@ -12,6 +12,7 @@ none_some : {T : Type 0} (t : T) {A : Type 0} → None ≡ Some t → A
 none_some t e = absurd (cc (e))
 
 module _ {T : Type 0} where
+  -- a new seat has no task
   pub tasks_split : (busy : T → Type 0) (views : List (Option T)) → Tasks busy views → Tasks busy (views ++ None ∷ [])
   tasks_split busy views r = record {
     each = λ j t a. ⊎_elim (r.each j t) (λ e. none_some t e) (at_snoc views None (Some t) j a);

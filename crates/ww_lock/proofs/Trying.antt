@@ -1,4 +1,4 @@
--- The list of what is held.
+-- A value is added to what is held.
 use Rattle.std.proofs.Common.{◌≡◌, ◌≢◌, ℕ, ◌+◌, ◌<◌, ◌≤◌, zero, suc, List, [], ◌∷◌, ◌++◌, length, sym, refl, ap, ◌∙◌, subst, ⊎_elim, inl, inr, arith, eq-eqb, ne_eqb, Bool}
 use Rattle.std.specs.Prelude.{if◌then◌else◌}
 use mathlib.Core.Logic.{dite}
@@ -32,7 +32,7 @@ module _ {A : Type 0} where
       (λ e. subst (λ (k : Bool). IsApart (if k then without b xs else x ∷ without b xs)) (sym (eq-eqb x.0 b e)) (without_apart b xs h.1))
       (λ ne. subst (λ (k : Bool). IsApart (if k then without b xs else x ∷ without b xs)) (sym (ne_eqb x.0 b ne)) ((λ y t. h.0 y (in_without b (x.0, y) xs t).0), without_apart b xs h.1))
 
-  -- numbers below n, each once, are n at most
+  -- of numbers below n that stand once each, there are n at most
   pub apart_fits : (n : ℕ) (xs : List (ℕ × A)) → IsApart xs → ((b : ℕ) (x : A) → In (b, x) xs → b < n) → length xs ≤ n
   apart_fits zero [] h low = omega arith
   apart_fits zero (x ∷ xs) h low = let l = low x.0 x.1 (inl refl) in absurd (omega arith)

@@ -1,4 +1,5 @@
 pub mod Fences
+pub mod Facts
 pub mod Parts
 pub mod Rule
 pub mod Steps

@@ -1,7 +1,8 @@
--- Each seat has a part of the board: pieces, each of which is told by how often it was halved. The parts of all seats make up the whole.
+-- Each seat has a part of the board: pieces, each of which is told by how often it was halved.
+-- The parts of all seats make up the whole.
 use Rattle.std.specs.Prelude.{ℕ, ◌+◌, ◌-◌, ◌^◌, ◌≡◌, ◌≤◌, List, [], ◌∷◌}
 
--- how many 2^n-ths of the board the pieces are
+-- the pieces make up so many 2^n-ths of the board
 abbrev pub weight : ℕ → List ℕ → ℕ
 weight n [] = 0
 weight n (d ∷ ds) = 2 ^ (n - d) + weight n ds

@@ -1,6 +1,5 @@
 //! A caller that has drawn a ticket, with the values that it holds.
-ghost use Rattle.std.specs.Prelude.{◌≡◌, ◌<◌, ◌≤◌, ◌+◌, ℕ, List, [], ◌∷◌, take, length, slice_index, slice_index_or, vec_len, vec_capacity, true, false, Option, Some, None, MatchOption, IfSome, ◌↔◌, IsTrue, Bool};
-ghost use Rattle.ww_lock.specs.Rule.{In};
+ghost use Rattle.std.specs.Prelude.{◌≡◌, ℕ, [], true, false, MatchOption, IfSome, Bool};
 ghost use Rattle.ww_lock.specs.Held.{IsSameKeys, Lacks, HasAt, index_of};
 ghost use Rattle.ww_lock.specs.Acquiring.{Holds, HoldsOutside, HasLent, view};
 ghost use Rattle.ww_lock.specs.Seats.{IsOutside};
@@ -24,7 +23,7 @@ pub struct Acquire<P, X, T> {
     pub(crate) sealed: bool,
 }
 
-// Where the value of `buffer` lies.
+// Finds where the value of `buffer` lies, if it is held.
 pub(crate) fn place_of<X>(held: &Vec<(BufferId, X)>, buffer: BufferId) -> Option<usize>
     ensures found { MatchOption result (Lacks buffer held.now.items) (λ i. HasAt buffer i held.now.items) }
     ensures first { IfSome result (λ i. i ≡ index_of buffer held.now.items) }

@@ -1,5 +1,5 @@
 //! How a seat draws a ticket.
-ghost use Rattle.std.specs.Prelude.{◌≡◌, ◌<◌, ◌≤◌, ◌^◌, [], false, None, MatchResult, OnOk, IfOk, IfErr, vec_capacity};
+ghost use Rattle.std.specs.Prelude.{◌≡◌, ◌≤◌, [], false, None, OnOk, IfOk, IfErr, vec_capacity};
 ghost use Rattle.ww_lock.specs.Acquiring.{HoldsOutside, IsReady, caller_id, view};
 ghost use Rattle.ww_lock.specs.Seats.{IsOutside, IsIdle, GivesBack, seat_back, seat_id, sees};
 ghost use Rattle.ww_lock.specs.Boards.{table_of};
@@ -23,7 +23,7 @@ pub enum BeginError<P: Drop, X: Drop, T: Drop> {
 }
 
 impl<P, X: Drop, T> Seat<P, X, T> {
-    // Room for so many values, in the empty list that is there or in a new one.
+    // Makes room for so many values, in the empty list that is there or in a new one.
     fn take_room(&mut self, alloc: Global, count: usize) -> Result<(), AllocError>
         requires { self.old.held.items ≡ [] }
         ensures same { (self.new.place ≡ self.old.place) × (self.new.held.items ≡ []) }
@@ -37,8 +37,8 @@ impl<P, X: Drop, T> Seat<P, X, T> {
 }
 
 impl<W: Ward> Board<W> {
-    /// Draws the next ticket (`ww_acquire_init`), with room for every value of the board taken before: that of the seat's
-    /// last ticket, or at first memory. It is above each ticket that the seat knows of.
+    /// Draws the next ticket (`ww_acquire_init`), which is above each ticket that the seat knows of. Room for every value
+    /// of the board is taken before: the list that the seat had for its last ticket, or at first new memory.
     pub fn begin<R: Wait>(
         &self,
         seat: Seat<W::Pivot, W::Value, W::Task>,
@@ -51,7 +51,7 @@ impl<W: Ward> Board<W> {
         ensures same { IfOk result (λ a. caller_id a ≡ seat_id seat) }
         ensures view { IfOk result (λ a. view a ≡ with_ticket a.ticket (sees seat)) }
         ensures next { IfOk result (λ a. IsNext (sees seat) a.ticket) }
-        ensures ready { IfOk result (λ a. (sees seat).task ≡ None → IsReady W.fits (table_of self.now) a) }
+        ensures ready { IfOk result (λ a. (sees seat).task ≡ None → IsReady W.facts.fits (table_of self.now) a) }
         ensures refused { IfErr result (λ e. GivesBack seat e) }
         ensures idle { IfErr result (λ e. (sees seat).task ≡ None → IsIdle (table_of self.now) (seat_back e)) }
     {

@@ -115,7 +115,7 @@ impl<W: Ward> TableRule<
 > for Rule<W> {
     ghost use Rattle.ww_lock.specs.Rule.{Keeps, newcomer};
 
-    ghost holds = { λ key. Keeps W.good W.fits W.grows W.posted W.busy key.posts };
+    ghost holds = { λ key. Keeps W.facts key.posts };
 
     ghost first = { λ key. newcomer key.pivot.value };
 }

@@ -17,6 +17,6 @@ impl<W: Ward> Board<W> {
         W::Pivot: Send,
         W::Value: Send,
         ensures seats { IsSend (SeatRow.the_field W.Pivot.row W.Value.row W.Task.row).row }
-        ensures board { IsSync (BoardRow.the_field W.row W.Pivot.row W.Value.row W.Task.row (record { good = W.good; fits = W.fits; grows = W.grows; posted = W.posted; busy = W.busy; reflexive = W.reflexive; transitive = W.transitive; onward = W.onward })).row }
+        ensures board { IsSync (BoardRow.the_field W.row W.Pivot.row W.Value.row W.Task.row (record { facts = W.facts; lawful = W.lawful })).row }
     {}
 }

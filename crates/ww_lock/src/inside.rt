@@ -1,6 +1,6 @@
 //! How seats are split and joined, how a caller takes the pivot and brings it home, and how fence words are shown and
 //! read.
-ghost use Rattle.std.specs.Prelude.{◌≡◌, ◌≢◌, ◌<◌, ◌+◌, ℕ, Bool, List, [], ◌∷◌, true, false, Option, Some, None, MatchOption, IfSome};
+ghost use Rattle.std.specs.Prelude.{◌≡◌, ◌<◌, ◌+◌, ℕ, Bool, [], ◌∷◌, true, false, MatchOption, IfSome};
 ghost use Rattle.atomic_table.specs.Seated.{TableId};
 ghost use Rattle.atomic_table.specs.Table.{rest};
 ghost use Rattle.ww_lock.specs.Boards.{table_of};
@@ -29,8 +29,8 @@ fn try_pivot<W: Ward>(
     requires { (place.old.table_id ≡ shared.now.table_id) × (1 < shared.now.table_id.words) × HasSeen place.old.me.0 }
     ensures seat { (place.new.table_id ≡ place.old.table_id) × (place.new.id ≡ place.old.id) }
     ensures entered { MatchOption result (place.new.me ≡ place.old.me) (λ p. place.new.me ≡ (with_entry p place.old.me.0, (0, Gone) ∷ place.old.me.1)) }
-    ensures later { IfSome result (IsLater W.good W.grows W.posted W.busy place.old.me.0) }
-    ensures fits { IfSome result (λ p. (b : ℕ) (x : W.Value) → In (b, x) place.old.me.0.lock.owes → W.fits b p x) }
+    ensures later { IfSome result (IsLater W.facts place.old.me.0) }
+    ensures fits { IfSome result (λ p. (b : ℕ) (x : W.Value) → In (b, x) place.old.me.0.lock.owes → W.facts.fits b p x) }
 {
     if shared.peek(1) != 0 {
         return None;
@@ -56,8 +56,8 @@ fn wait_for_pivot<W: Ward, R: Wait>(
     requires { (place.old.table_id ≡ shared.now.table_id) × (1 < shared.now.table_id.words) × HasSeen place.old.me.0 }
     ensures seat { (place.new.table_id ≡ place.old.table_id) × (place.new.id ≡ place.old.id) }
     ensures entered { place.new.me ≡ (with_entry result place.old.me.0, (0, Gone) ∷ place.old.me.1) }
-    ensures later { IsLater W.good W.grows W.posted W.busy place.old.me.0 result }
-    ensures fits { (b : ℕ) (x : W.Value) → In (b, x) place.old.me.0.lock.owes → W.fits b result x }
+    ensures later { IsLater W.facts place.old.me.0 result }
+    ensures fits { (b : ℕ) (x : W.Value) → In (b, x) place.old.me.0.lock.owes → W.facts.fits b result x }
 {
     let mut entry = WaitEntry::new();
     for _ in rt.forever() {
@@ -80,8 +80,8 @@ fn take_pivot<W: Ward, R: Wait>(
     requires { (place.old.table_id ≡ shared.now.table_id) × (1 < shared.now.table_id.words) × HasSeen place.old.me.0 }
     ensures seat { (place.new.table_id ≡ place.old.table_id) × (place.new.id ≡ place.old.id) }
     ensures entered { place.new.me ≡ (with_entry result place.old.me.0, (0, Gone) ∷ place.old.me.1) }
-    ensures later { IsLater W.good W.grows W.posted W.busy place.old.me.0 result }
-    ensures fits { (b : ℕ) (x : W.Value) → In (b, x) place.old.me.0.lock.owes → W.fits b result x }
+    ensures later { IsLater W.facts place.old.me.0 result }
+    ensures fits { (b : ℕ) (x : W.Value) → In (b, x) place.old.me.0.lock.owes → W.facts.fits b result x }
 {
     match try_pivot(shared, place) {
         Some(pivot) => pivot,
@@ -100,7 +100,7 @@ fn bring_home<W: Ward>(
 )
     requires table { (place.old.table_id ≡ shared.now.table_id) × (1 < shared.now.table_id.words) }
     requires seat { (place.old.me.0.pivot.inside ≡ true) × (place.old.me.1 ≡ (0, Gone) ∷ rest place.old.me.1) × IsSameKeys place.old.me.0.lock.owes held.now.items }
-    requires facts { MayLeave W.good W.fits W.grows W.posted W.busy place.old.me.0 held.now.items pivot change.now }
+    requires facts { MayLeave W.facts place.old.me.0 held.now.items pivot change.now }
     ensures seat { (place.new.table_id ≡ place.old.table_id) × (place.new.id ≡ place.old.id) }
     ensures left { (p : W.Pivot) × (place.old.me.0.pivot.seen ≡ p ∷ []) × (place.new.me ≡ (with_exit is_call change.now p pivot held.now.items place.old.me.0, rest place.old.me.1)) }
 {
@@ -121,7 +121,7 @@ fn show<W: Ward>(
 )
     requires table { (place.old.table_id ≡ shared.now.table_id) × (at ≡ shared.now.table_id.slots + 1 + fence) × (at < shared.now.table_id.words) × (fence < shared.now.key.posts) }
     requires seat { (place.old.me.0.pivot.inside ≡ true) × IsSameKeys place.old.me.0.lock.owes held.now.items }
-    requires facts { MayPost W.good W.fits W.grows W.posted W.busy place.old.me.0 held.now.items pivot.now fence word }
+    requires facts { MayPost W.facts place.old.me.0 held.now.items pivot.now fence word }
     ensures seat { (place.new.table_id ≡ place.old.table_id) × (place.new.id ≡ place.old.id) }
     ensures posted { (p : W.Pivot) × (place.old.me.0.pivot.seen ≡ p ∷ []) × (place.new.me ≡ (with_post p pivot.now held.now.items place.old.me.0, place.old.me.1)) }
 {
@@ -163,7 +163,7 @@ impl<W: Ward> Board<W> {
         requires one { IsIdle (table_of self.now) one }
         requires other { IsIdle (table_of self.now) other }
         ensures seat { IsIdle (table_of self.now) result }
-        ensures view { IsJoined W.grows (sees one) (sees other) (sees result) }
+        ensures view { IsJoined W.facts.grows (sees one) (sees other) (sees result) }
     {
         let Seat { mut place, held } = one;
         let Seat {
@@ -182,8 +182,8 @@ impl<W: Ward> Board<W> {
         ensures sits { Sits true (table_of self.now) seat.new }
         ensures same { IsSameHolder seat.old seat.new }
         ensures view { sees seat.new ≡ with_entry result (sees seat.old) }
-        ensures later { IsLater W.good W.grows W.posted W.busy (sees seat.old) result }
-        ensures fits { (b : ℕ) (x : W.Value) → In (b, x) (sees seat.old).lock.owes → W.fits b result x }
+        ensures later { IsLater W.facts (sees seat.old) result }
+        ensures fits { (b : ℕ) (x : W.Value) → In (b, x) (sees seat.old).lock.owes → W.facts.fits b result x }
     {
         take_pivot(&self.table.shared, &self.waiters, &mut seat.place, rt)
     }
@@ -199,13 +199,13 @@ impl<W: Ward> Board<W> {
         is_call: bool,
     )
         requires sits { Sits true (table_of self.now) seat.old }
-        requires facts { MayLeave W.good W.fits W.grows W.posted W.busy (sees seat.old) seat.old.held.items pivot change.now }
+        requires facts { MayLeave W.facts (sees seat.old) seat.old.held.items pivot change.now }
         requires posted { (sees seat.old).pivot.posted ≡ true → (sees seat.old).pivot.seen ≡ pivot ∷ [] }
-        requires quiet { is_call ≡ false → (p : W.Pivot) → (sees seat.old).pivot.seen ≡ p ∷ [] → W.grows pivot p }
+        requires quiet { is_call ≡ false → (p : W.Pivot) → (sees seat.old).pivot.seen ≡ p ∷ [] → W.facts.grows pivot p }
         ensures sits { Sits false (table_of self.now) seat.new }
         ensures same { IsSameHolder seat.old seat.new }
         ensures view { (p : W.Pivot) × ((sees seat.old).pivot.seen ≡ p ∷ []) × (sees seat.new ≡ with_exit is_call change.now p pivot seat.old.held.items (sees seat.old)) }
-        ensures owed { IsAsOwed W.fits seat.new }
+        ensures owed { IsAsOwed W.facts.fits seat.new }
     {
         let owed = &seat.held;
         bring_home(
@@ -219,25 +219,25 @@ impl<W: Ward> Board<W> {
         self.waiters.wake_one();
     }
 
-    /// The word of a fence, by one load: what the pivot shows for it, which is good, came of all that the seat has seen
-    /// and waits for its task. It never goes back: from 0 to 1, and from there to a final word from 2 up. What the seat
-    /// holds and owes stays as it is.
+    /// Looks at the word of a fence, by one load. A pivot shows it that is good, came of all that the seat has seen and
+    /// waits for its task. The word never goes back: from 0 to 1, and from there to a final word from 2 up. What the
+    /// seat holds and owes stays as it is.
     pub fn look(&self, seat: &mut Seat<W::Pivot, W::Value, W::Task>, fence: FenceId) -> u64
         requires { IsSeat (table_of self.now) seat.old × (fence < self.now.posts) }
         ensures seat { IsSamePass seat.old seat.new }
         ensures sits { (inside : Bool) (z : TableId) → Sits inside z seat.old → Sits inside z seat.new }
         ensures same { IsSameHolder seat.old seat.new }
         ensures view { sees seat.new ≡ with_look fence result (sees seat.old) }
-        ensures shown { (p : W.Pivot) × IsLater W.good W.grows W.posted W.busy (sees seat.old) p × (result ≡ W.posted p fence) }
+        ensures shown { (p : W.Pivot) × IsLater W.facts (sees seat.old) p × (result ≡ W.facts.posted p fence) }
         ensures looked { (x : ℕ) → In (fence, x) (sees seat.old).looked → NotBack x result }
-        ensures owed { IsAsOwed W.fits seat.old → IsAsOwed W.fits seat.new }
+        ensures owed { IsAsOwed W.facts.fits seat.old → IsAsOwed W.facts.fits seat.new }
     {
         let word = self.buffers as usize + 2 + fence as usize;
         look(&self.table.shared, &mut seat.place, word, fence)
     }
 
-    /// Shows what becomes of the pivot by the word of a fence, before the pivot is brought home. At most once before
-    /// the caller leaves, which then leaves this very pivot. The caller owes what it holds from now on as it is.
+    /// Shows what becomes of the pivot by the word of a fence, before the pivot is brought home. A caller may do so once
+    /// before it leaves, and then has to leave this very pivot. It owes what it holds from now on as it is.
     pub fn post(
         &self,
         seat: &mut Seat<W::Pivot, W::Value, W::Task>,
@@ -246,7 +246,7 @@ impl<W: Ward> Board<W> {
         pivot: &W::Pivot,
     )
         requires sits { Sits true (table_of self.now) seat.old × ((sees seat.old).pivot.posted ≡ false) × (fence < self.now.posts) }
-        requires facts { MayPost W.good W.fits W.grows W.posted W.busy (sees seat.old) seat.old.held.items pivot.now fence word }
+        requires facts { MayPost W.facts (sees seat.old) seat.old.held.items pivot.now fence word }
         ensures sits { Sits true (table_of self.now) seat.new }
         ensures same { IsSameHolder seat.old seat.new }
         ensures view { (p : W.Pivot) × ((sees seat.old).pivot.seen ≡ p ∷ []) × (sees seat.new ≡ with_post p pivot.now seat.old.held.items (sees seat.old)) }

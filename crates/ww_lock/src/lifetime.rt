@@ -1,5 +1,5 @@
 //! How a board is made and taken apart.
-ghost use Rattle.std.specs.Prelude.{◌≡◌, ◌<◌, ◌≤◌, ◌+◌, ◌^◌, ℕ, [], ◌∷◌, length, IfOk, OnErr, MatchResult, Option, Some, None, vec_len, vec_capacity, Result, MatchOption, IsTrue, slice_index_or, slice_set, false};
+ghost use Rattle.std.specs.Prelude.{◌≡◌, ◌<◌, ◌≤◌, ◌+◌, ℕ, [], IfOk, MatchResult, Some, None, vec_len, vec_capacity, MatchOption, IsTrue, slice_index_or, slice_set, false};
 ghost use Rattle.std.specs.Mem.Slots.{slots_items, slots_filled, slots_len, IsFull};
 ghost use mathlib.Core.Option.{some};
 ghost use lib.ListN.{get_elem?};
@@ -22,6 +22,7 @@ use std::snapshot::Snapshot;
 #[derive(Drop)]
 pub struct Inside;
 
+// Puts the pivot and the values into slots, in order.
 fn slots_of<P: Drop, X: Drop, T: Drop>(
     alloc: Global,
     pivot: P,
@@ -60,8 +61,8 @@ fn take_value<P: Drop, X: Drop, T: Drop>(
 }
 
 impl<W: Ward> Board<W> {
-    /// A board of at most 64 values, of a pivot that all of them fit, and of `posts` fence words, which start at 0;
-    /// and the first seat. It refuses where memory does.
+    /// Makes a board of at most 64 values, of a pivot that all of them fit, and of `posts` fence words, which start at 0,
+    /// and its first seat. It refuses where memory does.
     pub fn new(
         alloc: Global,
         pivot: W::Pivot,
@@ -69,8 +70,8 @@ impl<W: Ward> Board<W> {
         posts: u32,
     ) -> Result<(Board<W>, Seat<W::Pivot, W::Value, W::Task>), AllocError>
         requires size { vec_len values ≤ 64 }
-        requires blank { (f : ℕ) → W.posted pivot f ≡ 0 }
-        requires facts { W.good pivot × AllFit (λ b x. W.fits b pivot x) 0 values.items }
+        requires blank { (f : ℕ) → W.facts.posted pivot f ≡ 0 }
+        requires facts { W.facts.good pivot × AllFit (λ b x. W.facts.fits b pivot x) 0 values.items }
         ensures board { IfOk result (λ t. (t.0.buffers ≡ vec_len values) × (t.0.posts ≡ posts) × (first_pivot t.0 ≡ pivot)) }
         ensures seat { IfOk result (λ t. IsIdle (table_of t.0) t.1) }
         ensures view { IfOk result (λ t. sees t.1 ≡ newcomer pivot) }
@@ -131,8 +132,8 @@ impl<W: Ward> Board<W> {
     ) -> Result<W::Pivot, Inside>
         requires seat { IsSeat (table_of self) seat }
         requires out { (out.old.items ≡ []) × (self.buffers ≤ vec_capacity out.old) }
-        ensures pivot { MatchResult result (λ p. W.good p × ((q : W.Pivot) → In q (sees seat).pivot.seen → W.grows q p) × FitsAll (λ b x. W.fits b p x) 0 out.new.items) (λ _. Unit {0}) }
-        ensures home { MatchResult result (λ p. TakesApart W.good W.fits W.grows W.posted W.busy self.posts (seat_id seat) (sees seat) out.new.items (Some p)) (λ _. TakesApart W.good W.fits W.grows W.posted W.busy self.posts (seat_id seat) (sees seat) out.new.items None) }
+        ensures pivot { MatchResult result (λ p. W.facts.good p × ((q : W.Pivot) → In q (sees seat).pivot.seen → W.facts.grows q p) × FitsAll (λ b x. W.facts.fits b p x) 0 out.new.items) (λ _. Unit {0}) }
+        ensures home { MatchResult result (λ p. TakesApart W.facts self.posts (seat_id seat) (sees seat) out.new.items (Some p)) (λ _. TakesApart W.facts self.posts (seat_id seat) (sees seat) out.new.items None) }
         ensures last { HasAll (sees seat) → MatchResult result (λ p. In p (sees seat).pivot.seen) (λ _. ⊥) }
         ensures all { HasAll (sees seat) → (b : ℕ) → b < self.buffers → (x : W.Value) × (get_elem? out.new.items b ≡ some (Some x)) }
         ensures length { vec_len out.new ≡ self.buffers }

@@ -1,5 +1,5 @@
 //! How values are claimed and given back.
-ghost use Rattle.std.specs.Prelude.{◌≡◌, ◌<◌, ◌+◌, ℕ, [], true, length, MatchResult};
+ghost use Rattle.std.specs.Prelude.{◌≡◌, ◌<◌, ℕ, [], true, length, MatchResult};
 ghost use Rattle.ww_lock.specs.Acquiring.{HoldsOutside, IsReady, IsSameAcquire, AnswersTry, AnswersLock, Claimed, view};
 ghost use Rattle.ww_lock.specs.Boards.{table_of};
 ghost use Rattle.ww_lock.specs.Rule.{In};
@@ -43,7 +43,8 @@ pub enum LockError {
 pub struct Sealed;
 
 impl<W: Ward> Board<W> {
-    /// Locks a value if it is at home, and never waits (one attempt of `ww_mutex_lock`). Else it says who holds the value.
+    /// Locks a value if it is at home, and never waits (one attempt of `ww_mutex_lock`). Where the value is out, it says
+    /// who holds it.
     pub fn try_lock(
         &self,
         acquire: &mut Acquire<W::Pivot, W::Value, W::Task>,
@@ -52,7 +53,7 @@ impl<W: Ward> Board<W> {
         requires { HoldsOutside (table_of self.now) acquire.old × (buffer < self.now.buffers) }
         ensures holds { HoldsOutside (table_of self.now) acquire.new }
         ensures answers { AnswersTry buffer acquire.old acquire.new result }
-        ensures ready { IsReady W.fits (table_of self.now) acquire.old → IsReady W.fits (table_of self.now) acquire.new }
+        ensures ready { IsReady W.facts.fits (table_of self.now) acquire.old → IsReady W.facts.fits (table_of self.now) acquire.new }
     {
         let sealed = acquire.sealed;
         if sealed {
@@ -87,7 +88,7 @@ impl<W: Ward> Board<W> {
         requires { HoldsOutside (table_of self.now) acquire.old × (buffer < self.now.buffers) }
         ensures holds { HoldsOutside (table_of self.now) acquire.new }
         ensures answers { AnswersLock buffer acquire.old acquire.new result }
-        ensures ready { IsReady W.fits (table_of self.now) acquire.old → IsReady W.fits (table_of self.now) acquire.new }
+        ensures ready { IsReady W.facts.fits (table_of self.now) acquire.old → IsReady W.facts.fits (table_of self.now) acquire.new }
     {
         let backoff = Backoff::new();
         let word = buffer.number() as usize + 2;
@@ -122,7 +123,7 @@ impl<W: Ward> Board<W> {
         requires { HoldsOutside (table_of self.now) acquire.old × (buffer < self.now.buffers) × (acquire.old.seat.held.items ≡ []) }
         ensures holds { HoldsOutside (table_of self.now) acquire.new }
         ensures answers { MatchResult result (λ _. Claimed buffer acquire.old acquire.new) (λ _. (acquire.old.sealed ≡ true) × (acquire.new ≡ acquire.old)) }
-        ensures ready { IsReady W.fits (table_of self.now) acquire.old → IsReady W.fits (table_of self.now) acquire.new }
+        ensures ready { IsReady W.facts.fits (table_of self.now) acquire.old → IsReady W.facts.fits (table_of self.now) acquire.new }
     {
         match self.lock(acquire, buffer, rt) {
             Ok(()) => Ok(()),
@@ -136,13 +137,13 @@ impl<W: Ward> Board<W> {
     pub fn release(&self, acquire: &mut Acquire<W::Pivot, W::Value, W::Task>, buffer: BufferId)
         requires holds { HoldsOutside (table_of self.now) acquire.old }
         requires held { (i : ℕ) × HasAt buffer i acquire.old.seat.held.items }
-        requires fits { (x y : W.Value) → In (buffer, x) (view acquire.old).lock.owes → In (buffer, y) acquire.old.seat.held.items → (p : W.Pivot) → W.fits buffer p x → W.fits buffer p y }
+        requires fits { (x y : W.Value) → In (buffer, x) (view acquire.old).lock.owes → In (buffer, y) acquire.old.seat.held.items → (p : W.Pivot) → W.facts.fits buffer p x → W.facts.fits buffer p y }
         ensures holds { HoldsOutside (table_of self.now) acquire.new }
         ensures same { IsSameAcquire acquire.old acquire.new }
         ensures view { view acquire.new ≡ with_release buffer (view acquire.old) }
         ensures held { acquire.new.seat.held.items ≡ without buffer acquire.old.seat.held.items }
         ensures fewer { length acquire.new.seat.held.items < length acquire.old.seat.held.items }
-        ensures ready { IsReady W.fits (table_of self.now) acquire.old → IsReady W.fits (table_of self.now) acquire.new }
+        ensures ready { IsReady W.facts.fits (table_of self.now) acquire.old → IsReady W.facts.fits (table_of self.now) acquire.new }
     {
         let Some(i) = place_of(&acquire.seat.held, buffer) else {
             unreachable!()

@@ -24,7 +24,7 @@ impl Sleepers {
     }
 
     // Spins for a while, and later sleeps for as long as the low half of the word is the one that was judged. Where that
-    // is 0 it goes on spinning: so is that of a word whose value is at home, so a sleep would not see a release.
+    // half is 0 it goes on spinning: the word of a value that is at home is 0 too, so a sleep would not see a release.
     pub(crate) fn pause<W: Ward, R: Wait>(
         &self,
         shared: &SharedTable<W>,

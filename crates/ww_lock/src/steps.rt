@@ -1,9 +1,9 @@
-//! The steps on the table, and the rest between two tries.
-ghost use Rattle.std.specs.Prelude.{◌≡◌, ◌≢◌, ◌<◌, ◌≤◌, ◌^◌, ◌+◌, [], ◌∷◌, ◌++◌, true, false, ℕ, List};
+//! The steps on the table, one function each.
+ghost use Rattle.std.specs.Prelude.{◌≡◌, ◌<◌, ◌≤◌, ◌^◌, ◌+◌, [], ◌∷◌, ◌++◌, true, false};
 ghost use Rattle.ww_lock.specs.Rule.{In};
 ghost use Rattle.ww_lock.specs.Held.{IsSameKeys, turned_by};
 ghost use Rattle.ww_lock.specs.Steps.{drawn, exhausted, claimed, entered, settled, with_exit, with_release, with_post, with_look, left_half, right_half, joined, HasSeen, IsLater};
-ghost use Rattle.ww_lock.specs.Leaving.{MayLeave};
+ghost use Rattle.ww_lock.specs.Leaving.{MayLeave, MayPost};
 ghost use Rattle.atomic_table.specs.Table.{step, rest};
 ghost use Rattle.ww_lock.specs.declared.board.Slot.TheVariants.{Pivot, Value, Gone};
 ghost use mathlib.Core.Option.{none};
@@ -24,7 +24,7 @@ pub(crate) type SharedTable<W> = Shared<
     Rule<W>,
 >;
 
-// Where the counter is `old`, that is the seat's ticket.
+// Draws the ticket `old`, if the counter is there.
 pub(crate) fn draw<W: Ward>(
     shared: &SharedTable<W>,
     place: &mut Place<W::Pivot, W::Value, W::Task>,
@@ -38,7 +38,7 @@ pub(crate) fn draw<W: Ward>(
     shared.compare_exchange::<Draw>(place, 0, old, old + 1)
 }
 
-// Where the counter is 2^63, the seat knows from now on that no ticket is left.
+// Looks whether the counter is 2^63. Where it is, the seat knows from now on that no ticket is left.
 pub(crate) fn exhaust<W: Ward>(
     shared: &SharedTable<W>,
     place: &mut Place<W::Pivot, W::Value, W::Task>,
@@ -50,7 +50,7 @@ pub(crate) fn exhaust<W: Ward>(
     shared.load::<Exhaust>(place, 0)
 }
 
-// Where the word of `buffer` is 0, the seat takes it.
+// Takes the value of `buffer`, if its word is 0.
 pub(crate) fn claim<W: Ward>(
     shared: &SharedTable<W>,
     place: &mut Place<W::Pivot, W::Value, W::Task>,
@@ -75,7 +75,7 @@ pub(crate) fn release<W: Ward>(
 )
     requires table { (place.old.table_id ≡ shared.now.table_id) × (shared.now.table_id.slots + 1 ≤ shared.now.table_id.words) × (buffer + 1 < shared.now.table_id.slots) }
     requires seat { place.old.me.1 ≡ (buffer + 1, Gone) ∷ rest place.old.me.1 }
-    requires fits { (x : W.Value) × In (buffer, x) place.old.me.0.lock.owes × ((p : W.Pivot) → W.fits buffer p x → W.fits buffer p value) }
+    requires fits { (x : W.Value) × In (buffer, x) place.old.me.0.lock.owes × ((p : W.Pivot) → W.facts.fits buffer p x → W.facts.fits buffer p value) }
     ensures seat { (place.new.table_id ≡ place.old.table_id) × (place.new.id ≡ place.old.id) }
     ensures released { place.new.me ≡ (with_release buffer place.old.me.0, rest place.old.me.1) }
 {
@@ -107,14 +107,14 @@ pub(crate) fn join<W: Ward>(
     shared.join_seat::<Halves>(place, other);
 }
 
-// Where the pivot is at home, the seat takes it.
+// Takes the pivot, if its word is 0.
 pub(crate) fn enter<W: Ward>(
     shared: &SharedTable<W>,
     place: &mut Place<W::Pivot, W::Value, W::Task>,
 ) -> u64
     requires { (place.old.table_id ≡ shared.now.table_id) × (1 < shared.now.table_id.words) × HasSeen place.old.me.0 }
     ensures seat { (place.new.table_id ≡ place.old.table_id) × (place.new.id ≡ place.old.id) }
-    ensures entered { entered W.good W.fits W.grows W.posted W.busy (step shared.now.table_id.slots 1 0 1 none) place.old.me result place.new.me }
+    ensures entered { entered W.facts (step shared.now.table_id.slots 1 0 1 none) place.old.me result place.new.me }
 {
     shared.compare_exchange::<Enter<W>>(place, 1, 0, 1)
 }
@@ -131,7 +131,7 @@ pub(crate) fn leave<W: Ward>(
 )
     requires table { (place.old.table_id ≡ shared.now.table_id) × (1 < shared.now.table_id.words) }
     requires seat { (place.old.me.0.pivot.inside ≡ true) × (place.old.me.1 ≡ (0, Pivot pivot.value) ∷ rest place.old.me.1) × IsSameKeys place.old.me.0.lock.owes held.now.items }
-    requires facts { MayLeave W.good W.fits W.grows W.posted W.busy place.old.me.0 held.now.items pivot.value change.now }
+    requires facts { MayLeave W.facts place.old.me.0 held.now.items pivot.value change.now }
     ensures seat { (place.new.table_id ≡ place.old.table_id) × (place.new.id ≡ place.old.id) }
     ensures left { (p : W.Pivot) × (place.old.me.0.pivot.seen ≡ p ∷ []) × (place.new.me ≡ (with_exit is_call change.now p pivot.value held.now.items place.old.me.0, rest place.old.me.1)) }
 {
@@ -144,7 +144,7 @@ pub(crate) fn leave<W: Ward>(
     shared.compare_exchange_with::<Leave>(place, 1, 1, 0, &told);
 }
 
-// The word of a fence, by the seat that is inside.
+// Reads the word of a fence, by the seat that is inside.
 pub(crate) fn read_back<W: Ward>(
     shared: &SharedTable<W>,
     place: &mut Place<W::Pivot, W::Value, W::Task>,
@@ -154,7 +154,7 @@ pub(crate) fn read_back<W: Ward>(
     requires table { (place.old.table_id ≡ shared.now.table_id) × (word ≡ shared.now.table_id.slots + 1 + fence) × (word < shared.now.table_id.words) × (fence < shared.now.key.posts) }
     requires seat { place.old.me.0.pivot.inside ≡ true }
     ensures seat { (place.new.table_id ≡ place.old.table_id) × (place.new.id ≡ place.old.id) × (place.new.me ≡ place.old.me) }
-    ensures reads { (p : W.Pivot) → place.old.me.0.pivot.seen ≡ p ∷ [] → result ≡ W.posted p fence }
+    ensures reads { (p : W.Pivot) → place.old.me.0.pivot.seen ≡ p ∷ [] → result ≡ W.facts.posted p fence }
 {
     shared.load::<ReadBack<W>>(place, word)
 }
@@ -172,8 +172,8 @@ pub(crate) fn post<W: Ward>(
 )
     requires table { (place.old.table_id ≡ shared.now.table_id) × (word ≡ shared.now.table_id.slots + 1 + fence) × (word < shared.now.table_id.words) × (fence < shared.now.key.posts) }
     requires seat { (place.old.me.0.pivot.inside ≡ true) × IsSameKeys place.old.me.0.lock.owes held.now.items }
-    requires facts { (p : W.Pivot) × (place.old.me.0.pivot.seen ≡ p ∷ []) × W.good pivot.value × W.grows p pivot.value × ((b : ℕ) (x : W.Value) → In (b, x) held.now.items → W.fits b pivot.value x) × ((b : ℕ) (x : W.Value) → ((y : W.Value) → In (b, y) place.old.me.0.lock.owes → ⊥) → W.fits b p x → W.fits b pivot.value x)
-        × (old ≡ W.posted p fence) × (new ≡ W.posted pivot.value fence) × ((g : ℕ) → g ≢ fence → W.posted pivot.value g ≡ W.posted p g) × ((t : W.Task) → W.busy p t → W.busy pivot.value t) }
+    requires facts { MayPost W.facts place.old.me.0 held.now.items pivot.value fence new }
+    requires found { (p : W.Pivot) → place.old.me.0.pivot.seen ≡ p ∷ [] → old ≡ W.facts.posted p fence }
     ensures seat { (place.new.table_id ≡ place.old.table_id) × (place.new.id ≡ place.old.id) }
     ensures posted { (p : W.Pivot) × (place.old.me.0.pivot.seen ≡ p ∷ []) × (place.new.me ≡ (with_post p pivot.value held.now.items place.old.me.0, place.old.me.1)) }
 {
@@ -186,7 +186,7 @@ pub(crate) fn post<W: Ward>(
     shared.compare_exchange_with::<Post>(place, word, old, new, &told);
 }
 
-// The word of a fence, by any seat.
+// Looks at the word of a fence, by any seat.
 pub(crate) fn look<W: Ward>(
     shared: &SharedTable<W>,
     place: &mut Place<W::Pivot, W::Value, W::Task>,
@@ -195,12 +195,12 @@ pub(crate) fn look<W: Ward>(
 ) -> u64
     requires table { (place.old.table_id ≡ shared.now.table_id) × (word ≡ shared.now.table_id.slots + 1 + fence) × (word < shared.now.table_id.words) × (fence < shared.now.key.posts) }
     ensures seat { (place.new.table_id ≡ place.old.table_id) × (place.new.id ≡ place.old.id) × (place.new.me ≡ (with_look fence result place.old.me.0, place.old.me.1)) }
-    ensures shown { (p : W.Pivot) × IsLater W.good W.grows W.posted W.busy place.old.me.0 p × (result ≡ W.posted p fence) }
+    ensures shown { (p : W.Pivot) × IsLater W.facts place.old.me.0 p × (result ≡ W.facts.posted p fence) }
 {
     shared.load::<Look<W>>(place, word)
 }
 
-// The value that was just claimed. Its slot goes behind the others.
+// Takes the value that was just claimed out of its slot, which goes behind the others.
 pub(crate) fn pull<W: Ward>(
     shared: &SharedTable<W>,
     place: &mut Place<W::Pivot, W::Value, W::Task>,
@@ -227,12 +227,12 @@ pub(crate) fn settle<W: Ward>(
     requires table { (place.old.table_id ≡ shared.now.table_id) × (0 < shared.now.table_id.words) }
     requires outside { (place.old.me.0.pivot.inside ≡ false) × HasSeen place.old.me.0 }
     ensures seat { (place.new.table_id ≡ place.old.table_id) × (place.new.id ≡ place.old.id) }
-    ensures settled { settled W.grows (step shared.now.table_id.slots 0 0 0 none) place.old.me 0 place.new.me }
+    ensures settled { settled W.facts.grows (step shared.now.table_id.slots 0 0 0 none) place.old.me 0 place.new.me }
 {
     shared.load::<Settle<W>>(place, 0);
 }
 
-// The first `count` slots go behind the others.
+// Turns the seat's slots: the first `count` go behind the others.
 pub(crate) fn bring<P, X, T>(place: &mut Place<P, X, T>, count: usize)
     ensures { (place.new.table_id ≡ place.old.table_id) × (place.new.id ≡ place.old.id) × (place.new.me ≡ (place.old.me.0, turned_by count place.old.me.1)) }
 {

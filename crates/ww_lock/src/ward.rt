@@ -1,10 +1,10 @@
 //! What a board keeps.
-ghost use Rattle.std.specs.Prelude.{ℕ};
-ghost use Rattle.ww_lock.specs.Fences.{NotBack};
+ghost use Rattle.ww_lock.specs.Facts.{Facts, AreLawful};
 
-/// The facts that a board keeps about its values and its pivot, as a type that has no values of its own.
+/// What a board knows of its values and its pivot, as a type that has no values of its own.
 ///
-/// A ward with no fence words gives 0 for each, one with no tasks has `()` for them and a fact that always holds.
+/// A ward with no fence words shows 0 for each. One with no tasks has `()` for them, with which its pivots are always
+/// busy.
 pub trait Ward {
     /// What all values have to fit, and what callers take in turns: a device.
     type Pivot: Drop;
@@ -15,23 +15,9 @@ pub trait Ward {
     /// What the pivot may wait for while nobody is inside: work that one caller took out with it.
     type Task: Drop;
 
-    ghost good: { Self.Pivot → Type 0 };
+    // Which pivots are good, what fits them and what comes of them, what they show and what they wait for.
+    ghost facts: { Facts Self.Pivot Self.Value Self.Task };
 
-    // The value may stand at its place beside the pivot.
-    ghost fits: { ℕ → Self.Pivot → Self.Value → Type 0 };
-
-    // The second pivot may come of the first. It is reflexive and transitive.
-    ghost grows: { Self.Pivot → Self.Pivot → Type 0 };
-
-    // The word that the pivot shows for a fence.
-    ghost posted: { Self.Pivot → ℕ → ℕ };
-
-    // The pivot waits for the task to be reported.
-    ghost busy: { Self.Pivot → Self.Task → Type 0 };
-
-    ghost reflexive: { (p : Self.Pivot) → grows p p };
-
-    ghost transitive: { (p q r : Self.Pivot) → grows p q → grows q r → grows p r };
-
-    ghost onward: { (p q : Self.Pivot) → grows p q → (f : ℕ) → NotBack (posted p f) (posted q f) };
+    // What comes of a pivot is a reflexive and transitive relation, along which no fence word goes back.
+    ghost lawful: { AreLawful facts };
 }

@@ -37,21 +37,19 @@ impl Ward for Appending {
 
     type Task = ();
 
-    ghost good = { λ _. Unit {0} };
+    ghost facts = { record {
+      good = λ _. Unit {0};
+      fits = λ b p x. x.times ≡ count_of b p.items;
+      grows = λ p q. IsPrefix p.items q.items;
+      posted = λ _ _. 0;
+      busy = λ _ _. Unit {0};
+    } };
 
-    ghost fits = { λ b p x. x.times ≡ count_of b p.items };
-
-    ghost grows = { λ p q. IsPrefix p.items q.items };
-
-    ghost posted = { λ _ _. 0 };
-
-    ghost busy = { λ _ _. Unit {0} };
-
-    ghost reflexive = { λ p. prefix_same p.items };
-
-    ghost transitive = { λ p q r. prefix_twice p.items q.items r.items };
-
-    ghost onward = { λ _ _ _ _. still 0 };
+    ghost lawful = { record {
+      reflexive = λ p. prefix_same p.items;
+      transitive = λ p q r. prefix_twice p.items q.items r.items;
+      onward = λ _ _ _ _. still 0;
+    } };
 }
 
 type Appender = Acquire<Vec<BufferId>, Appended, ()>;

@@ -45,21 +45,15 @@ impl Ward for Counters {
 
     type Task = ();
 
-    ghost good = { λ _. Unit {0} };
+    ghost facts = { record {
+      good = λ _. Unit {0};
+      fits = λ _ _ _. Unit {0};
+      grows = λ _ _. Unit {0};
+      posted = λ _ _. 0;
+      busy = λ _ _. Unit {0};
+    } };
 
-    ghost fits = { λ _ _ _. Unit {0} };
-
-    ghost grows = { λ _ _. Unit {0} };
-
-    ghost posted = { λ _ _. 0 };
-
-    ghost busy = { λ _ _. Unit {0} };
-
-    ghost reflexive = { λ _. tt };
-
-    ghost transitive = { λ _ _ _ _ _. tt };
-
-    ghost onward = { λ _ _ _ _. still 0 };
+    ghost lawful = { record { reflexive = λ _. tt; transitive = λ _ _ _ _ _. tt; onward = λ _ _ _ _. still 0 } };
 }
 
 /// A caller that counts.
@@ -101,9 +95,9 @@ pub fn lock_others<W: Ward, R: Wait>(
     order: &[BufferId],
     rt: &R,
 ) -> Option<BufferId>
-    requires ready { IsReady W.fits (table_of board.now) acquire.old }
+    requires ready { IsReady W.facts.fits (table_of board.now) acquire.old }
     requires order { All (λ b. b < board.now.buffers) order.now }
-    ensures ready { IsReady W.fits (table_of board.now) acquire.new }
+    ensures ready { IsReady W.facts.fits (table_of board.now) acquire.new }
     ensures contended { IfSome result (λ b. b < board.now.buffers) }
 {
     for &buffer in order {
@@ -119,8 +113,8 @@ pub fn lock_others<W: Ward, R: Wait>(
 
 /// Gives back all that is held, as it is.
 pub fn release_all<W: Ward>(board: &Board<W>, acquire: &mut Acquire<W::Pivot, W::Value, W::Task>)
-    requires { IsReady W.fits (table_of board.now) acquire.old }
-    ensures ready { IsReady W.fits (table_of board.now) acquire.new }
+    requires { IsReady W.facts.fits (table_of board.now) acquire.old }
+    ensures ready { IsReady W.facts.fits (table_of board.now) acquire.new }
     ensures empty { acquire.new.seat.held.items ≡ [] }
 {
     while acquire.held().len() > 0 {
@@ -136,9 +130,9 @@ pub fn lock_all<W: Ward, R: Wait>(
     order: &[BufferId],
     rt: &R,
 )
-    requires ready { IsReady W.fits (table_of board.now) acquire.old }
+    requires ready { IsReady W.facts.fits (table_of board.now) acquire.old }
     requires order { All (λ b. b < board.now.buffers) order.now }
-    ensures { IsReady W.fits (table_of board.now) acquire.new }
+    ensures { IsReady W.facts.fits (table_of board.now) acquire.new }
 {
     for _ in rt.forever() {
         let Some(contended) = lock_others(board, acquire, order, rt) else {

@@ -19,21 +19,15 @@ impl Ward for Tasks {
 
     type Task = u64;
 
-    ghost good = { λ _. Unit {0} };
+    ghost facts = { record {
+      good = λ _. Unit {0};
+      fits = λ _ _ _. Unit {0};
+      grows = λ _ _. Unit {0};
+      posted = λ _ _. 0;
+      busy = is_task;
+    } };
 
-    ghost fits = { λ _ _ _. Unit {0} };
-
-    ghost grows = { λ _ _. Unit {0} };
-
-    ghost posted = { λ _ _. 0 };
-
-    ghost busy = { is_task };
-
-    ghost reflexive = { λ _. tt };
-
-    ghost transitive = { λ _ _ _ _ _. tt };
-
-    ghost onward = { λ _ _ _ _. still 0 };
+    ghost lawful = { record { reflexive = λ _. tt; transitive = λ _ _ _ _ _. tt; onward = λ _ _ _ _. still 0 } };
 }
 
 type TaskSeat = Seat<u64, u64, u64>;

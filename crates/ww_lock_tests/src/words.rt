@@ -15,21 +15,15 @@ impl Ward for Words {
 
     type Task = u64;
 
-    ghost good = { λ _. Unit {0} };
+    ghost facts = { record {
+      good = λ _. Unit {0};
+      fits = λ _ _ _. Unit {0};
+      grows = NotBack;
+      posted = word_of;
+      busy = awaits;
+    } };
 
-    ghost fits = { λ _ _ _. Unit {0} };
-
-    ghost grows = { NotBack };
-
-    ghost posted = { word_of };
-
-    ghost busy = { awaits };
-
-    ghost reflexive = { still };
-
-    ghost transitive = { not_back_twice };
-
-    ghost onward = { words_onward };
+    ghost lawful = { record { reflexive = still; transitive = not_back_twice; onward = words_onward } };
 }
 
 #[test]

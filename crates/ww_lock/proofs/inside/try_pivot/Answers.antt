@@ -12,4 +12,4 @@ exchange-requires g c = let e = c.enter-was_home.ensures.entered.0 c.if-not-was_
 pub returns-clause-later : goal.returns-clause-later
 returns-clause-later g c = let w = g.W.Ward in let e = c.enter-was_home.ensures.entered.0 c.if-not-was_home.false in
     let same : e.0 ≡ c.in-Pivot.pivot = ap (first_pivot e.0) (sym (ap (λ m. m.1) e.1) ∙ c.exchange.ensures.2) ∙ ap (pivot_or e.0) c.in-Pivot.is in
-    subst (λ p. IsLater w.good w.grows w.posted w.busy c.args.place.now.me.0 p) same e.2
+    subst (λ p. IsLater w.facts c.args.place.now.me.0 p) same e.2

@@ -1,13 +1,14 @@
-use Rattle.std.proofs.Common.{refl, ap, sym, subst, ℕ, ◌≡◌, List, map, ◌∙◌}
-use Rattle.ww_lock.specs.Rule.{In}
-use Rattle.ww_lock.specs.Steps.{number_of}
+use Rattle.std.proofs.Common.{◌≡◌, refl, ap, sym, subst, ℕ, List, map, ◌∙◌}
+use Rattle.ww_lock.specs.declared.board.TaskChange.{TaskChange}
 use Rattle.ww_lock.specs.declared.board.Slot.TheVariants.{Announced}
-use Rattle.ww_lock.specs.Steps.{Turns}
+use Rattle.ww_lock.specs.Leaving.{MayLeave}
+use Rattle.ww_lock.specs.Steps.{number_of}
 use Rattle.ww_lock.proofs.Kept.{leaves}
 use Rattle.ww_lock.proofs.steps.leave.Goals as goal
 
 pub compare_exchange_with-requires : goal.compare_exchange_with-requires
-compare_exchange_with-requires g c = let ward = g.W.Ward in let t = c.requires.table in let q = c.requires.seat in let f = c.requires.facts in let place = c.args.place.now in
-    let held : (xs : List (ℕ × g.row.W-Value.Denot)) → c.args.held.now.items ≡ xs → (map number_of place.me.0.lock.owes ≡ map number_of xs) × ((b : ℕ) (x : g.row.W-Value.Denot) → In (b, x) xs → ward.fits b c.args.pivot.value x)
-    = λ xs e. (q.2 ∙ ap (map number_of) e, λ b x h. f.4 b x (subst (In (b, x)) (sym e) h)) in let now = held c.of.result.value.items (ap (λ v. v.items) (sym c.of.ensures)) in
-    (t.0, t.1, leaves ward.good ward.fits ward.grows ward.posted ward.busy ward.reflexive ward.transitive ward.onward c.args.shared.now.key.posts _ place.id place.me f.0 (Announced (record { pivot = c.args.pivot; held = c.of.result; change = c.of-2.result; is_call = c.args.is_call })) c.args.is_call c.of-2.result.value c.args.pivot.value c.of.result.value.items refl q.0 f.1 q.1 now.0 f.2 f.3 now.1 f.5 f.6 (subst (Turns ward.busy f.0 c.args.pivot.value place.me.0.task) (sym c.of-2.ensures) f.7))
+compare_exchange_with-requires g c = let ward = g.W.Ward in let place = c.args.place.now in let q = c.args.pivot.value in let xs = c.of.result.value.items in let change = c.of-2.result.value in
+    let held : c.args.held.now.items ≡ xs = ap (λ v. v.items) (sym c.of.ensures) in
+    let may : MayLeave ward.facts place.me.0 xs q change = subst (λ (z : List (ℕ × g.row.W-Value.Denot) × TaskChange g.row.W-Task.Denot). MayLeave ward.facts place.me.0 z.0 q z.1) (λ i. (held i, sym c.of-2.ensures i)) c.requires.facts in
+    let seat = c.requires.seat in
+    (c.requires.table.0, c.requires.table.1, leaves ward.facts ward.lawful c.args.shared.now.key.posts _ place.id place.me (Announced (record { pivot = c.args.pivot; held = c.of.result; change = c.of-2.result; is_call = c.args.is_call })) c.args.is_call change q xs may refl seat.0 seat.1 (seat.2 ∙ ap (map number_of) held))

@@ -13,7 +13,7 @@ pub store-requires : goal.store-requires
 store-requires g c = let t = c.requires.table in let a = t.0 in let w = t.1 in let n = t.2 in let ward = g.W.Ward in let f = c.requires.fits in let e = c.number-number.ensures in let x = c.exchange.ensures in (
   x.0 ∙ a,
   omega arith,
-  rw e (releases ward.good ward.fits ward.grows ward.posted ward.busy ward.reflexive ward.transitive ward.onward c.args.shared.now.key.posts _ _ _ c.args.buffer f.0 c.args.value
+  rw e (releases ward.facts ward.lawful c.args.shared.now.key.posts _ _ _ c.args.buffer f.0 c.args.value
       (ap (λ m. m.1) x.3 ∙ (λ k. (e k + 1, Value c.args.value) ∷ sym (ap (λ m. rest m.1) x.3) k)) (subst (λ m. In (c.args.buffer, f.0) m.0.lock.owes) (sym x.3) f.1) f.2),
 )
 

@@ -3,4 +3,4 @@ use Rattle.ww_lock.proofs.Kept.{splits}
 use Rattle.ww_lock.proofs.steps.split.Goals as goal
 
 pub split_seat-requires : goal.split_seat-requires
-split_seat-requires g c = let ward = g.W.Ward in (c.requires.0, omega arith, splits ward.good ward.fits ward.grows ward.posted ward.busy ward.reflexive ward.transitive ward.onward c.args.shared.now.key.posts _ _)
+split_seat-requires g c = let ward = g.W.Ward in (c.requires.0, omega arith, splits ward.facts ward.lawful c.args.shared.now.key.posts _ _)

@@ -1,5 +1,5 @@
-use Rattle.std.proofs.Common.{refl, sym, subst, ap, ◌∙◌, true, false, ◌≡◌, ◌≤◌, ◌+◌, None, vec_capacity}
-use Rattle.ww_lock.specs.Acquiring.{Holds, HasTicket}
+use Rattle.std.proofs.Common.{refl, sym, subst, ap, ◌∙◌, true, ◌≤◌, ◌+◌, vec_capacity}
+use Rattle.ww_lock.specs.Acquiring.{HasTicket}
 use Rattle.ww_lock.specs.Held.{Lacks}
 use Rattle.ww_lock.specs.Rule.{In}
 use Rattle.ww_lock_tests.proofs.Held.{key_in, lacks_same}

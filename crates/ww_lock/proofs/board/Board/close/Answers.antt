@@ -1,4 +1,4 @@
-use Rattle.std.proofs.Common.{rules, arith, ◌≡◌, ◌<◌, ◌≤◌, ◌+◌, ℕ, List, length, get_or, sym, refl, ap, ◌∙◌, subst, inl, inr, false, true, get_or-set_other, Option, Some, None, vec_capacity, MatchOption, length-append, ◌++◌, ◌∷◌, []}
+use Rattle.std.proofs.Common.{arith, ◌≡◌, ◌+◌, ℕ, List, length, get_or, sym, refl, ap, ◌∙◌, subst, false, get_or-set_other, Option, Some, None, vec_capacity, MatchOption, length-append, ◌++◌, ◌∷◌, []}
 use mathlib.Core.Logic.{dite}
 use native.Mathlib.Decide.{ℕ_discrete}
 use Rattle.std.specs.Mem.Slots.{slots_items, slots_filled, slots_counts, slots_len, IsFull}
@@ -10,14 +10,14 @@ use Rattle.ww_lock.specs.Lifetime.{TakesApart}
 use Rattle.ww_lock.proofs.Closing.{home_value, pivot_at_home, comes_back, set_false, more_back, back_same, Back, Whole, more_whole, whole_same, gives_home, gives_pivot, pivot_is_out, comes_as_seen, pivot_not_out, all_there}
 use Rattle.ww_lock.proofs.board.Board.close.Goals as goal
 
--- an option that is there exactly where A is
+-- the option has a value, for which B holds, exactly where A holds
 there_if : {A X : Type 0} (B : X → Type 0) (o : Option X) → MatchOption o (A → ⊥) (λ x. A × B x) → A → (x : X) × (o ≡ Some x) × B x
 there_if B None h a = absurd (h a)
 there_if B (Some x) h a = (x, refl, h.1)
 
 pub take_value-requires-clause-home : goal.take_value-requires-clause-home
 take_value-requires-clause-home g c = let w = g.W.Ward in let i = c.loop-b.invariant in let e = c.close_with-closed.ensures in let t = c.take-pivot.ensures.others in let low = c.loop-b-test.true in let n = slots_counts c.close_with-closed.result.slots in let size = c.args.self.sized.2 in let count = e.counts in
-    λ z. (let h = home_value w.good w.fits w.grows w.posted w.busy _ _ _ _ _ e.values.2 c.loop-b.b (let k = e.counts.1 in omega arith) (ap (λ ws. get_elem? (slots_items ws) (c.loop-b.b + 2)) (sym (i.0 ∙ t.3)) ∙ z) in
+    λ z. (let h = home_value w.facts _ _ _ _ _ e.values.2 c.loop-b.b (let k = e.counts.1 in omega arith) (ap (λ ws. get_elem? (slots_items ws) (c.loop-b.b + 2)) (sym (i.0 ∙ t.3)) ∙ z) in
     (h.0, ap (λ ss. get_elem? ss (c.loop-b.b + 1)) (i.1 ∙ t.0) ∙ h.1))
 
 pub take_value-requires-clause-word : goal.take_value-requires-clause-word
@@ -45,7 +45,7 @@ loop-b-init g c = let e = c.close_with-closed.ensures in let t = c.take-pivot.en
 
 pub unreachable-requires : goal.unreachable-requires
 unreachable-requires g c = let w = g.W.Ward in let e = c.close_with-closed.ensures in
-    pivot_at_home w.good w.fits w.grows w.posted w.busy _ _ _ _ _ e.values.2 c.take-pivot.result (c.word-at.ensures ∙ ap some c.if-at-ne0.false) c.take-pivot.ensures.value c.in_default.not-Pivot
+    pivot_at_home w.facts _ _ _ _ _ e.values.2 c.take-pivot.result (c.word-at.ensures ∙ ap some c.if-at-ne0.false) c.take-pivot.ensures.value c.in_default.not-Pivot
 
 pub loop-b-preserved : goal.loop-b-preserved
 loop-b-preserved g c = let i = c.loop-b.invariant in let t = c.take_value.ensures.others in let low = c.loop-b-test.true in let X = g.row.W-Value.Denot in let o = c.take_value.result in let p = c.push_reserved.ensures in
@@ -74,45 +74,45 @@ loop-b-preserved g c = let i = c.loop-b.invariant in let t = c.take_value.ensure
 
 pub returns-clause-pivot : goal.returns-clause-pivot
 returns-clause-pivot g c = let w = g.W.Ward in let i = c.loop-b.invariant in let e = c.close_with-closed.ensures in let t = c.take-pivot.ensures.others in let n = slots_counts c.close_with-closed.result.slots in let count = e.counts in
-    comes_back w.good w.fits w.grows w.posted w.busy _ _ _ _ _ e.values.2 c.in-Pivot.pivot c.loop-b.out.items (let had = i.6 in let low = i.5 in let s₁ = c.args.self.sized in let s = s₁.2 in omega arith) (c.word-at.ensures ∙ ap some c.if-at-ne0.false) (c.take-pivot.ensures.value ∙ ap some c.in-Pivot.is)
+    comes_back w.facts _ _ _ _ _ e.values.2 c.in-Pivot.pivot c.loop-b.out.items (let had = i.6 in let low = i.5 in let s₁ = c.args.self.sized in let s = s₁.2 in omega arith) (c.word-at.ensures ∙ ap some c.if-at-ne0.false) (c.take-pivot.ensures.value ∙ ap some c.in-Pivot.is)
     (back_same _ _ _ _ c.loop-b.out.items (ap slots_items (i.0 ∙ t.3)) (i.1 ∙ t.0) i.8)
 
 pub returns-clause-home : goal.returns-clause-home
 returns-clause-home g c = let w = g.W.Ward in let i = c.loop-b.invariant in let e = c.close_with-closed.ensures in let t = c.take-pivot.ensures.others in let n = slots_counts c.close_with-closed.result.slots in let s = c.args.self.sized in
     let back = back_same _ _ _ _ c.loop-b.out.items (ap slots_items (i.0 ∙ t.3)) (i.1 ∙ t.0) i.8 in
     let whole = whole_same _ _ _ _ c.loop-b.out.items (ap slots_items (i.0 ∙ t.3)) (i.1 ∙ t.0) i.9 in
-    subst (λ k. TakesApart w.good w.fits w.grows w.posted w.busy k c.args.seat.place.id c.args.seat.place.me.0 c.loop-b.out.items (Some c.in-Pivot.pivot)) s.1 (
+    subst (λ k. TakesApart w.facts k c.args.seat.place.id c.args.seat.place.me.0 c.loop-b.out.items (Some c.in-Pivot.pivot)) s.1 (
       e.values.2.0,
       e.values.2.1,
-      gives_home w.good w.fits w.grows w.posted w.busy _ _ _ _ _ e.values.2 c.loop-b.out.items (let had = i.6 in let low = i.5 in let last = c.loop-b-test.false in let count = e.counts.1 in let size = s.2 in omega arith) back whole,
-      gives_pivot w.good w.fits w.grows w.posted w.busy _ _ _ _ _ e.values.2 c.in-Pivot.pivot (c.word-at.ensures ∙ ap some c.if-at-ne0.false) (c.take-pivot.ensures.value ∙ ap some c.in-Pivot.is),
+      gives_home w.facts _ _ _ _ _ e.values.2 c.loop-b.out.items (let had = i.6 in let low = i.5 in let last = c.loop-b-test.false in let count = e.counts.1 in let size = s.2 in omega arith) back whole,
+      gives_pivot w.facts _ _ _ _ _ e.values.2 c.in-Pivot.pivot (c.word-at.ensures ∙ ap some c.if-at-ne0.false) (c.take-pivot.ensures.value ∙ ap some c.in-Pivot.is),
     )
 
 pub returns-then-at-ne0-clause-home : goal.returns-then-at-ne0-clause-home
 returns-then-at-ne0-clause-home g c = let w = g.W.Ward in let i = c.loop-b.invariant in let e = c.close_with-closed.ensures in let t = c.take-pivot.ensures.others in let n = slots_counts c.close_with-closed.result.slots in let s = c.args.self.sized in
     let back = back_same _ _ _ _ c.loop-b.out.items (ap slots_items (i.0 ∙ t.3)) (i.1 ∙ t.0) i.8 in
     let whole = whole_same _ _ _ _ c.loop-b.out.items (ap slots_items (i.0 ∙ t.3)) (i.1 ∙ t.0) i.9 in
-    subst (λ k. TakesApart w.good w.fits w.grows w.posted w.busy k c.args.seat.place.id c.args.seat.place.me.0 c.loop-b.out.items None) s.1 (
+    subst (λ k. TakesApart w.facts k c.args.seat.place.id c.args.seat.place.me.0 c.loop-b.out.items None) s.1 (
       e.values.2.0,
       e.values.2.1,
-      gives_home w.good w.fits w.grows w.posted w.busy _ _ _ _ _ e.values.2 c.loop-b.out.items (let had = i.6 in let low = i.5 in let last = c.loop-b-test.false in let count = e.counts.1 in let size = s.2 in omega arith) back whole,
-      pivot_is_out w.good w.fits w.grows w.posted w.busy _ _ _ _ _ e.values.2 c.word-at.result c.word-at.ensures c.if-at-ne0.true,
+      gives_home w.facts _ _ _ _ _ e.values.2 c.loop-b.out.items (let had = i.6 in let low = i.5 in let last = c.loop-b-test.false in let count = e.counts.1 in let size = s.2 in omega arith) back whole,
+      pivot_is_out w.facts _ _ _ _ _ e.values.2 c.word-at.result c.word-at.ensures c.if-at-ne0.true,
     )
 
 pub returns-clause-last : goal.returns-clause-last
 returns-clause-last g c = let w = g.W.Ward in let e = c.close_with-closed.ensures in let t = c.take-pivot.ensures.others in
-    λ all. comes_as_seen w.good w.fits w.grows w.posted w.busy _ _ _ _ _ e.values.2 all c.in-Pivot.pivot (c.word-at.ensures ∙ ap some c.if-at-ne0.false) (c.take-pivot.ensures.value ∙ ap some c.in-Pivot.is)
+    λ all. comes_as_seen w.facts _ _ _ _ _ e.values.2 all c.in-Pivot.pivot (c.word-at.ensures ∙ ap some c.if-at-ne0.false) (c.take-pivot.ensures.value ∙ ap some c.in-Pivot.is)
 
 pub returns-then-at-ne0-clause-last : goal.returns-then-at-ne0-clause-last
 returns-then-at-ne0-clause-last g c = let w = g.W.Ward in let e = c.close_with-closed.ensures in
-    λ all. pivot_not_out w.good w.fits w.grows w.posted w.busy _ _ _ _ _ e.values.2 all c.word-at.result c.word-at.ensures c.if-at-ne0.true
+    λ all. pivot_not_out w.facts _ _ _ _ _ e.values.2 all c.word-at.result c.word-at.ensures c.if-at-ne0.true
 
 pub returns-clause-all : goal.returns-clause-all
 returns-clause-all g c = let w = g.W.Ward in let i = c.loop-b.invariant in let e = c.close_with-closed.ensures in let t = c.take-pivot.ensures.others in let n = slots_counts c.close_with-closed.result.slots in let s = c.args.self.sized in
     let whole = whole_same _ _ _ _ c.loop-b.out.items (ap slots_items (i.0 ∙ t.3)) (i.1 ∙ t.0) i.9 in
-    λ all b low. all_there w.good w.fits w.grows w.posted w.busy _ _ _ _ _ e.values.2 c.loop-b.out.items (let had = i.6 in let low' = i.5 in let last = c.loop-b-test.false in let count = e.counts.1 in let size = s.2 in omega arith) whole all b (let had = i.6 in let low' = i.5 in let last = c.loop-b-test.false in omega arith)
+    λ all b low. all_there w.facts _ _ _ _ _ e.values.2 c.loop-b.out.items (let had = i.6 in let low' = i.5 in let last = c.loop-b-test.false in let count = e.counts.1 in let size = s.2 in omega arith) whole all b (let had = i.6 in let low' = i.5 in let last = c.loop-b-test.false in omega arith)
 
 pub returns-then-at-ne0-clause-all : goal.returns-then-at-ne0-clause-all
 returns-then-at-ne0-clause-all g c = let w = g.W.Ward in let i = c.loop-b.invariant in let e = c.close_with-closed.ensures in let t = c.take-pivot.ensures.others in let n = slots_counts c.close_with-closed.result.slots in let s = c.args.self.sized in
     let whole = whole_same _ _ _ _ c.loop-b.out.items (ap slots_items (i.0 ∙ t.3)) (i.1 ∙ t.0) i.9 in
-    λ all b low. all_there w.good w.fits w.grows w.posted w.busy _ _ _ _ _ e.values.2 c.loop-b.out.items (let had = i.6 in let low' = i.5 in let last = c.loop-b-test.false in let count = e.counts.1 in let size = s.2 in omega arith) whole all b (let had = i.6 in let low' = i.5 in let last = c.loop-b-test.false in omega arith)
+    λ all b low. all_there w.facts _ _ _ _ _ e.values.2 c.loop-b.out.items (let had = i.6 in let low' = i.5 in let last = c.loop-b-test.false in let count = e.counts.1 in let size = s.2 in omega arith) whole all b (let had = i.6 in let low' = i.5 in let last = c.loop-b-test.false in omega arith)

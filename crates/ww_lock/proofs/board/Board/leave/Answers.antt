@@ -19,4 +19,4 @@ pub returns-clause-same : goal.returns-clause-same
 returns-clause-same g c = (c.bring_home.ensures.seat.1, refl, ap (λ m. m.0.lock.ticket) c.bring_home.ensures.left.2)
 
 pub returns-clause-owed : goal.returns-clause-owed
-returns-clause-owed g c = owes_held g.W.Ward.fits (record c.args.seat.now { place = c.bring_home.new.place }) c.requires.sits.apart (ap (λ m. m.0.lock.owes) c.bring_home.ensures.left.2)
+returns-clause-owed g c = owes_held g.W.Ward.facts.fits (record c.args.seat.now { place = c.bring_home.new.place }) c.requires.sits.apart (ap (λ m. m.0.lock.owes) c.bring_home.ensures.left.2)

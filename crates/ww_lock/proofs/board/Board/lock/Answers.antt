@@ -15,7 +15,7 @@ pub returns-in-Already-clause-answers : goal.returns-in-Already-clause-answers
 returns-in-Already-clause-answers g c = already c.args.buffer c.args.acquire.now c.loop.acquire c.try_lock.new.acquire c.loop.invariant.1 (rw c.in-Already.is at c.in-Err.ensures.answers)
 
 pub returns-in_default-clause-ready : goal.returns-in_default-clause-ready
-returns-in_default-clause-ready g c = λ ready. claimed g.W.Ward.fits c.args.self.now.table.shared.table_id c.args.buffer c.args.acquire.now c.try_lock.new.acquire ready c.try_lock.ensures.holds
+returns-in_default-clause-ready g c = λ ready. claimed g.W.Ward.facts.fits c.args.self.now.table.shared.table_id c.args.buffer c.args.acquire.now c.try_lock.new.acquire ready c.try_lock.ensures.holds
     (taken c.args.buffer c.args.acquire.now c.loop.acquire c.try_lock.new.acquire c.loop.invariant.1 c.in_default.ensures.answers)
 
 pub returns-then-backs_off-clause-answers : goal.returns-then-backs_off-clause-answers

@@ -32,7 +32,7 @@ pub release-requires-clause-fits : goal.release-requires-clause-fits
 release-requires-clause-fits g c = let st = c.requires.holds.sits in let a = c.args.acquire.now in let b = c.args.buffer in let w = g.W.Ward in let at = c.in-Some.ensures.found in let here = at_in a.seat.held.items c.in-Some.i (b, at.0) at.1 in
     let l = below a.seat.held.items c.in-Some.i (b, at.0) at.1 in let k = key_in a.seat.held.items a.seat.place.me.0.lock.owes (sym st.keys) b at.0 here in
     let same : at.0 ≡ c.remove-value.result.1 = ap (λ z. z.1) (some-injective (b, at.0) c.remove-value.result (sym at.1 ∙ at_index a.seat.held.items c.in-Some.i c.remove-value.result l c.remove-value.ensures.value)) in
-    (k.0, subst (λ m. In (b, k.0) m.0.lock.owes) (sym c.bring.ensures.2) k.1, λ p f. subst (w.fits b p) same (c.requires.fits k.0 at.0 k.1 here p f))
+    (k.0, subst (λ m. In (b, k.0) m.0.lock.owes) (sym c.bring.ensures.2) k.1, λ p f. subst (w.facts.fits b p) same (c.requires.fits k.0 at.0 k.1 here p f))
 
 pub wake_all-requires : goal.wake_all-requires
 wake_all-requires g c = let st = c.requires.holds.sits in let sized = c.args.self.now.sized in let s₀ = sized.0 in let s₂ = sized.2 in let at = c.in-Some.ensures.found in
@@ -67,4 +67,4 @@ returns-clause-holds g c = let st = c.requires.holds.sits in let a = c.args.acqu
 pub returns-clause-ready : goal.returns-clause-ready
 returns-clause-ready g c = λ ready. let b = c.args.buffer in
     let sees = ap (λ m. m.0) c.bring-2.ensures.2 ∙ (ap (λ m. m.0) c.release.ensures.released ∙ ap (λ m. with_release b m.0) c.bring.ensures.2) in
-    released g.W.Ward.fits c.args.self.now.table.shared.table_id b c.args.acquire.now _ ready (returns-clause-holds g c) (refl, refl, c.bring-2.ensures.1 ∙ (c.release.ensures.seat.1 ∙ c.bring.ensures.1)) sees (returns-clause-held g c)
+    released g.W.Ward.facts.fits c.args.self.now.table.shared.table_id b c.args.acquire.now _ ready (returns-clause-holds g c) (refl, refl, c.bring-2.ensures.1 ∙ (c.release.ensures.seat.1 ∙ c.bring.ensures.1)) sees (returns-clause-held g c)

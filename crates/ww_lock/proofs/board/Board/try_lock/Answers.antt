@@ -71,10 +71,10 @@ returns-else-found-ticket-clause-answers g c = let f = (c.claim-found.ensures.cl
     (c.if-sealed.false, c.in_default.ensures.found, (refl, refl, c.claim-found.ensures.seat.1), omega arith, ap (λ m. m.0) f.1, refl)
 
 pub returns-then-found-eq0-clause-ready : goal.returns-then-found-eq0-clause-ready
-returns-then-found-eq0-clause-ready g c = λ ready. tried g.W.Ward.fits c.args.self.now.table.shared.table_id c.args.buffer c.args.acquire.now _ (Ok tt) ready (returns-then-found-eq0-clause-holds g c) (returns-then-found-eq0-clause-answers g c)
+returns-then-found-eq0-clause-ready g c = λ ready. tried g.W.Ward.facts.fits c.args.self.now.table.shared.table_id c.args.buffer c.args.acquire.now _ (Ok tt) ready (returns-then-found-eq0-clause-holds g c) (returns-then-found-eq0-clause-answers g c)
 
 pub returns-then-found-ticket-clause-ready : goal.returns-then-found-ticket-clause-ready
-returns-then-found-ticket-clause-ready g c = λ ready. tried g.W.Ward.fits c.args.self.now.table.shared.table_id c.args.buffer c.args.acquire.now _ (Err (Older c.claim-found.result)) ready (returns-then-found-ticket-clause-holds g c) (returns-then-found-ticket-clause-answers g c)
+returns-then-found-ticket-clause-ready g c = λ ready. tried g.W.Ward.facts.fits c.args.self.now.table.shared.table_id c.args.buffer c.args.acquire.now _ (Err (Older c.claim-found.result)) ready (returns-then-found-ticket-clause-holds g c) (returns-then-found-ticket-clause-answers g c)
 
 pub returns-else-found-ticket-clause-ready : goal.returns-else-found-ticket-clause-ready
-returns-else-found-ticket-clause-ready g c = λ ready. tried g.W.Ward.fits c.args.self.now.table.shared.table_id c.args.buffer c.args.acquire.now _ (Err (Younger c.claim-found.result)) ready (returns-else-found-ticket-clause-holds g c) (returns-else-found-ticket-clause-answers g c)
+returns-else-found-ticket-clause-ready g c = λ ready. tried g.W.Ward.facts.fits c.args.self.now.table.shared.table_id c.args.buffer c.args.acquire.now _ (Err (Younger c.claim-found.result)) ready (returns-else-found-ticket-clause-holds g c) (returns-else-found-ticket-clause-answers g c)
