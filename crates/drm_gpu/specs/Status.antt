@@ -4,8 +4,18 @@ use Rattle.drm_fence.specs.Phases.{status_of}
 use Rattle.ww_lock.specs.Fences.{NotBack}
 use Rattle.ww_lock.specs.Rule.{In}
 use Rattle.drm_sched.specs.Marks.{MarkedDevice}
-use Rattle.drm_gpu.specs.declared.pass.NoFence.{NoFence}
+use Rattle.drm_fence.specs.declared.phase.Phase.TheVariants as phase
+use Rattle.drm_state.specs.Keeps.{word_of}
+use Rattle.drm_gpu.specs.declared.fence_word.FenceWord.{FenceWord}
+use Rattle.drm_gpu.specs.declared.fence_word.FenceWord.TheVariants.{Unarmed, Active, Ended}
+use Rattle.drm_fence.specs.declared.timeline.NoFence.{NoFence}
 use Rattle.drm_gpu.specs.Passes.{PassState, IsGood, GrowsTo, word_shown}
+
+-- the number that stands for a fence word in the table of the lock
+abbrev pub number_of : FenceWord → ℕ
+number_of Unarmed = 0
+number_of Active = 1
+number_of (Ended outcome) = word_of (phase.Ended outcome)
 
 -- the status of the fence on this device, or that no such job is armed there
 abbrev pub TellsStatus : ℕ → Result ℤ NoFence → MarkedDevice → Type 0

@@ -1,46 +1,22 @@
 //! What a pass does with the device.
 ghost use Rattle.std.specs.Prelude.{◌≡◌, ◌<◌, length, MatchResult, Some};
 ghost use Rattle.drm_sched.specs.Marks.{MarkedDevice};
-ghost use Rattle.drm_fence.specs.declared.phase.Phase.TheVariants.{Ended};
-ghost use Rattle.drm_state.specs.Keeps.{word_of};
 ghost use Rattle.drm_job.specs.Fault.{IsJob, job_fault};
 ghost use Rattle.ww_lock.specs.Seats.{sees};
 ghost use Rattle.drm_gpu.specs.Passes.{Calls, HoldsOn, Seated, pass_of, word_shown};
-ghost use Rattle.drm_gpu.specs.Status.{AnswersStatus, LooksAt, TellsStatus};
+ghost use Rattle.drm_gpu.specs.Status.{AnswersStatus, LooksAt};
 ghost use Rattle.drm_gpu.specs.Answers.{PickIs, FinishIs, TimeoutIs, CancelIs, ReapIs, CountsAre, ChangesNothing};
 
+use crate::fence_word::FenceWord;
 use crate::gpu::Gpu;
-use crate::pass::{DeviceSeat, NoFence, Pass};
+use crate::pass::{DeviceSeat, Pass};
 use crate::waiting::Needs;
+use drm_fence::NoFence;
 use drm_job::{Draft, Job, JobFault, check};
 use drm_sched::{CancelError, Expired, FinishError, Finished, PickError, Picked, ReapError};
 use drm_types::{EntityId, FenceId, Moment, Outcome, RingId};
 use std::snapshot::Snapshot;
 use std::sync::Wait;
-
-// The word of a fence that has this outcome.
-pub(crate) fn word_of_outcome(outcome: Outcome) -> u64
-    ensures { result ≡ word_of (Ended outcome) }
-{
-    match outcome {
-        Outcome::Good => 2,
-        Outcome::Cancelled => 3,
-        Outcome::Stopped => 4,
-    }
-}
-
-// The status that a fence word tells.
-fn status_by_word(fence: FenceId, word: u64) -> Result<i32, NoFence>
-    ensures { (d : MarkedDevice) → word ≡ word_shown d fence → TellsStatus fence result d }
-{
-    match word {
-        0 => Err(NoFence { fence }),
-        1 => Ok(0),
-        2 => Ok(1),
-        3 => Ok(-125),
-        _ => Ok(-3),
-    }
-}
 
 impl Gpu {
     /// Gives the ring the job that it takes next, if it fits (`drm_sched_run_job_work`).
@@ -82,7 +58,7 @@ impl Gpu {
         let found = Snapshot::of(&device);
         match device.finish(ring, now) {
             Ok(done) => {
-                let word = word_of_outcome(done.outcome);
+                let word = FenceWord::Ended(done.outcome);
                 self.show_and_leave(&mut pass.seat, device, &found, done.fence, word);
                 Ok(done)
             }
@@ -142,7 +118,8 @@ impl Gpu {
         let found = Snapshot::of(&device);
         match device.reap(entity) {
             Ok(fence) => {
-                self.show_and_leave(&mut pass.seat, device, &found, fence, 4);
+                let word = FenceWord::Ended(Outcome::Stopped);
+                self.show_and_leave(&mut pass.seat, device, &found, fence, word);
                 Ok(fence)
             }
             Err(error) => {
@@ -213,8 +190,8 @@ impl Gpu {
             self.look_at(seat, 0);
             return Err(NoFence { fence });
         }
-        let word = self.look_at(seat, fence);
-        status_by_word(fence, word)
+        let number = self.look_at(seat, fence);
+        FenceWord::of_number(number).status(fence)
     }
 
     // Looks at the word of a fence.

@@ -6,9 +6,11 @@ ghost use Rattle.drm_state.specs.Keeps.{Keeps};
 ghost use Rattle.drm_sched.specs.Begun.{KeepsTasks};
 ghost use Rattle.drm_sched.specs.Marks.{IsBusy, Task as Waiting, mark_of};
 ghost use Rattle.drm_gpu.specs.Passes.{Seated, Entered, Fitting, HoldsOn, IsFound, IsGood, GrowsTo, IsSameBut, Adds, last_of};
+ghost use Rattle.drm_gpu.specs.Status.{number_of};
 ghost use Rattle.drm_gpu.specs.Submissions.{KeepsOthers};
 
 use crate::driver::Task;
+use crate::fence_word::FenceWord;
 use crate::gpu::Gpu;
 use crate::pass::DeviceSeat;
 use drm_sched::Device;
@@ -121,19 +123,19 @@ impl Gpu {
         device: Device,
         found: &Snapshot<Device>,
         fence: FenceId,
-        word: u64,
+        word: FenceWord,
     )
         requires entered { Entered self.now found.now.value seat.old }
         requires fit { Fitting device (kept_of seat.old.held.items) }
         requires good { IsGood device }
         requires onward { GrowsTo found.now.value device }
         requires marks { device.marks ≡ found.now.value.marks }
-        requires shown { KeepsOthers (kept_of seat.old.held.items) fence word found.now.value device }
+        requires shown { KeepsOthers (kept_of seat.old.held.items) fence (number_of word) found.now.value device }
         ensures seat { Seated self.now seat.new × (last_of (sees seat.new) ≡ device) }
         ensures holds { HoldsOn seat.old seat.new }
         ensures call { Adds found.now.value device (sees seat.old) (sees seat.new) }
     {
-        self.board.post(seat, fence, word, &device);
+        self.board.post(seat, fence, word.number(), &device);
         self.board.leave(seat, device, &TaskChange::Same, true);
     }
 }

@@ -65,6 +65,7 @@
 mod crossing;
 mod device_calls;
 mod driver;
+mod fence_word;
 mod gpu;
 mod inside;
 mod locking;
@@ -75,9 +76,10 @@ mod submission;
 mod waiting;
 
 pub use driver::{Driver, Task};
+pub use drm_fence::NoFence;
 pub use gpu::{CloseError, Closed, Gpu};
 pub use locking::{BeginError, BeginReadError, Locked, Locking};
-pub use pass::{NoFence, Pass};
+pub use pass::Pass;
 pub use reading::{Reading, readbacks_agree};
 pub use running::{Running, StartError};
 pub use submission::{Armed, Planned};

@@ -16,8 +16,9 @@ ghost use Rattle.drm_gpu.specs.Begun.{IsBack, IsBackFromRead};
 
 use crate::driver::Task;
 use crate::gpu::Gpu;
-use crate::pass::{NoFence, Pass};
+use crate::pass::Pass;
 use crate::reading::Reading;
+use drm_fence::NoFence;
 use drm_job::{Job, jobs_are_the_sound_drafts};
 use drm_resv::Resv;
 use drm_sched::Device;

@@ -2,18 +2,10 @@
 use crate::driver::Task;
 use drm_resv::Resv;
 use drm_sched::Device;
-use drm_types::FenceId;
 use std::marker::Model;
 use ww_lock::Seat;
 
 pub(crate) type DeviceSeat = Seat<Device, Resv, Task>;
-
-/// No job of this number is armed.
-#[derive(Clone, Copy, Debug, PartialEq, Eq)]
-pub struct NoFence {
-    /// The number that was asked for.
-    pub fence: FenceId,
-}
 
 /// A pass to a device, for one caller (an open file of a `drm_device`). Contracts see what the caller knows of the device;
 /// its only bytes are the emptied list of what its last submission held.

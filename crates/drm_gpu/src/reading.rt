@@ -7,8 +7,9 @@ ghost use Rattle.drm_gpu.specs.Status.{AnswersStatus};
 
 use crate::gpu::Gpu;
 use crate::locking::{DeviceAcquire, give_up};
-use crate::pass::{NoFence, Pass};
+use crate::pass::Pass;
 use crate::waiting::Needs;
+use drm_fence::NoFence;
 use drm_sched::{ReadError, bytes_stay};
 use drm_types::{BufferId, FenceId};
 use std::marker::Model;

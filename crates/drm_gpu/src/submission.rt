@@ -7,9 +7,11 @@ ghost use Rattle.drm_gpu.specs.Passes.{Calls};
 ghost use Rattle.drm_gpu.specs.Status.{AnswersStatus};
 ghost use Rattle.drm_gpu.specs.Submissions.{ArmIs, ArmRefused};
 
+use crate::fence_word::FenceWord;
 use crate::gpu::Gpu;
 use crate::locking::{DeviceAcquire, Locked, give_up};
-use crate::pass::{NoFence, Pass};
+use crate::pass::Pass;
+use drm_fence::NoFence;
 use drm_job::Job;
 use drm_resv::Resv;
 use drm_sched::{ArmError, Held, Plan};
@@ -135,7 +137,8 @@ impl<'g> Planned<'g> {
         acquire.put_values(held);
         match answer {
             Ok(fence) => {
-                gpu.show_and_leave(&mut acquire.seat, device, &found, fence, 1);
+                let word = FenceWord::Active;
+                gpu.show_and_leave(&mut acquire.seat, device, &found, fence, word);
                 Ok(Armed {
                     gpu,
                     acquire,

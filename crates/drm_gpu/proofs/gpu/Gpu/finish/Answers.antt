@@ -1,6 +1,7 @@
 use Rattle.std.proofs.Common.{Ok, Err, subst, sym}
 use Rattle.drm_state.specs.Held.{kept_of}
-use Rattle.drm_state.specs.Keeps.{KeepsBut}
+use Rattle.drm_fence.specs.declared.phase.Phase.TheVariants.{Ended}
+use Rattle.drm_state.specs.Keeps.{word_of}
 use Rattle.drm_gpu.specs.Answers.{FinishIs}
 use Rattle.drm_gpu.specs.Submissions.{KeepsOthers}
 use Rattle.drm_gpu.proofs.Called.{called}
@@ -41,12 +42,12 @@ show_and_leave-requires-clause-shown g c =
     let d = c.enter_for-device.result in
     let e = c.finish.new.self in
     let held = kept_of c.enter_for-device.new.seat.held.items in
-    let keeps = subst (λ w. KeepsBut c.in-Ok.done.fence w d.state e.state) (sym c.word_of_outcome-word.ensures) c.in-Ok.ensures.keeps in
-    subst (λ x. KeepsOthers held c.in-Ok.done.fence c.word_of_outcome-word.result x e) (sym c.of-found.ensures) (keeps_but c.in-Ok.done.fence c.word_of_outcome-word.result d e held keeps)
+    let word = word_of (Ended c.in-Ok.done.outcome) in
+    subst (λ x. KeepsOthers held c.in-Ok.done.fence word x e) (sym c.of-found.ensures) (keeps_but c.in-Ok.done.fence word d e held c.in-Ok.ensures.keeps)
 
 pub show_and_leave-requires-clause-fit : goal.show_and_leave-requires-clause-fit
 show_and_leave-requires-clause-fit g c =
     let d = c.enter_for-device.result in
     let e = c.finish.new.self in
-    let keeps = subst (λ w. KeepsBut c.in-Ok.done.fence w d.state e.state) (sym c.word_of_outcome-word.ensures) c.in-Ok.ensures.keeps in
-    fits_but c.in-Ok.done.fence c.word_of_outcome-word.result d e (kept_of c.enter_for-device.new.seat.held.items) keeps c.enter_for-device.ensures.fit
+    let word = word_of (Ended c.in-Ok.done.outcome) in
+    fits_but c.in-Ok.done.fence word d e (kept_of c.enter_for-device.new.seat.held.items) c.in-Ok.ensures.keeps c.enter_for-device.ensures.fit

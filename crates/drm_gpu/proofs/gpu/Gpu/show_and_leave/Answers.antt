@@ -27,7 +27,7 @@ post-requires-clause-facts c =
       c.requires.onward,
       fits_kept_of c.args.device s.held.items c.requires.fit,
       (λ b x none f. d.fits b x.kept (not_held b (sees s).lock.owes s.held.items c.requires.entered.sits.keys none) f),
-      sym d.word,
+      c.number.ensures ∙ sym d.word,
       (λ f ne. d.words f ne),
       still_busy c.args.found.now.value c.args.device c.requires.marks,
     )
