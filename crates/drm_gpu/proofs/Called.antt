@@ -8,9 +8,10 @@ use Rattle.ww_lock.specs.Parts.{IsWhole}
 use Rattle.ww_lock.specs.Rule.{In}
 use Rattle.ww_lock.specs.Steps.{IsChain, IsLater}
 use Rattle.drm_types.specs.declared.spec.DeviceSpec.{DeviceSpec}
-use Rattle.drm_sched.specs.Marks.{MarkedDevice, IsBusy}
+use Rattle.drm_sched.specs.Marks.{MarkedDevice}
 use Rattle.drm_gpu.specs.declared.running.OutPacket.{OutPacket}
-use Rattle.drm_gpu.specs.Passes.{GpuState, PassState, Seeing, DeviceSeat, Noted, Knows, Seated, IsJoinedOf, HasWaited, IsFound, IsGood, IsSameBut, Adds, Calls, CallsAs, GrowsTo, word_shown, last_of, gpu_of, noted, pass_of}
+use Rattle.drm_gpu.specs.Laws.{device_facts}
+use Rattle.drm_gpu.specs.Passes.{GpuState, PassState, Seeing, DeviceSeat, Noted, Knows, Seated, IsJoinedOf, HasWaited, IsFound, IsSameBut, Adds, Calls, CallsAs, GrowsTo, word_shown, last_of, gpu_of, noted, pass_of}
 use Rattle.drm_gpu.specs.Running.{GoesOut, Starts}
 use Rattle.drm_gpu.proofs.Chains.{saw}
 use Rattle.drm_gpu.proofs.Grown.{grows_itself, grows_trans}
@@ -30,7 +31,7 @@ only_seen : (spec : DeviceSpec) (v : Seeing) (p : MarkedDevice) → Knows spec (
 only_seen spec v p k seen = ⊎_elim (λ is. is) (λ never. absurd never) (subst (In p) k.seen seen)
 
 -- what a caller is told of the device that it finds
-pub is_found : (spec : DeviceSpec) (v : Seeing) (p : MarkedDevice) → Knows spec (last_of v) v → IsLater IsGood GrowsTo word_shown IsBusy v p → IsFound p v
+pub is_found : (spec : DeviceSpec) (v : Seeing) (p : MarkedDevice) → Knows spec (last_of v) v → IsLater device_facts v p → IsFound p v
 is_found spec v p k later = record {
   lawful = later.fine;
   later = later.grown (last_of v) (saw spec (last_of v) v k);

@@ -2,19 +2,20 @@
 use Rattle.std.specs.Prelude.{◌≡◌, ◌<◌, ℕ, List, Option, true, All, Some, false, length, slice_get}
 use Rattle.drm_job.specs.Fault.{IsJob}
 use Rattle.drm_resv.specs.Reservation.{WithRoom}
-use Rattle.drm_sched.specs.Marks.{IsBusy, MarkedDevice, ring_out}
+use Rattle.drm_sched.specs.Marks.{MarkedDevice, ring_out}
 use Rattle.ww_lock.specs.Lifetime.{FitsAll, TakesApart}
 use Rattle.ww_lock.specs.Parts.{IsWhole}
 use Rattle.drm_gpu.specs.declared.gpu.Closed.{Closed}
 use Rattle.drm_gpu.specs.declared.gpu.CloseError.{CloseError}
 use Rattle.drm_gpu.specs.declared.gpu.CloseError.TheVariants.{Memory, Inside}
-use Rattle.drm_gpu.specs.Passes.{FitsDevice, GpuState, PassState, IsGood, GrowsTo, Seeing, pass_of, word_shown}
+use Rattle.drm_gpu.specs.Laws.{device_facts}
+use Rattle.drm_gpu.specs.Passes.{FitsDevice, GpuState, PassState, IsGood, GrowsTo, Seeing, pass_of}
 
 -- the device is at home, and those reservations that are given, in a board of the description under its rule, in
 -- which a seat knows what the pass knows
 abbrev pub WasAtHome : PassState → MarkedDevice → List (Option WithRoom) → Type 0
 WasAtHome pass device resvs =
-    (id : ℕ) × (v : Seeing) × (pass_of pass.gpu.home v ≡ pass) × TakesApart IsGood FitsDevice GrowsTo word_shown IsBusy pass.gpu.spec.max_jobs id v resvs (Some device)
+    (id : ℕ) × (v : Seeing) × (pass_of pass.gpu.home v ≡ pass) × TakesApart device_facts pass.gpu.spec.max_jobs id v resvs (Some device)
 
 -- what is left is that of a lawful device with no packet out, which came of the one that the pass saw last, and was
 -- at home: of the very device that it saw last, with every reservation, where the pass has taken in all others

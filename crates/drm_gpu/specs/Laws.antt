@@ -1,4 +1,5 @@
--- The laws of the ward: a device may come of itself, and of what one came of that it may come of; and its fences show no less then.
+-- The facts of the ward, and their laws: a device may come of itself, what comes of a device comes of each that it came
+-- of, and no fence word goes back on the way.
 use Rattle.std.proofs.Common.{◌≡◌, ℕ, ◌<◌, zero, suc, Bool, cond, List, Some, None, refl, sym, ap, ◌∙◌, subst, inl, inr, slice_get, suc-le-suc, zero-le}
 use Rattle.std.proofs.Math.Nat.{le_refl, le_trans}
 use Rattle.std.specs.Prelude.{IsTrue}
@@ -7,12 +8,18 @@ use Rattle.drm_types.specs.declared.outcome.Outcome.TheVariants as outcome
 use Rattle.drm_fence.specs.declared.phase.Phase.{Phase}
 use Rattle.drm_fence.specs.declared.phase.Phase.TheVariants.{Queued, Scheduled, Ended}
 use Rattle.drm_fence.specs.Phases.{has_ended}
+use Rattle.ww_lock.specs.Facts.{Facts, AreLawful}
 use Rattle.ww_lock.specs.Fences.{NotBack}
+use Rattle.drm_resv.specs.Reservation.{WithRoom}
 use Rattle.drm_state.specs.declared.journal.JobRecord.{JobRecord}
 use Rattle.drm_state.specs.Grows.{GoesOn, RecordGrows, EntityGrows, EachInPlace}
 use Rattle.drm_state.specs.Keeps.{word_of}
-use Rattle.drm_sched.specs.Marks.{MarkedDevice}
-use Rattle.drm_gpu.specs.Passes.{GrowsTo, word_shown}
+use Rattle.drm_sched.specs.Marks.{IsBusy, MarkedDevice, Task}
+use Rattle.drm_gpu.specs.Passes.{FitsDevice, IsGood, GrowsTo, word_shown}
+
+-- the board keeps these facts of a device and its reservations
+abbrev pub device_facts : Facts MarkedDevice WithRoom Task
+device_facts = record { good = IsGood; fits = FitsDevice; grows = GrowsTo; posted = word_shown; busy = IsBusy }
 
 goes_on_itself : (phase : Phase) → GoesOn phase phase
 goes_on_itself Queued = tt
@@ -103,3 +110,6 @@ onward p q g f =
       | Some r ↦ λ at. let n = g.journal f r at in
           subst (λ o. NotBack (word_of r.phase) (option_map_or (λ (z : JobRecord). word_of z.phase) o 0)) (sym n.1) (phase_goes_on r.phase n.0.phase n.2.phase)
     ] refl
+
+pub are_lawful : AreLawful device_facts
+are_lawful = record { reflexive = reflexive; transitive = transitive; onward = onward }

@@ -1,8 +1,8 @@
 -- What a look at a fence answers.
-use Rattle.std.specs.Prelude.{◌≡◌, ◌<◌, ◌≤◌, ℕ, ℤ, [], ◌∷◌, ◌++◌, Some, None, Result, Ok, Err, option_map, slice_get}
-use Rattle.drm_fence.specs.Phases.{status_of}
+use Rattle.std.specs.Prelude.{◌≡◌, ◌<◌, ◌≤◌, ℕ, ℤ, [], ◌∷◌, ◌++◌, Result, Err}
 use Rattle.ww_lock.specs.Fences.{NotBack}
 use Rattle.ww_lock.specs.Rule.{In}
+use Rattle.drm_sched.specs.Calls.{StatusIs}
 use Rattle.drm_sched.specs.Marks.{MarkedDevice}
 use Rattle.drm_fence.specs.declared.phase.Phase.TheVariants as phase
 use Rattle.drm_state.specs.Keeps.{word_of}
@@ -17,11 +17,6 @@ number_of Unarmed = 0
 number_of Active = 1
 number_of (Ended outcome) = word_of (phase.Ended outcome)
 
--- the status of the fence on this device, or that no such job is armed there
-abbrev pub TellsStatus : ℕ → Result ℤ NoFence → MarkedDevice → Type 0
-TellsStatus fence (Ok s) d = option_map (λ r. status_of r.phase) (slice_get d.state.journal fence) ≡ Some s
-TellsStatus fence (Err e) d = (e.fence ≡ fence) × (slice_get d.state.journal fence ≡ None)
-
 -- a pass looked at a fence word: that of a lawful device which came of the one that it saw last, and which shows no fence earlier than
 -- the pass saw it
 pub record LooksAt (fence : ℕ) (d : MarkedDevice) (old new : PassState) : Type 0 where
@@ -33,5 +28,5 @@ pub record LooksAt (fence : ℕ) (d : MarkedDevice) (old new : PassState) : Type
 -- what is answered of a fence. Where the device has no fence of this number, the look is one at the first
 pub record AnswersStatus (count fence : ℕ) (answer : Result ℤ NoFence) (old new : PassState) : Type 0 where
   pub device : MarkedDevice
-  pub there : fence < count → LooksAt fence device old new × TellsStatus fence answer device
+  pub there : fence < count → LooksAt fence device old new × StatusIs fence answer device
   pub none : count ≤ fence → LooksAt 0 device old new × (answer ≡ Err (record { fence = fence }))

@@ -1,6 +1,4 @@
 //! What the board keeps of a device and its reservations.
-ghost use Rattle.drm_sched.specs.Marks.{IsBusy};
-ghost use Rattle.drm_gpu.specs.Passes.{FitsDevice, IsGood, GrowsTo, word_shown};
 ghost use Rattle.drm_gpu.specs.Laws as laws;
 
 use drm_buffer::Buffer;
@@ -39,19 +37,7 @@ impl Ward for Driver {
 
     type Task = Task;
 
-    ghost good = { IsGood };
+    ghost facts = { laws.device_facts };
 
-    ghost fits = { FitsDevice };
-
-    ghost grows = { GrowsTo };
-
-    ghost posted = { word_shown };
-
-    ghost busy = { IsBusy };
-
-    ghost reflexive = { laws.reflexive };
-
-    ghost transitive = { laws.transitive };
-
-    ghost onward = { laws.onward };
+    ghost lawful = { laws.are_lawful };
 }

@@ -1,8 +1,9 @@
 //! What the word of a fence says, at which a caller looks without the device.
 ghost use Rattle.std.specs.Prelude.{◌≡◌, ℕ};
+ghost use Rattle.drm_sched.specs.Calls.{StatusIs};
 ghost use Rattle.drm_sched.specs.Marks.{MarkedDevice};
 ghost use Rattle.drm_gpu.specs.Passes.{word_shown};
-ghost use Rattle.drm_gpu.specs.Status.{TellsStatus, number_of};
+ghost use Rattle.drm_gpu.specs.Status.{number_of};
 
 use drm_fence::NoFence;
 use drm_types::{FenceId, Outcome};
@@ -47,7 +48,7 @@ impl FenceWord {
 
     // The status of the fence.
     pub(crate) fn status(self, fence: FenceId) -> Result<i32, NoFence>
-        ensures { (d : MarkedDevice) → number_of self ≡ word_shown d fence → TellsStatus fence result d }
+        ensures { (d : MarkedDevice) → number_of self ≡ word_shown d fence → StatusIs fence result d }
     {
         match self {
             FenceWord::Unarmed => Err(NoFence { fence }),

@@ -3,8 +3,9 @@ use Rattle.ww_lock.specs.Seats.{sees}
 use Rattle.ww_lock.specs.Lifetime.{HasAll, TakesApart}
 use Rattle.ww_lock.specs.Parts.{IsWhole}
 use Rattle.drm_types.specs.declared.spec.DeviceSpec.{DeviceSpec}
-use Rattle.drm_sched.specs.Marks.{IsBusy, MarkedDevice, ring_out}
-use Rattle.drm_gpu.specs.Passes.{FitsDevice, GpuState, PassState, GrowsTo, IsGood, last_of, pass_of, word_shown}
+use Rattle.drm_sched.specs.Marks.{MarkedDevice, ring_out}
+use Rattle.drm_gpu.specs.Laws.{device_facts}
+use Rattle.drm_gpu.specs.Passes.{GpuState, PassState, GrowsTo, last_of, pass_of}
 use Rattle.drm_gpu.proofs.Chains.{saw}
 use Rattle.drm_gpu.proofs.Left.{jobs_of, last_left}
 use Rattle.drm_gpu.proofs.Read.{count_by_sizes}
@@ -38,7 +39,7 @@ returns-clause-closed c =
         c.pass.inside.seat.place.id,
         v,
         ap (λ h. pass_of h v) (sym at) ∙ c.pass.view_is,
-        subst (λ n. TakesApart IsGood FitsDevice GrowsTo word_shown IsBusy n c.pass.inside.seat.place.id v out.items (Some device)) posts e.home,
+        subst (λ n. TakesApart device_facts n c.pass.inside.seat.place.id v out.items (Some device)) posts e.home,
       );
       idle = c.has_packet_out.ensures.idle c.if-has_packet_out.false;
       later = subst (λ (o : PassState). GrowsTo o.last device) c.pass.view_is later;
