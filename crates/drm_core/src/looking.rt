@@ -62,8 +62,8 @@ impl CoreTable {
         ensures reply { reply (core_state self.now) (event.Status fence) ≡ (result, core_state self.now) }
     {
         match self.device.status(fence) {
-            Some(status) => Answer::Status { status },
-            None => Answer::Refused(Refusal::NoFence { fence }),
+            Ok(status) => Answer::Status { status },
+            Err(_) => Answer::Refused(Refusal::NoFence { fence }),
         }
     }
 

@@ -1,5 +1,7 @@
 -- What each call of a device answers and leaves, where it finds the device d and leaves e.
-use Rattle.std.specs.Prelude.{◌≡◌, ℕ, length, Option, Some, None, Result, Ok, Err, IfOk, IfErr}
+use Rattle.std.specs.Prelude.{◌≡◌, ℕ, ℤ, length, Option, Some, None, Result, Ok, Err, IfOk, IfErr, option_map, slice_get}
+use Rattle.drm_fence.specs.declared.timeline.NoFence.{NoFence}
+use Rattle.drm_fence.specs.Phases.{status_of}
 use Rattle.drm_job.specs.declared.Draft.{Draft}
 use Rattle.drm_state.specs.declared.answer.Answer.{Answer}
 use Rattle.drm_state.specs.declared.answer.Answer.TheVariants as answer
@@ -82,6 +84,15 @@ pub record ArmIs (job : Draft) (fence : ℕ) (d e : MarkedDevice) : Type 0 where
 -- the device does not take the job, and is as it was
 abbrev pub ArmRefused : Draft → ArmError → MarkedDevice → MarkedDevice → Type 0
 ArmRefused job r d e = (arm_refusal d.state job ≡ Some (refusal_of_arm r)) × (e ≡ d)
+
+-- no job of this number is armed
+abbrev pub LacksFence : ℕ → MarkedDevice → NoFence → Type 0
+LacksFence fence d e = (e.fence ≡ fence) × (slice_get d.state.journal fence ≡ None)
+
+-- the status of the fence of this number, where a job of this number is armed
+abbrev pub StatusIs : ℕ → Result ℤ NoFence → MarkedDevice → Type 0
+StatusIs fence (Ok s) d = option_map (λ r. status_of r.phase) (slice_get d.state.journal fence) ≡ Some s
+StatusIs fence (Err e) d = LacksFence fence d e
 
 -- what each call that changes a device keeps: what it leaves is lawful, and what it found has grown to that
 pub record StaysLawful (d e : DeviceState) : Type 0 where

@@ -1,10 +1,10 @@
-ghost use Rattle.std.specs.Prelude.{◌≡◌, ◌<◌, ℕ, length, Some, None, IfOk, IfErr, OnOk, MatchOption, MatchResult, map, option_map, slice_get, false};
+ghost use Rattle.std.specs.Prelude.{◌≡◌, ◌<◌, ℕ, length, Some, None, IfOk, IfErr, OnOk, MatchResult, map, option_map, slice_get, false};
 ghost use Rattle.std.specs.List.{filter};
 ghost use Rattle.drm_types.specs.Limits.{spec_fault};
 ghost use Rattle.drm_buffer.specs.Memory.{bytes_of, sizes_of};
 ghost use Rattle.drm_buffer.specs.Stored.{is_out_of};
 ghost use Rattle.drm_fence.specs.declared.phase.Phase.TheVariants.{Ended};
-ghost use Rattle.drm_fence.specs.Phases.{has_ended, status_of};
+ghost use Rattle.drm_fence.specs.Phases.{has_ended};
 ghost use Rattle.drm_state.specs.Arming.{load as load_of};
 ghost use Rattle.drm_table.specs.Building.{RefusesToBuild};
 ghost use Rattle.drm_state.specs.Plans.{DepsCover, all_named};
@@ -18,7 +18,7 @@ ghost use Rattle.drm_job.specs.Fault.{IsJob};
 ghost use Rattle.drm_state.specs.Refusals.{arm_refusal, busy_fence};
 ghost use Rattle.drm_state.specs.State.{opened_device};
 ghost use Rattle.drm_sched.specs.Begun.{IsReport, HasReported, KeepsTasks, MayRun, out_or, MayComeBack};
-ghost use Rattle.drm_sched.specs.Calls.{PickIs, StepIs, FinishIs, TimeoutIs, CancelIs, ReapIs, BeginIs, ArmIs, ArmRefused, StaysLawful};
+ghost use Rattle.drm_sched.specs.Calls.{PickIs, StepIs, FinishIs, TimeoutIs, CancelIs, ReapIs, BeginIs, ArmIs, ArmRefused, LacksFence, StatusIs, StaysLawful};
 ghost use Rattle.drm_sched.specs.Marks.{is_in_way, is_out, ring_out, unmarked, IsSteadyMarked};
 ghost use Rattle.drm_state.specs.Steady.{IsSteady};
 ghost use Rattle.drm_state.specs.Records.{fence_state_of};
@@ -27,7 +27,7 @@ ghost use Rattle.drm_state.specs.Errors.{refusal_of_arm, refusal_of_read};
 use crate::outside::Begun;
 use crate::parts::Parts;
 use drm_buffer::Buffer;
-use drm_fence::Timeline;
+use drm_fence::{NoFence, Timeline};
 use drm_job::Job;
 use drm_resv::{Deps, Resv};
 use drm_state::{
@@ -316,15 +316,18 @@ impl Device {
         self.parts.table.memory.bytes(buffer)
     }
 
-    /// The status of the job's finished fence (`dma_fence_get_status`), as `Phase::status` tells it. `None` where no
-    /// job of this number is armed.
-    pub fn status(&self, fence: FenceId) -> Option<i32>
-        ensures { MatchOption result (slice_get self.now.state.journal fence ≡ None) (λ s. option_map (λ r. status_of r.phase) (slice_get self.now.state.journal fence) ≡ Some s) }
+    /// The status of the job's finished fence (`dma_fence_get_status`), as `Phase::status` tells it.
+    ///
+    /// # Errors
+    ///
+    /// Where no job of this number is armed.
+    pub fn status(&self, fence: FenceId) -> Result<i32, NoFence>
+        ensures { StatusIs fence result self.now }
     {
         let table = &self.parts.table;
         match table.journal.get(fence as usize) {
-            Some(record) => Some(record.phase.status()),
-            None => None,
+            Some(record) => Ok(record.phase.status()),
+            None => Err(NoFence { fence }),
         }
     }
 
@@ -369,11 +372,16 @@ impl Device {
         self.parts.table.load(ring)
     }
 
-    /// What is known of the job of this number, where it is armed.
-    pub fn record(&self, fence: FenceId) -> Option<&JobRecord>
-        ensures { MatchOption result (slice_get self.now.state.journal fence ≡ None) (λ r. slice_get self.now.state.journal fence ≡ Some r.now) }
+    /// What is known of the job of this number.
+    ///
+    /// # Errors
+    ///
+    /// Where no job of this number is armed.
+    pub fn record(&self, fence: FenceId) -> Result<&JobRecord, NoFence>
+        ensures { MatchResult result (λ r. slice_get self.now.state.journal fence ≡ Some r.now) (LacksFence fence self.now) }
     {
-        self.parts.table.journal.as_slice().get(fence as usize)
+        let journal = self.parts.table.journal.as_slice();
+        journal.get(fence as usize).ok_or(NoFence { fence })
     }
 
     /// Takes the device apart (`drm_sched_fini`), and takes no memory. A buffer that is out is still with who runs its

@@ -134,8 +134,8 @@ fn device_runs_a_job(rt: HostRuntime) -> Result<(), Fail> {
     assert!(rt; arms(rt.alloc(), &mut device));
     assert!(rt; runs(&mut device) && shows(&device, 0x05));
     assert!(rt; (device.armed(), device.ended()) == (1, 1));
-    assert!(rt; device.status(0) == Some(1));
-    assert!(rt; matches!(device.record(0), Some(record) if record.ran == 1));
+    assert!(rt; device.status(0) == Ok(1));
+    assert!(rt; matches!(device.record(0), Ok(record) if record.ran == 1));
     Ok(())
 }
 
@@ -147,6 +147,6 @@ fn device_stops_an_entity(rt: HostRuntime) -> Result<(), Fail> {
     };
     assert!(rt; arms(rt.alloc(), &mut device));
     assert!(rt; stops(&mut device) && shows(&device, 0));
-    assert!(rt; device.status(0) == Some(-3));
+    assert!(rt; device.status(0) == Ok(-3));
     Ok(())
 }

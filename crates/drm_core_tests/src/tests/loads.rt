@@ -28,7 +28,7 @@ fn has_loads(device: &Device, first: u32, second: u32) -> bool {
 }
 
 fn is_on(device: &Device, fence: u32, ring: u32) -> bool {
-    matches!(device.record(fence), Some(record) if record.ring == ring)
+    matches!(device.record(fence), Ok(record) if record.ring == ring)
 }
 
 /// Whether the first ring ends its job, which has no packets.

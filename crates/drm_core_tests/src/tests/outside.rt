@@ -72,7 +72,7 @@ pub fn arms_second(alloc: Global, device: &mut Device, job: Job) -> bool
     let Some(job) = job_of(alloc, device, job) else {
         return false;
     };
-    let Some(first) = device.record(0) else {
+    let Ok(first) = device.record(0) else {
         return false;
     };
     if device.armed() != 1 || conflicts(&first.job, &job) {
@@ -238,7 +238,7 @@ fn a_packet_comes_back(rt: HostRuntime) -> Result<(), Fail> {
     assert!(rt; both_are_picked(alloc, &mut device));
     assert!(rt; runs_outside(&mut device));
     assert!(rt; is_copied(&device));
-    assert!(rt; matches!(device.record(0), Some(record) if record.ran == 1));
+    assert!(rt; matches!(device.record(0), Ok(record) if record.ran == 1));
     assert!(rt; sends_out(&mut device, 1, 1, 0));
     Ok(())
 }

@@ -1,4 +1,4 @@
-use Rattle.std.proofs.Common.{◌≡◌, ◌∙◌, List, ap, sym, Some, slice_get, w32, rules}
+use Rattle.std.proofs.Common.{◌≡◌, ◌∙◌, List, ap, refl, sym, Some, slice_get, w32, rules}
 use mir.Val.{SFits}
 use Rattle.std.proofs.lemmas.Int.{to_z-of_z}
 use Rattle.std.specs.Prelude.{option_map}
@@ -21,4 +21,4 @@ returns-in-Some c =
 pub returns-in-None : goal.returns-in-None
 returns-in-None c =
     let journal : c.deref-2.result.now ≡ c.args.self.now.state.journal = c.deref-2.ensures.value ∙ ap (λ (d : MarkedDevice). d.state.journal) (view_read c.deref.ensures c.self.view_is) in
-    sym (ap (λ (js : List JobRecord). slice_get js c.args.fence) journal) ∙ slice_get_past c.deref-2.result.now c.args.fence c.in-None.ensures.lookup.3
+    (refl, sym (ap (λ (js : List JobRecord). slice_get js c.args.fence) journal) ∙ slice_get_past c.deref-2.result.now c.args.fence c.in-None.ensures.lookup.3)
