@@ -1,39 +1,25 @@
-//! Bytes to a writer.
+//! Bytes to a sink.
 
 ghost use Rattle.std.specs.Prelude.{◌≡◌, OnOk, OnErr};
 ghost use Rattle.std.specs.Io.KnownBytes.{Appends};
-ghost use Rattle.drm_stream.specs.Transfer.{AppendsFront};
+ghost use Rattle.drm_stream.specs.Transfer.{AppendsFront, WritesOrFails};
 
-use std::io::{self, ErrorKind, Write};
+use crate::sink::Sink;
+use std::io::{self, Write};
 
-/// Writes all of the bytes, and tries again where a write was interrupted. It fails only before all are written: what
-/// was written then is a front of the bytes.
+/// Writes all of the bytes. It fails where a write does, and only before all are written: what was written then is a front
+/// of the bytes.
 #[inline(never)]
-pub fn put_all<W: Write>(writer: &mut W, bytes: &[u8]) -> io::Result<()>
-    ensures ok { OnOk result (Appends (W.contents writer.old) (W.contents writer.new) bytes.now) }
-    ensures err { OnErr result (AppendsFront (W.contents writer.old) (W.contents writer.new) bytes.now) }
+pub fn put_all<W: Write>(writer: &mut Sink<W>, bytes: &[u8]) -> io::Result<()>
+    ensures ok { OnOk result (Appends writer.old.contents writer.new.contents bytes.now) }
+    ensures err { OnErr result (AppendsFront writer.old.contents writer.new.contents bytes.now) }
+    ensures failures { WritesOrFails writer.old writer.new result }
 {
     let mut rest = bytes;
-    'turn: for _ in 0..u64::MAX {
-        if rest.is_empty() {
-            break;
-        }
-        match writer.write(rest) {
-            Ok(0) => break,
-            Ok(n) => {
-                let (_, after) = rest.split_at(n);
-                rest = after;
-            }
-            Err(e) => {
-                if e.kind() != ErrorKind::Interrupted {
-                    return Err(e);
-                }
-            }
-        }
+    'turn: while !rest.is_empty() {
+        let count = writer.write(rest)?;
+        let (_, after) = rest.split_at(count);
+        rest = after;
     }
-    if rest.is_empty() {
-        Ok(())
-    } else {
-        Err(io::Error::from(ErrorKind::WriteZero))
-    }
+    Ok(())
 }

@@ -1,6 +1,12 @@
 use Rattle.std.proofs.Common.{take, ap, ◌∙◌, rules}
 use Rattle.std.proofs.lemmas.List.{with_items_is, places}
+use Rattle.std.proofs.lemmas.Result.{err_from_is_err_and}
+use Rattle.drm_stream.proofs.Known.{refused_memory}
 use Rattle.drm_stream.proofs.input.read_more.Goals as goal
+
+pub returns-in_err-make_room-clause-failures : goal.returns-in_err-make_room-clause-failures
+returns-in_err-make_room-clause-failures g c =
+    let p = err_from_is_err_and c.from_residual.result c.from_residual.ensures.1 in rw p.1 (refused_memory c.args.reader.now _ p.2)
 
 pub returns-clause-front : goal.returns-clause-front
 returns-clause-front g c =
