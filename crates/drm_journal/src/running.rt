@@ -4,7 +4,7 @@ ghost use Rattle.std.specs.Prelude.{◌≡◌, [], All, None, length, map, IfOk}
 ghost use Rattle.drm_buffer.specs.Memory.{sizes_of};
 ghost use Rattle.drm_job.specs.Ranges.{RunsIn};
 ghost use Rattle.drm_serial.specs.Serial.{serial};
-ghost use Rattle.drm_stream.specs.Transfer.{LosesAtMost};
+ghost use Rattle.drm_stream.specs.Transfer.{TakesAtMost, TellsFailure};
 ghost use Rattle.drm_text.specs.Reading.{Gives};
 ghost use Rattle.drm_types.specs.Limits.{spec_fault};
 ghost use Rattle.drm_journal.specs.Journal.{body_of, nothing_read};
@@ -13,7 +13,7 @@ ghost use Rattle.drm_journal.specs.Leaving.{AreOfAJournal, IsRunOf, buffers_if_r
 use crate::journal::{Reading, add_line};
 use drm_parse::read_header;
 use drm_serial::{Serial, Turn};
-use drm_stream::{InputError, read_input, to_input_error};
+use drm_stream::{InputError, Source, read_input, to_input_error};
 use drm_text::{Fault, Lines, MAX_TEXT, ReadError, TextFault, order_fault};
 use drm_types::{DeviceSpec, Sequence};
 use std::alloc::Global;
@@ -107,10 +107,11 @@ pub fn run_journal(alloc: Global, text: &[u8]) -> Result<JournalBuffers, ReadErr
 /// The buffers of the journal that all bytes of the reader spell.
 pub fn run_journal_from<R: Read>(
     alloc: Global,
-    reader: &mut R,
+    reader: &mut Source<R>,
 ) -> Result<JournalBuffers, InputError>
-    ensures value { IsRunOf (R.remaining reader.old) result }
-    ensures most { LosesAtMost 1048577 (R.remaining reader.old) (R.remaining reader.new) }
+    ensures value { IsRunOf reader.old.remaining result }
+    ensures most { TakesAtMost 1048577 reader.old reader.new }
+    ensures failures { TellsFailure reader.old reader.new result }
     ensures sizes { IfOk result (λ buffers. map length buffers.left ≡ map length buffers.told) }
 {
     let text = read_input(alloc, reader)?;

@@ -1,9 +1,10 @@
 //! Some of the events of a script, one behind the other, and those that are left of them.
 
-ghost use Rattle.std.specs.Prelude.{◌≡◌, [], ◌∷◌, ◌++◌, true, false, length, IfSome, IfNone, IfOk, OnOk, OnErr};
+ghost use Rattle.std.specs.Prelude.{◌≡◌, [], ◌∷◌, ◌++◌, true, false, length, IfSome, IfNone, IfOk, OnOk, OnErr, OnSome};
 ghost use Rattle.std.specs.Option.{option_to_list};
 ghost use Rattle.drm_job.specs.declared.Draft.{Draft as DraftValue};
 ghost use Rattle.drm_text.specs.Reading.{Gives};
+ghost use Rattle.drm_core.specs.Lawful.{IsLawful};
 ghost use Rattle.drm_core.specs.Run.{AllNamesExist};
 ghost use Rattle.drm_script.specs.Commands.{with_job_at};
 ghost use Rattle.drm_script.specs.Kept.{AnswersFirst, brings_job, event_of, event_with};
@@ -154,6 +155,7 @@ impl ChunkLeft {
         ensures none { IfNone result ((self.old ≡ []) × (core.new ≡ core.old)) }
         ensures names { AllNamesExist core.new.device.spec self.new }
         ensures spec { core.new.device.spec ≡ core.old.device.spec }
+        ensures lawful { OnSome result (IsLawful core.new) }
     {
         let kept = self.rest.next()?;
         let answer = match kept {

@@ -3,7 +3,7 @@
 
 ghost use Rattle.std.specs.Prelude.{◌≡◌, ◌≤◌, [], None, length, IfOk};
 ghost use Rattle.drm_types.specs.Limits.{spec_fault};
-ghost use Rattle.drm_stream.specs.Transfer.{IsReadOf, LosesAtMost};
+ghost use Rattle.drm_stream.specs.Transfer.{IsReadOf, TakesAtMost, TellsFailure};
 ghost use Rattle.drm_text.specs.Reading.{Reads, Gives};
 ghost use Rattle.drm_parse.specs.Spelling.{IsReadAsSpelled};
 ghost use Rattle.drm_script.specs.Run.{AreRunnable, runnable_or, run_job_at, submitted_at, run_line, jobs_of, judge_run};
@@ -11,7 +11,7 @@ ghost use Rattle.drm_script.specs.RunGrammar.{SpellsRun};
 
 use drm_job::{Draft, Job};
 use drm_parse::{make_job, read_header, read_job};
-use drm_stream::{InputError, read_input, to_input_error};
+use drm_stream::{InputError, Source, read_input, to_input_error};
 use drm_text::{
     Command, Fault, Keyword, Line, Lines, MAX_TEXT, ReadError, TextFault, Words, order_fault,
 };
@@ -141,9 +141,13 @@ pub fn read_run(alloc: Global, text: &[u8]) -> Result<RunScript, ReadError>
 }
 
 /// The script for threads that all bytes of the reader spell.
-pub fn read_run_from<R: Read>(alloc: Global, reader: &mut R) -> Result<RunScript, InputError>
-    ensures value { IsReadOf judge_run (R.remaining reader.old) result }
-    ensures most { LosesAtMost 1048577 (R.remaining reader.old) (R.remaining reader.new) }
+pub fn read_run_from<R: Read>(
+    alloc: Global,
+    reader: &mut Source<R>,
+) -> Result<RunScript, InputError>
+    ensures value { IsReadOf judge_run reader.old.remaining result }
+    ensures most { TakesAtMost 1048577 reader.old reader.new }
+    ensures failures { TellsFailure reader.old reader.new result }
     ensures fits { IfOk result (λ script. spec_fault script.spec ≡ None) }
     ensures runnable { IfOk result (λ script. AreRunnable script.spec script.jobs × (length script.jobs ≤ script.spec.max_jobs)) }
 {

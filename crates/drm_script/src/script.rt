@@ -1,7 +1,7 @@
 //! Scripts: a header, and a command on each further line.
 
 ghost use Rattle.std.specs.Prelude.{◌≡◌, ◌≤◌, [], None, length, IfOk};
-ghost use Rattle.drm_stream.specs.Transfer.{IsReadOf, LosesAtMost};
+ghost use Rattle.drm_stream.specs.Transfer.{IsReadOf, TakesAtMost, TellsFailure};
 ghost use Rattle.drm_types.specs.Limits.{spec_fault};
 ghost use Rattle.drm_text.specs.Reading.{Gives};
 ghost use Rattle.drm_core.specs.Run.{AllNamesExist};
@@ -13,7 +13,7 @@ ghost use Rattle.drm_script.specs.Script.{script_of, judge_script};
 use crate::command::read_event_line;
 use crate::events::Events;
 use drm_parse::read_header;
-use drm_stream::{InputError, read_input, to_input_error};
+use drm_stream::{InputError, Source, read_input, to_input_error};
 use drm_text::{Fault, Lines, MAX_TEXT, ReadError, TextFault};
 use drm_types::DeviceSpec;
 use std::alloc::Global;
@@ -77,9 +77,13 @@ pub fn read_script(alloc: Global, text: &[u8]) -> Result<Script, ReadError>
 }
 
 /// The script that all bytes of the reader spell.
-pub fn read_script_from<R: Read>(alloc: Global, reader: &mut R) -> Result<Script, InputError>
-    ensures value { IsReadOf judge_script (R.remaining reader.old) result }
-    ensures most { LosesAtMost 1048577 (R.remaining reader.old) (R.remaining reader.new) }
+pub fn read_script_from<R: Read>(
+    alloc: Global,
+    reader: &mut Source<R>,
+) -> Result<Script, InputError>
+    ensures value { IsReadOf judge_script reader.old.remaining result }
+    ensures most { TakesAtMost 1048577 reader.old reader.new }
+    ensures failures { TellsFailure reader.old reader.new result }
     ensures fits { IfOk result (λ script. spec_fault script.spec ≡ None) }
     ensures exist { IfOk result (λ script. AllNamesExist script.spec script.lines) }
 {

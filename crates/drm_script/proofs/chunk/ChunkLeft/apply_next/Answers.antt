@@ -24,3 +24,25 @@ returns-clause-some c =
       | in-Status w ↦ rw (w.self-is, w.answer-is, w.core-is, ← c.self.view_is, c.in_ok-kept.ensures.items, w.in-Status.is) (event.Status w.in-Status.fence, refl, w.apply-answer-in-Status.ensures.step)
       | in-Dump w ↦ rw (w.self-is, w.answer-is, w.core-is, ← c.self.view_is, c.in_ok-kept.ensures.items, w.in-Dump.is) (event.Dump w.in-Dump.buffer, refl, w.apply-answer-in-Dump.ensures.step)
     ]
+
+pub returns-clause-lawful : goal.returns-clause-lawful
+returns-clause-lawful c =
+    elim c.match-kept.branch [
+      | in-Submit w ↦ rw w.core-is w.apply-answer.ensures.lawful
+      | in-Begin w ↦ rw w.core-is w.apply-answer-in-Begin.ensures.lawful
+      | in-Try w ↦ rw w.core-is w.apply-answer-in-Try.ensures.lawful
+      | in-Done w ↦ rw w.core-is w.apply-answer-in-Done.ensures.lawful
+      | in-Drop w ↦ rw w.core-is w.apply-answer-in-Drop.ensures.lawful
+      | in-End w ↦ rw w.core-is w.apply-answer-in-End.ensures.lawful
+      | in-Plan w ↦ rw w.core-is w.apply-answer-in-Plan.ensures.lawful
+      | in-Arm w ↦ rw w.core-is w.apply-answer-in-Arm.ensures.lawful
+      | in-Pick w ↦ rw w.core-is w.apply-answer-in-Pick.ensures.lawful
+      | in-Step w ↦ rw w.core-is w.apply-answer-in-Step.ensures.lawful
+      | in-Finish w ↦ rw w.core-is w.apply-answer-in-Finish.ensures.lawful
+      | in-Timeout w ↦ rw w.core-is w.apply-answer-in-Timeout.ensures.lawful
+      | in-Cancel w ↦ rw w.core-is w.apply-answer-in-Cancel.ensures.lawful
+      | in-Reap w ↦ rw w.core-is w.apply-answer-in-Reap.ensures.lawful
+      | in-Read w ↦ rw w.core-is w.apply-answer-in-Read.ensures.lawful
+      | in-Status w ↦ rw w.core-is w.apply-answer-in-Status.ensures.lawful
+      | in-Dump w ↦ rw w.core-is w.apply-answer-in-Dump.ensures.lawful
+    ]
