@@ -1,2 +1,4 @@
+pub mod Failures
 pub mod Pieces
 pub mod Places
+pub mod Short

@@ -11,13 +11,15 @@ use Rattle.drm_state.specs.declared.answer.Answer.{Answer}
 use Rattle.drm_core.specs.declared.event.Event.{Event}
 use Rattle.drm_core.specs.State.{CoreState, opened}
 use Rattle.drm_core.specs.Headline.{Headline}
+use Rattle.drm_core.specs.Lawful.{IsLawful}
 use Rattle.drm_core.specs.Run.{AllNamesExist, EveryRunIsLawful, Run}
 use Rattle.drm_core.specs.Step.{Step}
 use Rattle.drm_answer.specs.Answers.{line_of, text_of_answers}
 use Rattle.drm_script.specs.Kept.{AnswersFirst}
-use Rattle.drm_stream.specs.Transfer.{AppendsFront}
+use Rattle.drm_stream.specs.Streams.{SinkState}
+use Rattle.drm_stream.specs.Transfer.{AppendsFront, WritesOrFails}
 use Rattle.drm_script.specs.declared.script.Script.{Script}
-use Rattle.drm_engine.specs.Replaying.{AppendsPiece, AreAnswers, IsAnswered, Told}
+use Rattle.drm_engine.specs.Replaying.{AppendsPiece, AreAnswers, IsAnswered, Told, ToldFront, ToldSoFar, Written}
 
 -- whatever run of the rest follows, it makes one of the whole with the answers so far
 abbrev pub GoesOn : CoreState → List Event → List Answer → CoreState → List Event → Type 0
@@ -73,11 +75,6 @@ pub one_more_behind : (text : List ℕ) (so_far : List Answer) (answer : Answer)
 one_more_behind text so_far answer =
     ap (λ (more : List ℕ). text ++ more) (one_more so_far answer) ∙ sym (append_assoc text (text_of_answers so_far) (line_of answer))
 
--- a line has a byte at least
-pub line_is_long : (bytes : List ℕ) (answer : Answer) → 0 < length (bytes ++ line_of answer)
-unfolding line_of
-line_is_long bytes answer = simp length-append (omega arith)
-
 -- what was written first, and then a piece with more behind it
 pub piece_behind : (a b c : Option (List ℕ)) (text piece more left : List ℕ) → AppendsPiece a b text piece → AppendsPiece b c (piece ++ more) left → AppendsPiece a c (text ++ more) left
 piece_behind a b c text piece more left p q =
@@ -97,69 +94,75 @@ front_of_more a b text more p =
     let some : p.0 < length text = p.1 in
     (p.0, omega (arith, some, length-append text more), subst (Appends a b) (sym (take-append-le p.0 text more (omega (arith, some)))) p.2)
 
--- what is still to be written of what was not written at all, and of what was written whole
-pub piece_kept : (a : Option (List ℕ)) (piece : List ℕ) → AppendsPiece a a piece piece
-piece_kept a piece = ([], Appends-nil a, refl)
+-- before the first event nothing is answered, and nothing told
+pub nothing_told : (a : SinkState) (start : CoreState) (events rest : List Event) (piece : List ℕ) → rest ≡ events → piece ≡ []
+    → (given : List Answer) × GoesOn start events given start rest × ToldSoFar a a (text_of_answers given) piece
+nothing_told a start events rest piece same none =
+    ([], (λ more new run. subst (λ es. Run start es more new) same run), (([], Appends-nil a.contents, sym none), refl))
 
-piece_written : (a b : Option (List ℕ)) (piece left : List ℕ) → Appends a b piece → left ≡ [] → AppendsPiece a b piece left
-piece_written a b piece left wrote none = (piece, wrote, rw none (sym (append-nil piece)))
+-- where nothing was written, all is still to be written
+pub kept_so_far : (a : SinkState) (piece : List ℕ) → ToldSoFar a a piece piece
+kept_so_far a piece = (([], Appends-nil a.contents, refl), refl)
 
-pub all_written : {A E : Type 0} (r : Result A E) (a b : Option (List ℕ)) (piece left : List ℕ) → OnOk r (Appends a b piece × (left ≡ [])) → OnOk r (AppendsPiece a b piece left)
-all_written (Ok x) a b piece left wrote = piece_written a b piece left wrote.0 wrote.1
-all_written (Err e) a b piece left wrote = tt
+-- more that is still to be written
+pub so_far_behind : (a b : SinkState) (text piece more : List ℕ) → ToldSoFar a b text piece → ToldSoFar a b (text ++ more) (piece ++ more)
+so_far_behind a b text piece more p = ((p.0.0, p.0.1, ap (λ (l : List ℕ). l ++ more) p.0.2 ∙ append_assoc p.0.0 piece more), p.1)
+
+-- more text behind all that was told so far
+pub so_far_next : (a b c : SinkState) (text more piece left : List ℕ) → ToldSoFar a b text piece → ToldSoFar b c (piece ++ more) left → ToldSoFar a c (text ++ more) left
+so_far_next a b c text more piece left p q = (piece_behind a.contents b.contents c.contents text piece more left p.0 q.0, q.1 ∙ p.1)
+
+pub front_next : (a b c : SinkState) (text more piece : List ℕ) → ToldSoFar a b text piece → ToldFront b c (piece ++ more) → ToldFront a c (text ++ more)
+front_next a b c text more piece p q = (front_behind a.contents b.contents c.contents text piece more p.0 q.0, q.1)
+
+pub told_next : {E : Type 0} (a b c : SinkState) (next : Result (Unit {0}) E) (text more piece left : List ℕ) → ToldSoFar a b text piece → Told b c next (piece ++ more) left → Told a c next (text ++ more) left
+told_next a b c (Ok v) text more piece left p q = so_far_next a b c text more piece left p q
+told_next a b c (Err e) text more piece left p q = front_next a b c text more piece p q
+
+-- a front of a text is one of a longer text
+pub front_longer : (a b : SinkState) (text more : List ℕ) → ToldFront a b text → ToldFront a b (text ++ more)
+front_longer a b text more p = (front_of_more a.contents b.contents text more p.0, p.1)
+
+-- the piece was written
+pub piece_written : {E : Type 0} (a b : SinkState) (done : Result (Unit {0}) E) (piece left : List ℕ) → is_ok done ≡ true → OnOk done (Appends a.contents b.contents piece)
+    → WritesOrFails a b done → left ≡ [] → ToldSoFar a b piece left
+piece_written a b (Ok u) piece left is ok fails none = ((piece, ok, rw none (sym (append-nil piece))), fails)
+piece_written a b (Err e) piece left is ok fails none = absurd (cc)
+
+-- or it was not
+pub piece_lost : {E : Type 0} (a b : SinkState) (done : Result (Unit {0}) E) (piece : List ℕ) → is_ok done ≡ false → OnErr done (AppendsFront a.contents b.contents piece)
+    → WritesOrFails a b done → ToldFront a b piece
+piece_lost a b (Ok u) piece is err fails = absurd (cc)
+piece_lost a b (Err e) piece is err fails = (err, fails)
+
+pub told_written : {E : Type 0} (a b c : SinkState) (next : Result (Unit {0}) E) (text piece left : List ℕ) → ToldSoFar a b text piece → Told b c next piece left → Told a c next text left
+told_written a b c next text piece left p q =
+    subst (λ (t : List ℕ). Told a c next t left) (append-nil text)
+    (told_next a b c next text [] piece left p (subst (λ (t : List ℕ). Told b c next t left) (sym (append-nil piece)) q))
 
 -- one answer more, where all could be told so far
-pub told_more : {E : Type 0} (a b c : Option (List ℕ)) (told next : Result (Unit {0}) E) (text line piece left : List ℕ) → is_ok told ≡ true → Told a b told text piece
-    → OnOk next (AppendsPiece b c (piece ++ line) left) → OnErr next (AppendsFront b c (piece ++ line)) → Told a c next (text ++ line) left
-told_more a b c (Ok u) (Ok v) text line piece left is p ok err = piece_behind a b c text piece line left p ok
-told_more a b c (Ok u) (Err e) text line piece left is p ok err = front_behind a b c text piece line p err
-told_more a b c (Err e) next text line piece left is p ok err = absurd (cc)
+pub told_more : {E : Type 0} (a b c : SinkState) (told next : Result (Unit {0}) E) (text line piece left : List ℕ) → is_ok told ≡ true → Told a b told text piece
+    → Told b c next (piece ++ line) left → Told a c next (text ++ line) left
+told_more a b c (Ok u) next text line piece left is p q = told_next a b c next text line piece left p q
+told_more a b c (Err e) next text line piece left is p q = absurd (cc)
 
--- and where one could not
-pub told_less : {E : Type 0} (a b : Option (List ℕ)) (told : Result (Unit {0}) E) (text line piece : List ℕ) → is_ok told ≡ false → Told a b told text piece → Told a b told (text ++ line) piece
+-- one that is still to be written
+pub told_piece : {E : Type 0} (a b : SinkState) (told : Result (Unit {0}) E) (text line piece : List ℕ) → is_ok told ≡ true → Told a b told text piece → Told a b told (text ++ line) (piece ++ line)
+told_piece a b (Ok u) text line piece is p = so_far_behind a b text piece line p
+told_piece a b (Err e) text line piece is p = absurd (cc)
+
+-- and where one could not be told
+pub told_less : {E : Type 0} (a b : SinkState) (told : Result (Unit {0}) E) (text line piece : List ℕ) → is_ok told ≡ false → Told a b told text piece → Told a b told (text ++ line) piece
 told_less a b (Ok u) text line piece is p = absurd (cc)
-told_less a b (Err e) text line piece is p = front_of_more a b text line p
+told_less a b (Err e) text line piece is p = front_longer a b text line p
 
--- all answers, told but for the last piece
-pub told_all : {E : Type 0} (a b : Option (List ℕ)) (start final : CoreState) (events : List Event) (answers : List Answer) (told : Result (Unit {0}) E) (piece : List ℕ) → Run start events answers final
-    → Told a b told (text_of_answers answers) piece → OnOk told (IsAnswered start events final (λ answers. AppendsPiece a b (text_of_answers answers) piece))
-told_all a b start final events answers (Ok u) piece run p = (answers, run, p)
-told_all a b start final events answers (Err e) piece run p = tt
+-- where no piece is left, all is written
+pub all_written : {E : Type 0} (a b : SinkState) (told : Result (Unit {0}) E) (text piece : List ℕ) → piece ≡ [] → Told a b told text piece → Written a b told text
+all_written a b (Ok u) text piece none p =
+    (subst (Appends a.contents b.contents) (sym (p.0.2 ∙ ap (λ (l : List ℕ). p.0.0 ++ l) none ∙ append-nil p.0.0)) p.0.1, p.1)
+all_written a b (Err e) text piece none p = p
 
-pub told_front : {E : Type 0} (a b : Option (List ℕ)) (start final : CoreState) (events : List Event) (answers : List Answer) (told : Result (Unit {0}) E) (piece : List ℕ) → Run start events answers final
-    → Told a b told (text_of_answers answers) piece → OnErr told (IsAnswered start events final (λ answers. AppendsFront a b (text_of_answers answers)))
-told_front a b start final events answers (Ok u) piece run p = tt
-told_front a b start final events answers (Err e) piece run p = (answers, run, p)
-
--- the last piece
-pub last_piece : (a b c : Option (List ℕ)) (text piece : List ℕ) → AppendsPiece a b text piece → Appends b c piece → Appends a c text
-last_piece a b c text piece p q = subst (Appends a c) (sym p.2) (Appends-trans a b c p.0 piece p.1 q)
-
-pub last_front : (a b c : Option (List ℕ)) (text piece : List ℕ) → AppendsPiece a b text piece → AppendsFront b c piece → AppendsFront a c text
-last_front a b c text piece p q =
-    subst (AppendsFront a c) (append-nil text) (front_behind a b c text piece [] p (subst (AppendsFront b c) (sym (append-nil piece)) q))
-
-pub written : {E : Type 0} (a b c : Option (List ℕ)) (start final : CoreState) (events : List Event) (piece : List ℕ) (done : Result (Unit {0}) E)
-    → IsAnswered start events final (λ answers. AppendsPiece a b (text_of_answers answers) piece) → OnOk done (Appends b c piece)
-    → OnOk done (IsAnswered start events final (λ answers. Appends a c (text_of_answers answers)))
-written a b c start final events piece (Ok u) p ok = (p.0, p.1, last_piece a b c (text_of_answers p.0) piece p.2 ok)
-written a b c start final events piece (Err e) p ok = tt
-
-pub written_front : {E : Type 0} (a b c : Option (List ℕ)) (start final : CoreState) (events : List Event) (piece : List ℕ) (done : Result (Unit {0}) E)
-    → IsAnswered start events final (λ answers. AppendsPiece a b (text_of_answers answers) piece) → OnErr done (AppendsFront b c piece)
-    → OnErr done (IsAnswered start events final (λ answers. AppendsFront a c (text_of_answers answers)))
-written_front a b c start final events piece (Ok u) p err = tt
-written_front a b c start final events piece (Err e) p err = (p.0, p.1, last_front a b c (text_of_answers p.0) piece p.2 err)
-
-pub any_err : {A E : Type 0} (r : Result A E) (P : Type 0) → P → OnErr r P
-any_err (Ok x) P p = tt
-any_err (Err e) P p = p
-
-pub any_ok : {A E : Type 0} (r : Result A E) (P : Type 0) → P → OnOk r P
-any_ok (Ok x) P p = p
-any_ok (Err e) P p = tt
-
-pub holds_of_ok : {A E : Type 0} (r : Result A E) (P : Type 0) → is_err r ≡ false → OnOk r P → P
+pub holds_of_ok : {A E : Type 0} (r : Result A E) (P : Type 0) → is_ok r ≡ true → OnOk r P → P
 holds_of_ok (Ok x) P is p = p
 holds_of_ok (Err e) P is p = absurd (cc)
 
@@ -171,9 +174,9 @@ pub no_ok_of_err : {A E : Type 0} (r : Result A E) → is_err r ≡ true → is_
 no_ok_of_err (Ok x) is = absurd (cc)
 no_ok_of_err (Err e) is = refl
 
--- nothing of a line was written
-pub nothing_told : (a : Option (List ℕ)) (bytes : List ℕ) (answer : Answer) → AppendsFront a a (bytes ++ line_of answer)
-nothing_told a bytes answer = (0, line_is_long bytes answer, Appends-nil a)
+-- a core that was opened is lawful
+pub opened_lawful : (spec : DeviceSpec) → EveryRunIsLawful → IsLawful (opened spec)
+opened_lawful spec lawful = (lawful spec [] [] (opened spec) tt refl).0
 
 -- answers to the events of a script by a core that was opened as its device
 pub played : (script : Script) (core final : CoreState) (events : List Event) (Hold : List Answer → Type 0) → EveryRunIsLawful → Headline → core ≡ opened script.spec

@@ -1,4 +1,5 @@
 pub mod Endings
+pub mod Failures
 pub mod Replaying
 pub mod Leaving
 pub mod Comparing

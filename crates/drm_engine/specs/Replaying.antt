@@ -1,5 +1,5 @@
 -- A replay: what is written answers the script that is read.
-use Rattle.std.specs.Prelude.{◌≡◌, ℕ, List, ◌++◌, Option, Result, Ok, Err, IfSome}
+use Rattle.std.specs.Prelude.{◌≡◌, ℕ, true, List, ◌++◌, Option, Result, Ok, Err, IfSome}
 use Rattle.std.specs.Io.KnownBytes.{Appends, Keeps}
 use Rattle.drm_state.specs.declared.answer.Answer.{Answer}
 use Rattle.drm_core.specs.State.{CoreState, opened}
@@ -9,6 +9,7 @@ use Rattle.drm_core.specs.Headline.{Promises}
 use Rattle.drm_script.specs.declared.script.Script.{Script}
 use Rattle.drm_answer.specs.Answers.{text_of_answers}
 use Rattle.drm_script.specs.Script.{judge_script}
+use Rattle.drm_stream.specs.Streams.{NoWriteFailed, SinkState}
 use Rattle.drm_stream.specs.Transfer.{AppendsFront}
 use Rattle.drm_engine.specs.declared.ending.Ending.{Ending}
 use Rattle.drm_engine.specs.declared.ending.Ending.TheVariants as ending
@@ -39,10 +40,23 @@ IsAnswered start events final Hold = (answers : List Answer) × Run start events
 abbrev pub AppendsPiece : Option (List ℕ) → Option (List ℕ) → List ℕ → List ℕ → Type 0
 AppendsPiece old new text piece = (written : List ℕ) × Appends old new written × (text ≡ written ++ piece)
 
--- what was told of a text: all but its last piece, or a front where it could not be told
-abbrev pub Told : {E : Type 0} → Option (List ℕ) → Option (List ℕ) → Result (Unit {0}) E → List ℕ → List ℕ → Type 0
-Told old new (Ok done) text piece = AppendsPiece old new text piece
-Told old new (Err e) text piece = AppendsFront old new text
+-- the sink gained this text but for its last piece, and no write failed
+abbrev pub ToldSoFar : SinkState → SinkState → List ℕ → List ℕ → Type 0
+ToldSoFar old new text piece = AppendsPiece old.contents new.contents text piece × NoWriteFailed old new
+
+-- the sink gained a front of this text, and a write failed
+abbrev pub ToldFront : SinkState → SinkState → List ℕ → Type 0
+ToldFront old new text = AppendsFront old.contents new.contents text × (new.failed ≡ true)
+
+-- what was told of a text: all but its last piece, or a front where a write failed
+abbrev pub Told : {E : Type 0} → SinkState → SinkState → Result (Unit {0}) E → List ℕ → List ℕ → Type 0
+Told old new (Ok done) text piece = ToldSoFar old new text piece
+Told old new (Err error) text piece = ToldFront old new text
+
+-- all of a text was written, or a front where a write failed
+abbrev pub Written : {E : Type 0} → SinkState → SinkState → Result (Unit {0}) E → List ℕ → Type 0
+Written old new (Ok done) text = Appends old.contents new.contents text × NoWriteFailed old new
+Written old new (Err error) text = ToldFront old new text
 
 -- what each ending says of a script that was read, and of what the writer holds before and after
 abbrev pub Plays : Script → Option (List ℕ) → Option (List ℕ) → Ending → Type 0

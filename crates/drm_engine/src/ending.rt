@@ -19,7 +19,7 @@ pub enum Ending {
     Fault(Fault),
     /// A read failed. Nothing was written.
     NoInput,
-    /// Memory was refused outside of an event. Nothing was written.
+    /// Memory was refused outside of an event, or to a read. Nothing was written.
     NoMemory,
     /// A write failed. What was written is a front of what was to be written, and not all of it.
     NoOutput,

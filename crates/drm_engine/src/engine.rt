@@ -1,13 +1,15 @@
 //! The engines by name.
 
 ghost use Rattle.std.specs.Prelude.{◌≡◌, IfNone, IfSome};
-ghost use Rattle.drm_stream.specs.Transfer.{LosesAtMost};
+ghost use Rattle.drm_stream.specs.Transfer.{TakesAtMost};
 ghost use Rattle.drm_engine.specs.Engines.{NamesNone, Runs, word_of};
+ghost use Rattle.drm_engine.specs.Failures.{EndsBy};
 
 use crate::checking::check;
 use crate::ending::Ending;
 use crate::replaying::replay;
 use crate::serializing::serial;
+use drm_stream::{Sink, Source};
 use std::alloc::Global;
 use std::io::{Read, Write};
 
@@ -37,9 +39,15 @@ impl Engine {
     }
 
     /// Runs it from the reader to the writer.
-    pub fn run<R: Read, W: Write>(self, alloc: Global, reader: &mut R, writer: &mut W) -> Ending
-        ensures ending { Runs self (R.remaining reader.old) (W.contents writer.old) (W.contents writer.new) result }
-        ensures most { LosesAtMost 1048577 (R.remaining reader.old) (R.remaining reader.new) }
+    pub fn run<R: Read, W: Write>(
+        self,
+        alloc: Global,
+        reader: &mut Source<R>,
+        writer: &mut Sink<W>,
+    ) -> Ending
+        ensures ending { Runs self reader.old.remaining writer.old.contents writer.new.contents result }
+        ensures most { TakesAtMost 1048577 reader.old reader.new }
+        ensures failures { EndsBy reader.old reader.new writer.old writer.new result }
     {
         match self {
             Engine::Replay => replay(alloc, reader, writer),

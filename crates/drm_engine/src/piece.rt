@@ -1,62 +1,64 @@
 //! A piece of text in room that is taken at once.
 
-ghost use Rattle.std.specs.Prelude.{◌≡◌, ◌≤◌, ◌++◌, [], length, vec_len, ◌↔◌, IsTrue, IfOk, OnOk};
+ghost use Rattle.std.specs.Prelude.{◌≡◌, ◌+◌, ◌-◌, ◌<◌, ◌≤◌, ◌∷◌, ◌++◌, [], length, take, IfOk};
 ghost use Rattle.drm_answer.specs.Answers.{line_of};
 ghost use Rattle.drm_answer.specs.Lines.{line_room};
+ghost use Rattle.drm_engine.specs.Replaying.{Told};
 
 use drm_answer::place_line;
 use drm_core::Answer;
+use drm_stream::{Sink, put_all};
 use std::alloc::{AllocError, Global};
+use std::io::Write;
 use std::marker::Model;
 
-/// Lines of answers, one behind the other, in room that does not grow. Contracts see the text.
+/// A piece of so many bytes or more is written before the next line.
+pub const PIECE: usize = 32_768;
+
+/// The room of a piece. The longest line of an answer tells 4,096 bytes, so it finds room behind a piece that is not written yet.
+const ROOM: usize = PIECE + 8_320;
+
+/// That a write failed, and no more of it: an error of a stream is large, and each call would make room for one.
+#[derive(Clone, Copy, Debug)]
+pub struct WriteFailed;
+
+/// Text on its way to a sink, in room that does not grow. Contracts see the text.
 #[derive(Drop)]
-pub(crate) struct Piece {
+pub struct Piece {
     room: Vec<u8>,
     len: usize,
 }
 
 impl Model for Piece {
-    ghost use Rattle.std.specs.Prelude.{ℕ, List, ◌≤◌, take, vec_len};
+    ghost use Rattle.std.specs.Prelude.{◌≡◌, ℕ, List, ◌≤◌, take, vec_len};
 
     ghost Value = { List ℕ };
 
     ghost view = { λ piece. take piece.len piece.room.items };
 
-    ghost invariant = { λ piece. piece.len ≤ vec_len piece.room };
-}
-
-/// Whether the line of the answer finds a place in so much room. Only a dump asks for more or less than others.
-#[inline]
-fn fits(answer: &Answer, room: usize) -> bool
-    ensures { IsTrue result ↔ (line_room answer.now ≤ room) }
-{
-    match answer {
-        Answer::Bytes { bytes } => 7 <= room && bytes.len() <= (room - 7) / 2,
-        _ => 80 <= room,
-    }
+    ghost invariant = { λ piece. (piece.len ≤ 41088) × (vec_len piece.room ≡ 41088) };
 }
 
 impl Piece {
     /// An empty piece, and all room that it will have.
-    pub(crate) fn with_room(alloc: Global, room: usize) -> Result<Piece, AllocError>
+    pub fn with_room(alloc: Global) -> Result<Piece, AllocError>
         ensures { IfOk result (λ piece. piece ≡ []) }
     {
         Ok(Piece {
-            room: vec![in alloc; 0u8; room]?,
+            room: vec![in alloc; 0u8; ROOM]?,
             len: 0,
         })
     }
 
     /// How many bytes it has.
-    pub(crate) fn len(&self) -> usize
+    pub fn len(&self) -> usize
         ensures { result ≡ length self.now }
     {
         self.len
     }
 
     /// The text.
-    pub(crate) fn as_slice(&self) -> &[u8]
+    pub fn as_slice(&self) -> &[u8]
         ensures { result.now ≡ self.now }
     {
         &self.room[..self.len]
@@ -69,18 +71,51 @@ impl Piece {
         self.len = 0;
     }
 
-    /// Puts the line of an answer behind the text. There is one look at the room for the whole line.
-    ///
-    /// # Errors
-    ///
-    /// Where the line finds no room.
-    pub(crate) fn put_line(&mut self, answer: &Answer) -> Result<(), AllocError>
-        ensures { OnOk result (self.new ≡ self.old ++ line_of answer.now) }
+    /// Puts the line of an answer behind the text, where there is room for it.
+    pub fn put_line(&mut self, answer: &Answer)
+        requires { length self.old + line_room answer.now ≤ 41088 }
+        ensures { self.new ≡ self.old ++ line_of answer.now }
     {
-        if !fits(answer, self.room.len() - self.len) {
-            return Err(AllocError);
-        }
         self.len = place_line(self.room.as_mut_slice(), self.len, answer);
+    }
+
+    /// Takes the last byte away.
+    pub fn drop_last(&mut self)
+        ensures { self.new ≡ take (length self.old - 1) self.old }
+    {
+        self.len = self.len.saturating_sub(1);
+    }
+
+    /// Writes the text, and leaves it out, also where the write fails. The room of an error is not made for each answer.
+    #[inline(never)]
+    pub fn write_to<W: Write>(&mut self, writer: &mut Sink<W>) -> Result<(), WriteFailed>
+        ensures told { Told writer.old writer.new result self.old self.new }
+        ensures bare { self.new ≡ [] }
+    {
+        let is_written = put_all(writer, self.as_slice()).is_ok();
+        self.clear();
+        if is_written { Ok(()) } else { Err(WriteFailed) }
+    }
+
+    /// Puts a byte behind the text. A piece without room for it is written before.
+    pub fn push<W: Write>(&mut self, writer: &mut Sink<W>, byte: u8) -> Result<(), WriteFailed>
+        ensures { Told writer.old writer.new result (self.old ++ byte ∷ []) self.new }
+    {
+        if self.len() < ROOM {
+            self.put(byte);
+            return Ok(());
+        }
+        self.write_to(writer)?;
+        self.put(byte);
         Ok(())
+    }
+
+    /// Puts a byte behind the text, where there is room for it.
+    fn put(&mut self, byte: u8)
+        requires { length self.old < 41088 }
+        ensures { self.new ≡ self.old ++ byte ∷ [] }
+    {
+        self.room[self.len] = byte;
+        self.len += 1;
     }
 }

@@ -1,37 +1,22 @@
 //! The engine `replay`: from a script to the answers of the core.
 
-ghost use Rattle.std.specs.Prelude.{◌≡◌, ◌++◌, ℕ, [], List, None, Option, OnErr, OnOk};
-ghost use Rattle.std.specs.Io.KnownBytes.{Appends};
+ghost use Rattle.std.specs.Prelude.{◌≡◌, ◌<◌, ◌++◌, ℕ, [], List, None, length};
 ghost use Rattle.drm_types.specs.Limits.{spec_fault};
 ghost use Rattle.drm_answer.specs.Answers.{text_of_answers};
+ghost use Rattle.drm_core.specs.Lawful.{IsLawful};
 ghost use Rattle.drm_core.specs.Run.{AllNamesExist};
-ghost use Rattle.drm_stream.specs.Transfer.{AppendsFront, LosesAtMost};
-ghost use Rattle.drm_engine.specs.Replaying.{AppendsPiece, IsAnswered, Plays, Replays, Told};
+ghost use Rattle.drm_stream.specs.Streams.{NoReadFailed, SinkState, SourceState};
+ghost use Rattle.drm_stream.specs.Transfer.{TakesAtMost};
+ghost use Rattle.drm_engine.specs.Failures.{EndsBy};
+ghost use Rattle.drm_engine.specs.Replaying.{IsAnswered, Plays, Replays, Told, Written};
 
 use crate::ending::Ending;
-use crate::piece::Piece;
+use crate::piece::{PIECE, Piece, WriteFailed};
 use drm_core::{Core, every_run_is_lawful, headline};
 use drm_script::{Chunk, Events, Script, read_script_from};
-use drm_stream::put_all;
-use std::alloc::{AllocError, Global};
-use std::io::{self, Read, Write};
-
-/// The lines of answers are written in pieces of so many bytes or more, but for the last.
-const PIECE: usize = 32_768;
-
-/// The room of a piece. The longest line tells 4,096 bytes, so a piece never needs more.
-const ROOM: usize = PIECE + 8_320;
-
-/// Writes a piece, and leaves it empty. The room of its result is not made for each answer.
-#[inline(never)]
-fn write_piece<W: Write>(writer: &mut W, piece: &mut Piece) -> io::Result<()>
-    ensures ok { OnOk result (Appends (W.contents writer.old) (W.contents writer.new) piece.old × (piece.new ≡ [])) }
-    ensures err { OnErr result (AppendsFront (W.contents writer.old) (W.contents writer.new) piece.old) }
-{
-    put_all(writer, piece.as_slice())?;
-    piece.clear();
-    Ok(())
-}
+use drm_stream::{Sink, Source};
+use std::alloc::Global;
+use std::io::{Read, Write};
 
 /// Gives the core all events of a chunk, and tells the answer to each while it can be told: its line comes behind those of a
 /// piece, which is written where it is long enough. Its loop stands in a function of its own: with that over the chunks around
@@ -41,12 +26,17 @@ fn tell_chunk<W: Write>(
     core: &mut Core,
     chunk: Chunk,
     piece: &mut Piece,
-    writer: &mut W,
-    before: io::Result<()>,
-) -> io::Result<()>
+    writer: &mut Sink<W>,
+    before: Result<(), WriteFailed>,
+) -> Result<(), WriteFailed>
     requires names { AllNamesExist core.old.device.spec chunk }
-    ensures told { (old : Option (List ℕ)) (text : List ℕ) → Told old (W.contents writer.old) before text piece.old → IsAnswered core.old chunk core.new (λ answers. Told old (W.contents writer.new) result (text ++ text_of_answers answers) piece.new) }
+    requires lawful { IsLawful core.old }
+    requires limits { spec_fault core.old.device.spec ≡ None }
+    requires short { length piece.old < 32768 }
+    ensures told { (old : SinkState) (text : List ℕ) → Told old writer.old before text piece.old → IsAnswered core.old chunk core.new (λ answers. Told old writer.new result (text ++ text_of_answers answers) piece.new) }
     ensures spec { core.new.device.spec ≡ core.old.device.spec }
+    ensures lawful { IsLawful core.new }
+    ensures short { length piece.new < 32768 }
 {
     let mut told = before;
     let mut rest = chunk.into_left();
@@ -54,10 +44,9 @@ fn tell_chunk<W: Write>(
         if told.is_err() {
             continue;
         }
-        if piece.put_line(&answer).is_err() {
-            told = Err(io::Error::from(AllocError));
-        } else if piece.len() >= PIECE {
-            told = write_piece(writer, piece);
+        piece.put_line(&answer);
+        if piece.len() >= PIECE {
+            told = piece.write_to(writer);
         }
     }
     told
@@ -70,12 +59,13 @@ fn tell_answers<W: Write>(
     core: &mut Core,
     events: Events,
     piece: &mut Piece,
-    writer: &mut W,
-) -> io::Result<()>
+    writer: &mut Sink<W>,
+) -> Result<(), WriteFailed>
     requires names { AllNamesExist core.old.device.spec events }
+    requires lawful { IsLawful core.old }
+    requires limits { spec_fault core.old.device.spec ≡ None }
     requires bare { piece.old ≡ [] }
-    ensures ok { OnOk result (IsAnswered core.old events core.new (λ answers. AppendsPiece (W.contents writer.old) (W.contents writer.new) (text_of_answers answers) piece.new)) }
-    ensures err { OnErr result (IsAnswered core.old events core.new (λ answers. AppendsFront (W.contents writer.old) (W.contents writer.new) (text_of_answers answers))) }
+    ensures { IsAnswered core.old events core.new (λ answers. Told writer.old writer.new result (text_of_answers answers) piece.new) }
 {
     let mut told = Ok(());
     let mut chunks = events.into_chunks();
@@ -91,27 +81,29 @@ fn write_lines<W: Write>(
     core: &mut Core,
     events: Events,
     piece: &mut Piece,
-    writer: &mut W,
-) -> io::Result<()>
+    writer: &mut Sink<W>,
+) -> Result<(), WriteFailed>
     requires names { AllNamesExist core.old.device.spec events }
+    requires lawful { IsLawful core.old }
+    requires limits { spec_fault core.old.device.spec ≡ None }
     requires bare { piece.old ≡ [] }
-    ensures ok { OnOk result (IsAnswered core.old events core.new (λ answers. Appends (W.contents writer.old) (W.contents writer.new) (text_of_answers answers))) }
-    ensures err { OnErr result (IsAnswered core.old events core.new (λ answers. AppendsFront (W.contents writer.old) (W.contents writer.new) (text_of_answers answers))) }
+    ensures { IsAnswered core.old events core.new (λ answers. Written writer.old writer.new result (text_of_answers answers)) }
 {
     tell_answers(alloc, core, events, piece, writer)?;
-    put_all(writer, piece.as_slice())
+    piece.write_to(writer)
 }
 
 /// Writes the answers to a script. The script's device passes its check, so only memory can lack, and it lacks before
 /// anything is written.
-fn play<W: Write>(alloc: Global, script: Script, writer: &mut W) -> Ending
+fn play<W: Write>(alloc: Global, script: Script, writer: &mut Sink<W>) -> Ending
     requires fits { spec_fault script.spec ≡ None }
     requires exist { AllNamesExist script.spec script.lines }
-    ensures { Plays script (W.contents writer.old) (W.contents writer.new) result }
+    ensures ending { Plays script writer.old.contents writer.new.contents result }
+    ensures failures { (from to : SourceState) → NoReadFailed from to → EndsBy from to writer.old writer.new result }
 {
     every_run_is_lawful();
     headline();
-    let Ok(mut piece) = Piece::with_room(alloc, ROOM) else {
+    let Ok(mut piece) = Piece::with_room(alloc) else {
         return Ending::NoMemory;
     };
     let Ok(mut core) = Core::build(alloc, script.spec) else {
@@ -127,9 +119,14 @@ fn play<W: Write>(alloc: Global, script: Script, writer: &mut W) -> Ending
 /// Reads a script to its end, and writes one line for each of its events: what a core answers that is built for the
 /// script's device and gets the events in their order. Nothing is written before the whole text was read and judged.
 /// Where a write fails, the events behind it happen all the same, and nothing more is written.
-pub fn replay<R: Read, W: Write>(alloc: Global, reader: &mut R, writer: &mut W) -> Ending
-    ensures ending { Replays (R.remaining reader.old) (W.contents writer.old) (W.contents writer.new) result }
-    ensures most { LosesAtMost 1048577 (R.remaining reader.old) (R.remaining reader.new) }
+pub fn replay<R: Read, W: Write>(
+    alloc: Global,
+    reader: &mut Source<R>,
+    writer: &mut Sink<W>,
+) -> Ending
+    ensures ending { Replays reader.old.remaining writer.old.contents writer.new.contents result }
+    ensures most { TakesAtMost 1048577 reader.old reader.new }
+    ensures failures { EndsBy reader.old reader.new writer.old writer.new result }
 {
     match read_script_from(alloc, reader) {
         Ok(script) => play(alloc, script, writer),

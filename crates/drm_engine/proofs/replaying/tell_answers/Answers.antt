@@ -1,23 +1,39 @@
-use Rattle.std.proofs.Common.{◌++◌, ap, subst}
+use Rattle.std.proofs.Common.{◌++◌, ◌∙◌, ap, arith, subst, sym}
+use Rattle.drm_types.specs.Limits.{spec_fault}
 use Rattle.drm_answer.specs.Answers.{text_of_answers}
 use Rattle.drm_core.specs.Run.{AllNamesExist}
 use Rattle.drm_script.specs.Chunks.{all_of}
-use Rattle.drm_engine.proofs.Pieces.{GoesOn, chunk_turned, names_behind, names_first, run_ends, text_behind, told_all, told_front}
+use Rattle.drm_engine.proofs.Pieces.{GoesOn, chunk_turned, names_behind, names_first, nothing_told, run_ends, text_behind}
 use Rattle.drm_engine.proofs.replaying.tell_answers.Goals as goal
 
 pub tell_chunk-told-requires : goal.tell_chunk-told-requires
 tell_chunk-told-requires g c = record {
   names = names_first c.loop-chunk.core.device.spec c.in-Some.chunk (all_of c.next.new.self)
       (subst (λ chunks. AllNamesExist c.loop-chunk.core.device.spec (all_of chunks)) c.in-Some.ensures.some c.loop-chunk.invariant.names);
+  lawful = c.loop-chunk.invariant.lawful;
+  limits = c.loop-chunk.invariant.limits;
+  short = c.loop-chunk.invariant.short;
+}
+
+pub loop-chunk-init : goal.loop-chunk-init
+loop-chunk-init g c = record {
+  names = subst (AllNamesExist c.args.core.now.device.spec) (sym c.into_chunks-chunks.ensures) c.requires.names;
+  lawful = c.requires.lawful;
+  limits = c.requires.limits;
+  short = rw c.requires.bare (omega arith);
+  so_far = nothing_told c.args.writer.now c.args.core.now c.args.events (all_of c.into_chunks-chunks.result) c.args.piece.now c.into_chunks-chunks.ensures c.requires.bare;
 }
 
 pub loop-chunk-preserved : goal.loop-chunk-preserved
 loop-chunk-preserved g c =
     let so = c.loop-chunk.invariant.so_far in
-    let told = c.tell_chunk-told.ensures.told (g.W.Write.contents c.args.writer.now) (text_of_answers so.0) so.2 in
+    let told = c.tell_chunk-told.ensures.told c.args.writer.now (text_of_answers so.0) so.2 in
     record {
       names = names_behind c.loop-chunk.core.device.spec c.tell_chunk-told.new.core.device.spec c.in-Some.chunk (all_of c.next.new.self) c.tell_chunk-told.ensures.spec
           (subst (λ chunks. AllNamesExist c.loop-chunk.core.device.spec (all_of chunks)) c.in-Some.ensures.some c.loop-chunk.invariant.names);
+      lawful = c.tell_chunk-told.ensures.lawful;
+      limits = ap spec_fault c.tell_chunk-told.ensures.spec ∙ c.loop-chunk.invariant.limits;
+      short = c.tell_chunk-told.ensures.short;
       so_far = (
         so.0 ++ told.0,
         chunk_turned c.args.core.now c.loop-chunk.core c.tell_chunk-told.new.core c.args.events c.in-Some.chunk (all_of c.next.new.self) so.0 told.0 told.1
@@ -26,14 +42,7 @@ loop-chunk-preserved g c =
       );
     }
 
-pub returns-clause-ok : goal.returns-clause-ok
-returns-clause-ok g c =
+pub returns : goal.returns
+returns g c =
     let so = c.loop-chunk.invariant.so_far in
-    told_all _ _ c.args.core.now c.loop-chunk.core c.args.events so.0 c.loop-chunk.told c.loop-chunk.piece
-    (run_ends c.args.core.now c.loop-chunk.core c.args.events (all_of c.loop-chunk.chunks) so.0 (ap all_of c.in_default.ensures.none) so.1) so.2
-
-pub returns-clause-err : goal.returns-clause-err
-returns-clause-err g c =
-    let so = c.loop-chunk.invariant.so_far in
-    told_front _ _ c.args.core.now c.loop-chunk.core c.args.events so.0 c.loop-chunk.told c.loop-chunk.piece
-    (run_ends c.args.core.now c.loop-chunk.core c.args.events (all_of c.loop-chunk.chunks) so.0 (ap all_of c.in_default.ensures.none) so.1) so.2
+    (so.0, run_ends c.args.core.now c.loop-chunk.core c.args.events (all_of c.loop-chunk.chunks) so.0 (ap all_of c.in_default.ensures.none) so.1, so.2)
