@@ -1,16 +1,39 @@
 //! Words with numbers in them.
 
-ghost use Rattle.std.specs.Prelude.{◌≡◌, ◌++◌, decimal, drop, flat_map, take, OnOk};
+ghost use Rattle.std.specs.Prelude.{◌≡◌, ◌++◌, decimal, drop, flat_map, take};
+ghost use Rattle.drm_engine.specs.Replaying.{Told};
 ghost use Rattle.drm_words.specs.Filling.{filled};
 
-use std::alloc::AllocError;
+use drm_engine::{Piece, WriteFailed};
+use drm_stream::Sink;
+use std::io::Write;
+
+// Puts a number.
+fn put_number<W: Write>(
+    piece: &mut Piece,
+    writer: &mut Sink<W>,
+    number: u64,
+) -> Result<(), WriteFailed>
+    ensures { Told writer.old writer.new result (piece.old ++ decimal number) piece.new }
+{
+    let mut buffer = itoa::Buffer::new();
+    let digits = buffer.format(number).as_bytes();
+    for digit in digits {
+        piece.push(writer, *digit)?;
+    }
+    Ok(())
+}
 
 // Puts the first of the numbers, if there is one.
-fn put_first(out: &mut Vec<u8>, numbers: &[u64]) -> Result<(), AllocError>
-    ensures { OnOk result (out.new.items ≡ out.old.items ++ flat_map decimal (take 1 numbers.now)) }
+fn put_first<W: Write>(
+    piece: &mut Piece,
+    writer: &mut Sink<W>,
+    numbers: &[u64],
+) -> Result<(), WriteFailed>
+    ensures { Told writer.old writer.new result (piece.old ++ flat_map decimal (take 1 numbers.now)) piece.new }
 {
     match numbers.first() {
-        Some(number) => out.extend_from_slice(itoa::Buffer::new().format(*number).as_bytes()),
+        Some(number) => put_number(piece, writer, *number),
         None => Ok(()),
     }
 }
@@ -23,16 +46,21 @@ fn behind_first(numbers: &[u64]) -> &[u64]
 }
 
 /// Puts the words, with the next of the numbers in place of each '%'.
-pub(crate) fn put_filled(out: &mut Vec<u8>, words: &[u8], numbers: &[u64]) -> Result<(), AllocError>
-    ensures { OnOk result (out.new.items ≡ out.old.items ++ filled words.now numbers.now) }
+pub(crate) fn put_filled<W: Write>(
+    piece: &mut Piece,
+    writer: &mut Sink<W>,
+    words: &[u8],
+    numbers: &[u64],
+) -> Result<(), WriteFailed>
+    ensures { Told writer.old writer.new result (piece.old ++ filled words.now numbers.now) piece.new }
 {
     let mut left = numbers;
     for byte in words {
         if *byte == b'%' {
-            put_first(out, left)?;
+            put_first(piece, writer, left)?;
             left = behind_first(left);
         } else {
-            out.push(*byte)?;
+            piece.push(writer, *byte)?;
         }
     }
     Ok(())

@@ -1,45 +1,42 @@
 //! The engine `replay` with words: from a script to the answers of the core, and what each means.
 
-ghost use Rattle.std.specs.Prelude.{◌≡◌, ◌++◌, [], None, OnErr, OnOk};
-ghost use Rattle.std.specs.Io.KnownBytes.{Appends};
+ghost use Rattle.std.specs.Prelude.{◌≡◌, ◌+◌, ◌<◌, ◌≤◌, ◌++◌, [], None, length, OnOk};
 ghost use Rattle.drm_types.specs.Limits.{spec_fault};
+ghost use Rattle.drm_answer.specs.Lines.{line_room};
+ghost use Rattle.drm_core.specs.Lawful.{IsLawful};
 ghost use Rattle.drm_core.specs.Run.{AllNamesExist};
-ghost use Rattle.drm_stream.specs.Transfer.{AppendsFront, LosesAtMost};
-ghost use Rattle.drm_engine.specs.Replaying.{AppendsPiece, IsAnswered};
+ghost use Rattle.drm_stream.specs.Streams.{NoReadFailed, SourceState};
+ghost use Rattle.drm_stream.specs.Transfer.{TakesAtMost};
+ghost use Rattle.drm_engine.specs.Failures.{EndsBy};
+ghost use Rattle.drm_engine.specs.Replaying.{IsAnswered, Told, Written};
 ghost use Rattle.drm_words.specs.Lines.{text_with_words, worded_line_of};
 ghost use Rattle.drm_words.specs.Replaying.{PlaysWithWords, ReplaysWithWords};
 
 use crate::sentences::put_worded_line;
 use crate::subject::Subject;
 use drm_core::{Answer, Core, every_run_is_lawful, headline};
-use drm_engine::Ending;
+use drm_engine::{Ending, PIECE, Piece, WriteFailed};
 use drm_script::{Events, Script, read_script_from};
-use drm_stream::put_all;
+use drm_stream::{Sink, Source};
 use std::alloc::Global;
-use std::io::{self, Read, Write};
+use std::io::{Read, Write};
 
-/// The lines of answers are written in pieces of so many bytes or more, but for the last.
-const PIECE: usize = 32_768;
-
-/// The room of a piece. The longest answer tells 4,096 bytes, and no sentence has 200, so a piece never needs more.
-const ROOM: usize = PIECE + 8_448;
-
-/// Puts the line of an answer behind those of a piece, and writes the piece where it is long enough.
+/// Puts the line of an answer behind those of a piece, where there is room for it, and writes the piece where it is long enough.
 fn tell<W: Write>(
-    writer: &mut W,
-    piece: &mut Vec<u8>,
+    writer: &mut Sink<W>,
+    piece: &mut Piece,
     subject: Subject,
     answer: &Answer,
-) -> io::Result<()>
-    ensures ok { OnOk result (AppendsPiece (W.contents writer.old) (W.contents writer.new) (piece.old.items ++ worded_line_of subject answer.now) piece.new.items) }
-    ensures err { OnErr result (AppendsFront (W.contents writer.old) (W.contents writer.new) (piece.old.items ++ worded_line_of subject answer.now)) }
+) -> Result<(), WriteFailed>
+    requires { length piece.old + line_room answer.now ≤ 41088 }
+    ensures told { Told writer.old writer.new result (piece.old ++ worded_line_of subject answer.now) piece.new }
+    ensures short { OnOk result (length piece.new < 32768) }
 {
-    put_worded_line(piece, subject, answer)?;
-    if piece.len() >= PIECE {
-        put_all(writer, piece)?;
-        piece.clear();
+    put_worded_line(piece, writer, subject, answer)?;
+    if piece.len() < PIECE {
+        return Ok(());
     }
-    Ok(())
+    piece.write_to(writer)
 }
 
 /// Gives the core all events, and tells the answer to each while it can be told. No answer is kept, and of the text no
@@ -48,13 +45,14 @@ fn tell_answers<W: Write>(
     alloc: Global,
     core: &mut Core,
     events: Events,
-    piece: &mut Vec<u8>,
-    writer: &mut W,
-) -> io::Result<()>
+    piece: &mut Piece,
+    writer: &mut Sink<W>,
+) -> Result<(), WriteFailed>
     requires names { AllNamesExist core.old.device.spec events }
-    requires bare { piece.old.items ≡ [] }
-    ensures ok { OnOk result (IsAnswered core.old events core.new (λ answers. AppendsPiece (W.contents writer.old) (W.contents writer.new) (text_with_words events answers) piece.new.items)) }
-    ensures err { OnErr result (IsAnswered core.old events core.new (λ answers. AppendsFront (W.contents writer.old) (W.contents writer.new) (text_with_words events answers))) }
+    requires lawful { IsLawful core.old }
+    requires limits { spec_fault core.old.device.spec ≡ None }
+    requires bare { piece.old ≡ [] }
+    ensures { IsAnswered core.old events core.new (λ answers. Told writer.old writer.new result (text_with_words events answers) piece.new) }
 {
     let mut told = Ok(());
     let mut rest = events.into_left();
@@ -73,28 +71,30 @@ fn write_lines<W: Write>(
     alloc: Global,
     core: &mut Core,
     events: Events,
-    piece: &mut Vec<u8>,
-    writer: &mut W,
-) -> io::Result<()>
+    piece: &mut Piece,
+    writer: &mut Sink<W>,
+) -> Result<(), WriteFailed>
     requires names { AllNamesExist core.old.device.spec events }
-    requires bare { piece.old.items ≡ [] }
-    ensures ok { OnOk result (IsAnswered core.old events core.new (λ answers. Appends (W.contents writer.old) (W.contents writer.new) (text_with_words events answers))) }
-    ensures err { OnErr result (IsAnswered core.old events core.new (λ answers. AppendsFront (W.contents writer.old) (W.contents writer.new) (text_with_words events answers))) }
+    requires lawful { IsLawful core.old }
+    requires limits { spec_fault core.old.device.spec ≡ None }
+    requires bare { piece.old ≡ [] }
+    ensures { IsAnswered core.old events core.new (λ answers. Written writer.old writer.new result (text_with_words events answers)) }
 {
     tell_answers(alloc, core, events, piece, writer)?;
-    put_all(writer, piece)
+    piece.write_to(writer)
 }
 
 /// Writes the answers to a script. The script's device passes its check, so only memory can lack, and it lacks before
 /// anything is written.
-fn play<W: Write>(alloc: Global, script: Script, writer: &mut W) -> Ending
+fn play<W: Write>(alloc: Global, script: Script, writer: &mut Sink<W>) -> Ending
     requires fits { spec_fault script.spec ≡ None }
     requires exist { AllNamesExist script.spec script.lines }
-    ensures { PlaysWithWords script (W.contents writer.old) (W.contents writer.new) result }
+    ensures ending { PlaysWithWords script writer.old.contents writer.new.contents result }
+    ensures failures { (from to : SourceState) → NoReadFailed from to → EndsBy from to writer.old writer.new result }
 {
     every_run_is_lawful();
     headline();
-    let Ok(mut piece) = Vec::with_capacity(alloc, ROOM) else {
+    let Ok(mut piece) = Piece::with_room(alloc) else {
         return Ending::NoMemory;
     };
     let Ok(mut core) = Core::build(alloc, script.spec) else {
@@ -110,9 +110,14 @@ fn play<W: Write>(alloc: Global, script: Script, writer: &mut W) -> Ending
 /// Reads a script to its end, and writes one line for each of its events, as `drm_engine::replay` does: the answer, and
 /// behind it what it means there. Nothing is written before the whole text was read and judged. Where a write fails, the
 /// events behind it happen all the same, and nothing more is written.
-pub fn replay_with_words<R: Read, W: Write>(alloc: Global, reader: &mut R, writer: &mut W) -> Ending
-    ensures ending { ReplaysWithWords (R.remaining reader.old) (W.contents writer.old) (W.contents writer.new) result }
-    ensures most { LosesAtMost 1048577 (R.remaining reader.old) (R.remaining reader.new) }
+pub fn replay_with_words<R: Read, W: Write>(
+    alloc: Global,
+    reader: &mut Source<R>,
+    writer: &mut Sink<W>,
+) -> Ending
+    ensures ending { ReplaysWithWords reader.old.remaining writer.old.contents writer.new.contents result }
+    ensures most { TakesAtMost 1048577 reader.old reader.new }
+    ensures failures { EndsBy reader.old reader.new writer.old writer.new result }
 {
     match read_script_from(alloc, reader) {
         Ok(script) => play(alloc, script, writer),

@@ -1,18 +1,35 @@
-use Rattle.std.proofs.Common.{refl}
+use Rattle.std.proofs.Common.{refl, subst, sym}
 use Rattle.std.specs.Io.KnownBytes.{Appends}
-use Rattle.drm_stream.specs.Transfer.{AppendsFront}
-use Rattle.drm_engine.proofs.Pieces.{played}
 use Rattle.drm_words.specs.Lines.{text_with_words}
+use Rattle.drm_core.specs.Lawful.{IsLawful}
+use Rattle.drm_stream.specs.Streams.{NoWriteFailed}
+use Rattle.drm_engine.specs.Replaying.{ToldFront}
+use Rattle.drm_engine.proofs.Pieces.{opened_lawful, played}
 use Rattle.drm_words.proofs.replaying.play.Goals as goal
 
-pub returns-in-Ok-write_lines : goal.returns-in-Ok-write_lines
-returns-in-Ok-write_lines g c =
-    played c.args.script c.in-Ok-build.core c.write_lines.new.core c.args.script.lines
-    (λ answers. Appends (g.W.Write.contents c.args.writer.now) (g.W.Write.contents c.write_lines.new.writer) (text_with_words c.args.script.lines answers))
-    c.every_run_is_lawful.ensures c.headline.ensures c.in-Ok-build.ensures.ok.0 refl c.requires.exist c.in-Ok-write_lines.ensures.ok
+pub write_lines-requires-clause-lawful : goal.write_lines-requires-clause-lawful
+write_lines-requires-clause-lawful g c =
+    subst IsLawful (sym c.in-Ok-build.ensures.ok.0) (opened_lawful c.args.script.spec c.every_run_is_lawful.ensures)
 
-pub returns : goal.returns
-returns g c =
-    played c.args.script c.in-Ok-build.core c.write_lines.new.core c.args.script.lines
-    (λ answers. AppendsFront (g.W.Write.contents c.args.writer.now) (g.W.Write.contents c.write_lines.new.writer) (text_with_words c.args.script.lines answers))
-    c.every_run_is_lawful.ensures c.headline.ensures c.in-Ok-build.ensures.ok.0 refl c.requires.exist c.in-Err.ensures.err
+pub write_lines-requires-clause-limits : goal.write_lines-requires-clause-limits
+write_lines-requires-clause-limits g c = rw c.in-Ok-build.ensures.ok.0 c.requires.fits
+
+pub returns-in-Ok-write_lines-clause-ending : goal.returns-in-Ok-write_lines-clause-ending
+returns-in-Ok-write_lines-clause-ending g c =
+    let p = played c.args.script c.in-Ok-build.core c.write_lines.new.core c.args.script.lines
+    (λ answers. Appends c.args.writer.now.contents c.write_lines.new.writer.contents (text_with_words c.args.script.lines answers) × NoWriteFailed c.args.writer.now c.write_lines.new.writer)
+    c.every_run_is_lawful.ensures c.headline.ensures c.in-Ok-build.ensures.ok.0 refl c.requires.exist c.in-Ok-write_lines.ensures in
+    (p.0, p.1, p.2.0)
+
+pub returns-in-Ok-write_lines-clause-failures : goal.returns-in-Ok-write_lines-clause-failures
+returns-in-Ok-write_lines-clause-failures g c = λ from to read. (read, c.in-Ok-write_lines.ensures.2.1)
+
+pub returns-clause-ending : goal.returns-clause-ending
+returns-clause-ending g c =
+    let p = played c.args.script c.in-Ok-build.core c.write_lines.new.core c.args.script.lines
+    (λ answers. ToldFront c.args.writer.now c.write_lines.new.writer (text_with_words c.args.script.lines answers))
+    c.every_run_is_lawful.ensures c.headline.ensures c.in-Ok-build.ensures.ok.0 refl c.requires.exist c.in-Err.ensures in
+    (p.0, p.1, p.2.0)
+
+pub returns-clause-failures : goal.returns-clause-failures
+returns-clause-failures g c = λ from to read. (read, c.in-Err.ensures.2.1)

@@ -1,12 +1,18 @@
-use Rattle.drm_words.proofs.Pieces.{written, written_front}
+use Rattle.std.proofs.lemmas.Result.{err_from_is_err_and}
+use Rattle.drm_words.specs.Lines.{text_with_words}
+use Rattle.drm_engine.proofs.Pieces.{all_written, told_written}
 use Rattle.drm_words.proofs.replaying.write_lines.Goals as goal
 
-pub returns-clause-ok : goal.returns-clause-ok
-returns-clause-ok g c =
-    written _ _ _ c.args.core.now c.tell_answers.new.core c.args.events c.tell_answers.new.piece.items c.put_all.result c.in_ok-tell_answers.ensures.ok
-    (rw c.deref.ensures.value at c.put_all.ensures.ok)
+pub returns-in_err-tell_answers : goal.returns-in_err-tell_answers
+returns-in_err-tell_answers g c =
+    let p = err_from_is_err_and c.from_residual.result c.from_residual.ensures.1 in rw p.1 c.in_err-tell_answers.ensures
 
-pub returns-clause-err : goal.returns-clause-err
-returns-clause-err g c =
-    written_front _ _ _ c.args.core.now c.tell_answers.new.core c.args.events c.tell_answers.new.piece.items c.put_all.result c.in_ok-tell_answers.ensures.ok
-    (rw c.deref.ensures.value at c.put_all.ensures.err)
+pub returns : goal.returns
+returns g c =
+    let told = c.in_ok-tell_answers.ensures in
+    let text = text_with_words c.args.events told.0 in (
+      told.0,
+      told.1,
+      all_written c.args.writer.now c.write_to.new.writer c.write_to.result text c.write_to.new.self c.write_to.ensures.bare
+          (told_written c.args.writer.now c.tell_answers.new.writer c.write_to.new.writer c.write_to.result text c.tell_answers.new.piece c.write_to.new.self told.2 c.write_to.ensures.told),
+    )
