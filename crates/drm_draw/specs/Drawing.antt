@@ -16,8 +16,10 @@ use Rattle.drm_picture.specs.Pictures.{IsPicture, part_of}
 use Rattle.drm_svg.specs.Svg.{IsSvg}
 use Rattle.drm_script.specs.declared.script.Script.{Script}
 use Rattle.drm_script.specs.Script.{judge_script}
+use Rattle.drm_stream.specs.Streams.{SinkState, SourceState}
 use Rattle.drm_stream.specs.Transfer.{AppendsFront}
 use Rattle.drm_engine.specs.Endings.{status_of}
+use Rattle.drm_engine.specs.Failures.{EndsBy, NoneFailed}
 use Rattle.drm_engine.specs.Replaying.{AreAnswers, Replays}
 use Rattle.drm_draw.specs.declared.drawing.Drawing.{Drawing}
 use Rattle.drm_draw.specs.declared.drawing.Drawing.TheVariants as drawing
@@ -106,6 +108,11 @@ Draws from to input old new (drawing.Ended ending.Differs) = ⊥
 Draws from to input old new (drawing.Ended ending.NoInput) = Keeps old new
 Draws from to input old new (drawing.Ended (ending.Fault fault)) = Replays input old new (ending.Fault fault)
 Draws from to input old new drawing.TooMany = SpellsScript input (λ script. DrawsScript script from to old new drawing.TooMany)
+
+-- a drawing ended so by what became of its reads and writes: one of too many commands where none failed
+abbrev pub DrawsBy : SourceState → SourceState → SinkState → SinkState → Drawing → Type 0
+DrawsBy before after old new (drawing.Ended ending) = EndsBy before after old new ending
+DrawsBy before after old new drawing.TooMany = NoneFailed before after old new
 
 -- the exit status: too many commands are a fault of the command line
 abbrev pub status_of_drawing : Drawing → ℕ
