@@ -1,8 +1,9 @@
 -- What is written for a word.
-use Rattle.std.specs.Prelude.{◌≡◌, ℕ, List, Option, Some, None, find}
+use Rattle.std.specs.Prelude.{◌≡◌, ℕ, true, List, Option, Some, None, find}
 use Rattle.std.specs.Fmt.{decimal}
 use Rattle.std.specs.Str.{bytes_eq}
 use Rattle.std.specs.Io.KnownBytes.{Appends, Keeps}
+use Rattle.drm_stream.specs.Streams.{NoWriteFailed, SinkState}
 use Rattle.drm_stream.specs.Transfer.{AppendsFront}
 use Rattle.drm_explain.specs.Numbers.{numbers}
 use Rattle.drm_explain.specs.Texts.{IsList, text_of}
@@ -30,3 +31,10 @@ Tells word old new telling.Told = (text : List ℕ) × IsAnswer word text × App
 Tells word old new telling.Unknown = NamesNone word × Keeps old new
 Tells word old new telling.NoMemory = Keeps old new
 Tells word old new telling.NoOutput = (text : List ℕ) × IsAnswer word text × AppendsFront old new text
+
+-- a failed output tells that a write failed, and any other ending that none did
+abbrev pub ToldBy : SinkState → SinkState → Telling → Type 0
+ToldBy old new telling.Told = NoWriteFailed old new
+ToldBy old new telling.Unknown = NoWriteFailed old new
+ToldBy old new telling.NoMemory = NoWriteFailed old new
+ToldBy old new telling.NoOutput = new.failed ≡ true

@@ -1,11 +1,11 @@
 //! An explanation, from a word to a writer.
 
 ghost use Rattle.std.specs.Prelude.{◌≡◌, option_map, MatchOption, IfOk};
-ghost use Rattle.drm_explain.specs.Telling.{IsAnswer, NamesNone, Tells};
+ghost use Rattle.drm_explain.specs.Telling.{IsAnswer, NamesNone, Tells, ToldBy};
 
 use crate::explanation::{explain, number_of_word};
 use crate::text::list_text;
-use drm_stream::put_all;
+use drm_stream::{Sink, put_all};
 use std::alloc::{AllocError, Global};
 use std::io::Write;
 
@@ -39,8 +39,9 @@ fn answer_to(alloc: Global, word: Option<&str>) -> Result<Option<Vec<u8>>, Alloc
 }
 
 /// Writes the explanation of the number that a word spells, or a line for each number where there is no word.
-pub fn tell_word<W: Write>(alloc: Global, word: Option<&str>, writer: &mut W) -> Telling
-    ensures { Tells (option_map (λ w. w.now) word.entry) (W.contents writer.old) (W.contents writer.new) result }
+pub fn tell_word<W: Write>(alloc: Global, word: Option<&str>, writer: &mut Sink<W>) -> Telling
+    ensures ending { Tells (option_map (λ w. w.now) word.entry) writer.old.contents writer.new.contents result }
+    ensures failures { ToldBy writer.old writer.new result }
 {
     match answer_to(alloc, word) {
         Ok(Some(text)) => match put_all(writer, &text) {
