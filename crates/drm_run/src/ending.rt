@@ -14,6 +14,8 @@ pub enum RunEnding {
     GaveUp {
         /// The least number of such a worker.
         worker: u32,
+        /// How many turns it had.
+        turns: u32,
     },
     /// A thread could not be started. Nothing was written.
     NoThread,
@@ -47,7 +49,7 @@ impl fmt::Display for RunEnding {
     fn fmt<W: fmt::Write>(&self, f: &mut fmt::Formatter<W>) -> fmt::Result {
         match self {
             RunEnding::Ended(ending) => write!(f, "{ending}"),
-            RunEnding::GaveUp { worker } => write!(f, "gave up {worker}"),
+            RunEnding::GaveUp { worker, .. } => write!(f, "gave up {worker}"),
             RunEnding::NoThread => write!(f, "no thread"),
         }
     }

@@ -1,7 +1,7 @@
 //! The engine.
 ghost use Rattle.std.specs.Prelude.{◌<◌, ◌≤◌};
-ghost use Rattle.drm_stream.specs.Transfer.{LosesAtMost};
-ghost use Rattle.drm_run.specs.Runs.{Runs};
+ghost use Rattle.drm_stream.specs.Transfer.{TakesAtMost};
+ghost use Rattle.drm_run.specs.Runs.{RunEndsBy, Runs};
 
 use crate::ending::RunEnding;
 use crate::progress::Progress;
@@ -10,7 +10,7 @@ use drm_engine::Ending;
 use drm_job::jobs_run_in_their_device;
 use drm_script::{Fault, RunScript, read_run_from};
 use drm_serial::serial_keeps_sizes;
-use drm_stream::put_all;
+use drm_stream::{Sink, Source, put_all};
 use drm_types::Moment;
 use drm_workers::{Clock, Gate, Point, RunFault, run_all};
 use std::alloc::Global;
@@ -52,16 +52,17 @@ impl<'a, P: Progress> Gate for Open<'a, P> {
 /// to try in vain, and writes the journal of the run. Moments are the readings of a counter. `progress` is told how far it is.
 pub fn run<H: Threads + Wait + Sync, R: Read, W: Write, P: Progress + Sync>(
     alloc: Global,
-    reader: &mut R,
-    writer: &mut W,
+    reader: &mut Source<R>,
+    writer: &mut Sink<W>,
     submitters: u32,
     turns: u32,
     progress: &P,
     rt: &H,
 ) -> RunEnding
     requires { (0 < submitters) × (submitters ≤ 16) }
-    ensures ending { Runs submitters (R.remaining reader.old) (W.contents writer.old) (W.contents writer.new) result }
-    ensures most { LosesAtMost 1048577 (R.remaining reader.old) (R.remaining reader.new) }
+    ensures ending { Runs submitters turns reader.old.remaining writer.old.contents writer.new.contents result }
+    ensures most { TakesAtMost 1048577 reader.old reader.new }
+    ensures failures { RunEndsBy reader.old reader.new writer.old writer.new result }
 {
     jobs_run_in_their_device();
     serial_keeps_sizes();
@@ -82,7 +83,7 @@ pub fn run<H: Threads + Wait + Sync, R: Read, W: Write, P: Progress + Sync>(
         Err(RunFault::Spec(bad)) => return RunEnding::Ended(Ending::Fault(Fault::Device(bad))),
         Err(RunFault::Memory) => return RunEnding::Ended(Ending::NoMemory),
         Err(RunFault::NoThread) => return RunEnding::NoThread,
-        Err(RunFault::GaveUp { worker }) => return RunEnding::GaveUp { worker },
+        Err(RunFault::GaveUp { worker }) => return RunEnding::GaveUp { worker, turns },
     };
     let Ok(text) = journal_text(alloc, report.closed) else {
         return RunEnding::Ended(Ending::NoMemory);
