@@ -14,6 +14,7 @@ use Rattle.drm_command_line.specs.declared.command_line.Request.{Request}
 use Rattle.drm_command_line.specs.declared.command_line.Request.TheVariants.{Draw, Explain, ReplayWithWords, Run, Work}
 use Rattle.drm_explain.specs.declared.telling.Telling.TheVariants as telling
 use Rattle.drm_run.specs.declared.ending.RunEnding.TheVariants as run_ending
+use Rattle.drm_stream.specs.Streams.{SinkState, SourceState}
 use Rattle.drmsim.specs.Statuses.{DrawnFrom, IsObeyed}
 
 pub untouched : (bytes : Option (List ℕ)) → Keeps bytes bytes
@@ -27,19 +28,23 @@ runs_without_memory engine.Serial input bytes = untouched bytes
 runs_without_memory engine.Check input bytes = untouched bytes
 
 -- a drawing for which memory was refused leaves what the writer holds
-pub drawn_without_memory : (from to : Option ℕ) (input bytes : Option (List ℕ)) (status : ℕ) → status ≡ 3 → DrawnFrom from to input bytes bytes status
-drawn_without_memory (Some from) (Some to) input bytes status is = (Ended NoMemory, untouched bytes, is)
-drawn_without_memory (Some from) None input bytes status is = (untouched bytes, inr is)
-drawn_without_memory None to input bytes status is = (untouched bytes, inr is)
+pub drawn_without_memory : (from to : Option ℕ) (source : SourceState) (sink : SinkState) (status : ℕ) → status ≡ 3 → DrawnFrom from to source source sink sink status
+drawn_without_memory (Some from) (Some to) source sink status is = (Ended NoMemory, untouched sink.contents, (refl, refl), is)
+drawn_without_memory (Some from) None source sink status is = (refl, refl, inr is)
+drawn_without_memory None to source sink status is = (refl, refl, inr is)
 
 -- so does whatever is asked for
-pub obeyed_without_memory : (words : List Text) (request : Request) (input bytes : Option (List ℕ)) (status : ℕ) → IsAsked words request → status ≡ 3
-    → IsObeyed words input bytes bytes status
-obeyed_without_memory words (Run engine) input bytes status asked is = inl (engine, asked, (NoMemory, runs_without_memory engine input bytes, is))
-obeyed_without_memory words (Work submitters turns) input bytes status asked is = inr (inl (submitters, turns, asked, (run_ending.Ended NoMemory, untouched bytes, is)))
-obeyed_without_memory words (Explain word) input bytes status asked is = inr (inr (inl (asked.0, (telling.NoMemory, untouched bytes, is))))
-obeyed_without_memory words (Draw from to) input bytes status asked is = inr (inr (inr (inl (asked.0, drawn_without_memory _ _ input bytes status is))))
-obeyed_without_memory words ReplayWithWords input bytes status asked is = inr (inr (inr (inr (asked, (NoMemory, untouched bytes, is)))))
+pub obeyed_without_memory : (words : List Text) (request : Request) (source : SourceState) (sink : SinkState) (status : ℕ) → IsAsked words request → status ≡ 3
+    → IsObeyed words source source sink sink status
+obeyed_without_memory words (Run engine) source sink status asked is =
+    inl (engine, asked, (NoMemory, runs_without_memory engine source.remaining sink.contents, (refl, refl), is))
+obeyed_without_memory words (Work submitters turns) source sink status asked is =
+    inr (inl (submitters, turns, asked, (run_ending.Ended NoMemory, untouched sink.contents, (refl, refl), is)))
+obeyed_without_memory words (Explain word) source sink status asked is =
+    inr (inr (inl (asked.0, refl, (telling.NoMemory, untouched sink.contents, refl, is))))
+obeyed_without_memory words (Draw from to) source sink status asked is = inr (inr (inr (inl (asked.0, drawn_without_memory _ _ source sink status is))))
+obeyed_without_memory words ReplayWithWords source sink status asked is =
+    inr (inr (inr (inr (asked, (NoMemory, untouched sink.contents, (refl, refl), is)))))
 
 -- of words without a fault only want of memory is an error
 pub memory_alone : (kinds : Kinds) (found : ErrorKind) → kinds ≡ [] → (found ≡ OutOfMemory) ⊎ IsAmong found kinds → found ≡ OutOfMemory

@@ -3,11 +3,11 @@
 //! Each command runs an engine of `drm_engine` from standard input to standard output, or that of `drm_run`, whose workers
 //! run in threads. This program only has the command line read (`drm_command_line`), runs the engine that it names, and
 //! tells how the engine ended: by the exit status, and by a line on standard error unless standard output has told it.
-//! `obey` does all that between any reader and any writer, and its clauses are what the program promises.
+//! `obey` does all that between any reader and any writer, and its clauses are what the program promises. They say of
+//! each exit status whether a read or a write failed, and that refused words and explanations read nothing.
 #![tactic(auto)]
 
 ghost use Rattle.std.specs.Prelude.{◌<◌, ◌≡◌, ◌≢◌, ◌≤◌, ◌^◌, [], Bool, map, option_map, IfSome};
-ghost use Rattle.std.specs.Io.KnownBytes.{Keeps};
 ghost use Rattle.std.specs.IoError.{error_kind};
 ghost use Rattle.std.specs.Process.{exit_status};
 ghost use Rattle.std.specs.String.{string_bytes};
@@ -27,6 +27,7 @@ use drm_draw::{Drawing, draw};
 use drm_engine::Ending;
 use drm_explain::{Telling, tell_word};
 use drm_run::{RunEnding, run};
+use drm_stream::{Sink, Source};
 use drm_text::read_number;
 use drm_words::replay_with_words;
 use progress::ProgressLine;
@@ -108,8 +109,8 @@ fn tell_telling(rt: &HostRuntime, how: Telling, word: &str) -> ExitCode
 }
 
 /// Explains the number that the word spells, or lists all numbers.
-fn explain_number<W: Write>(rt: &HostRuntime, word: Option<&str>, writer: &mut W) -> ExitCode
-    ensures { ToldAs (option_map (λ w. w.now) word.entry) (W.contents writer.old) (W.contents writer.new) (exit_status result) }
+fn explain_number<W: Write>(rt: &HostRuntime, word: Option<&str>, writer: &mut Sink<W>) -> ExitCode
+    ensures { ToldAs (option_map (λ w. w.now) word.entry) writer.old writer.new (exit_status result) }
 {
     let how = tell_word(rt.alloc(), word, writer);
     tell_telling(rt, how, word.unwrap_or(""))
@@ -146,10 +147,10 @@ fn draw_part<R: Read, W: Write>(
     rt: &HostRuntime,
     from: Option<&str>,
     to: Option<&str>,
-    reader: &mut R,
-    writer: &mut W,
+    reader: &mut Source<R>,
+    writer: &mut Sink<W>,
 ) -> ExitCode
-    ensures { DrawnAs (option_map (λ w. w.now) from.entry) (option_map (λ w. w.now) to.entry) (R.remaining reader.old) (W.contents writer.old) (W.contents writer.new) (exit_status result) }
+    ensures { DrawnAs (option_map (λ w. w.now) from.entry) (option_map (λ w. w.now) to.entry) reader.old reader.new writer.old writer.new (exit_status result) }
 {
     match (number_or(0, from), number_or(u32::MAX, to)) {
         (Some(from), Some(to)) => {
@@ -171,11 +172,11 @@ fn work<H: Threads + Wait + Sync, R: Read, W: Write>(
     threads: &H,
     submitters: u32,
     turns: u32,
-    reader: &mut R,
-    writer: &mut W,
+    reader: &mut Source<R>,
+    writer: &mut Sink<W>,
 ) -> ExitCode
     requires { (0 < submitters) × (submitters ≤ 16) }
-    ensures { WorksAs submitters (R.remaining reader.old) (W.contents writer.old) (W.contents writer.new) (exit_status result) }
+    ensures { WorksAs submitters turns reader.old reader.new writer.old writer.new (exit_status result) }
 {
     let line = ProgressLine::new(rt);
     let ending = run(
@@ -196,17 +197,19 @@ fn obey<H: Threads + Wait + Sync, R: Read, W: Write>(
     rt: &HostRuntime,
     threads: &H,
     words: &[String],
-    reader: &mut R,
-    writer: &mut W,
+    reader: &mut Source<R>,
+    writer: &mut Sink<W>,
 ) -> ExitCode
     ensures commands { (engine : EngineOf) → IsCommandLineOf engine (map string_bytes words.now)
-        → EndsAs engine (R.remaining reader.old) (W.contents writer.old) (W.contents writer.new) (exit_status result) }
+        → EndsAs engine reader.old reader.new writer.old writer.new (exit_status result) }
     ensures worded { IsCommandLineForWords (map string_bytes words.now)
-        → EndsInWords (R.remaining reader.old) (W.contents writer.old) (W.contents writer.new) (exit_status result) }
+        → EndsInWords reader.old reader.new writer.old writer.new (exit_status result) }
     ensures accepted { fault_of program_app (map string_bytes words.now) ≡ []
-        → IsObeyed (map string_bytes words.now) (R.remaining reader.old) (W.contents writer.old) (W.contents writer.new) (exit_status result) }
+        → IsObeyed (map string_bytes words.now) reader.old reader.new writer.old writer.new (exit_status result) }
+    ensures unread { fault_of program_app (map string_bytes words.now) ≢ []
+        → reader.new ≡ reader.old }
     ensures untouched { fault_of program_app (map string_bytes words.now) ≢ []
-        → Keeps (W.contents writer.old) (W.contents writer.new) }
+        → writer.new ≡ writer.old }
     ensures refused { fault_of program_app (map string_bytes words.now) ≢ []
         → IsRefusal (fault_of program_app (map string_bytes words.now)) (exit_status result) }
 {
@@ -226,7 +229,11 @@ fn obey<H: Threads + Wait + Sync, R: Read, W: Write>(
 
 fn main(rt: HostRuntime) -> ExitCode {
     match words(&rt) {
-        Ok(words) => obey(&rt, &rt, &words, &mut rt.stdin(), &mut rt.stdout()),
+        Ok(words) => {
+            let mut reader = Source::new(rt.stdin());
+            let mut writer = Sink::new(rt.stdout());
+            obey(&rt, &rt, &words, &mut reader, &mut writer)
+        }
         Err(error) => tell_unread(&rt, &error),
     }
 }
