@@ -12,12 +12,21 @@ mod slow;
 mod tests;
 
 use drm_engine::{Ending, Engine};
+use drm_stream::{Sink, Source};
 pub use slow::{SlowReader, SlowWriter};
 use std::alloc::Global;
 
-/// Runs the engine on the text.
-pub fn run_on(alloc: Global, engine: Engine, text: &[u8], writer: &mut SlowWriter) -> Ending
-    ensures { Runs engine (Some text.now) (Some writer.old.taken.items) (Some writer.new.taken.items) result }
+/// Runs the engine on the text, and gives the writer back.
+pub fn run_on(
+    alloc: Global,
+    engine: Engine,
+    text: &[u8],
+    writer: SlowWriter,
+) -> (Ending, SlowWriter)
+    ensures { Runs engine (Some text.now) (Some writer.taken.items) (Some result.1.taken.items) result.0 }
 {
-    engine.run(alloc, &mut SlowReader::new(text, None), writer)
+    let mut source = Source::new(SlowReader::new(text, None));
+    let mut sink = Sink::new(writer);
+    let ending = engine.run(alloc, &mut source, &mut sink);
+    (ending, sink.into_inner())
 }

@@ -6,6 +6,7 @@ mod scripts;
 
 use crate::{SlowReader, SlowWriter, run_on};
 use drm_engine::{Ending, Engine};
+use drm_stream::{Sink, Source};
 use std::alloc::Global;
 use std::process::Abort;
 use std::test::Fail;
@@ -13,10 +14,11 @@ use std::test::Fail;
 /// Nothing is written where a read fails, wherever it does.
 fn try_failed_reads(rt: &impl Abort, alloc: Global, engine: Engine, text: &[u8]) {
     for cut in 0..=text.len() {
-        let mut writer = SlowWriter::new(alloc, 100, None);
-        let ending = engine.run(alloc, &mut SlowReader::new(text, Some(cut)), &mut writer);
+        let mut source = Source::new(SlowReader::new(text, Some(cut)));
+        let mut sink = Sink::new(SlowWriter::new(alloc, 100, None));
+        let ending = engine.run(alloc, &mut source, &mut sink);
         assert!(rt; matches!(ending, Ending::NoInput), "at {cut}");
-        assert!(rt; writer.taken.is_empty(), "at {cut}");
+        assert!(rt; sink.into_inner().taken.is_empty(), "at {cut}");
     }
 }
 
@@ -34,10 +36,10 @@ fn try_failed_write(
     alloc: Global,
     engine: Engine,
     told: &Told,
-    writer: &mut SlowWriter,
+    writer: SlowWriter,
     cut: usize,
 ) {
-    let ending = run_on(alloc, engine, told.text, writer);
+    let (ending, writer) = run_on(alloc, engine, told.text, writer);
     let front = writer.taken.as_slice();
     if ending.status() == told.status {
         assert_eq!(rt; front, told.output, "at {cut}");
@@ -52,8 +54,8 @@ fn try_failed_write(
 fn try_failed_writes(rt: &impl Abort, alloc: Global, engine: Engine, told: &Told) {
     for most in [1, 100] {
         for cut in 0..=told.output.len() {
-            let mut writer = SlowWriter::new(alloc, most, Some(cut));
-            try_failed_write(rt, alloc, engine, told, &mut writer, cut);
+            let writer = SlowWriter::new(alloc, most, Some(cut));
+            try_failed_write(rt, alloc, engine, told, writer, cut);
         }
     }
 }
@@ -68,8 +70,8 @@ fn try_run(
     status: u8,
     told: &str,
 ) -> Result<(), Fail> {
-    let mut writer = SlowWriter::new(alloc, 100, None);
-    let ending = run_on(alloc, engine, text, &mut writer);
+    let writer = SlowWriter::new(alloc, 100, None);
+    let (ending, writer) = run_on(alloc, engine, text, writer);
     assert_eq!(rt; ending.to_string(alloc)?.as_str(), told);
     assert_eq!(rt; ending.status(), status);
     assert_eq!(rt; writer.taken.as_slice(), output);

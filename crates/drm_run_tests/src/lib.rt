@@ -10,29 +10,33 @@ mod runs;
 
 use drm_engine_tests::{SlowReader, SlowWriter};
 use drm_run::{RunEnding, Silent, run};
+use drm_stream::{Sink, Source};
 use std::alloc::Global;
 use std::sync::Wait;
 use std::thread::Threads;
 
-/// Runs the script by so many submitters, whose workers may try so often in vain.
+/// Runs the script by so many submitters, whose workers may try so often in vain, and gives the writer back.
 pub fn run_on<H: Threads + Wait + Sync>(
     alloc: Global,
     text: &[u8],
     submitters: u32,
     turns: u32,
-    writer: &mut SlowWriter,
+    writer: SlowWriter,
     rt: &H,
-) -> RunEnding
+) -> (RunEnding, SlowWriter)
     requires { (0 < submitters) × (submitters ≤ 16) }
-    ensures { Runs submitters (Some text.now) (Some writer.old.taken.items) (Some writer.new.taken.items) result }
+    ensures { Runs submitters turns (Some text.now) (Some writer.taken.items) (Some result.1.taken.items) result.0 }
 {
-    run(
+    let mut source = Source::new(SlowReader::new(text, None));
+    let mut sink = Sink::new(writer);
+    let ending = run(
         alloc,
-        &mut SlowReader::new(text, None),
-        writer,
+        &mut source,
+        &mut sink,
         submitters,
         turns,
         &Silent,
         rt,
-    )
+    );
+    (ending, sink.into_inner())
 }

@@ -40,8 +40,8 @@ const AFTER: &[u8] =
 
 // The run is done, and has written this.
 fn tells<R: Threads + Wait + Abort + Sync>(text: &[u8], told: &[u8], rt: &R, alloc: Global) {
-    let mut out = SlowWriter::new(alloc, 7, None);
-    let ending = run_on(alloc, text, 1, TURNS, &mut out, rt);
+    let out = SlowWriter::new(alloc, 7, None);
+    let (ending, out) = run_on(alloc, text, 1, TURNS, out, rt);
     assert!(rt; matches!(ending, RunEnding::Ended(Ending::Done)));
     assert!(rt; out.taken.as_slice() == told);
 }
@@ -55,8 +55,8 @@ fn ends<R: Threads + Wait + Abort + Sync>(
     rt: &R,
     alloc: Global,
 ) {
-    let mut out = SlowWriter::new(alloc, 7, None);
-    let ending = run_on(alloc, text, 2, turns, &mut out, rt);
+    let out = SlowWriter::new(alloc, 7, None);
+    let (ending, out) = run_on(alloc, text, 2, turns, out, rt);
     assert_eq!(rt; ending.status(), status);
     assert!(rt; !ending.is_told());
     let Ok(line) = ending.to_string(alloc) else {
@@ -105,11 +105,11 @@ fn a_run_without_turns_is_given_up(rt: HostRuntime) -> Result<(), Fail> {
 fn is_same<R: Threads + Wait + Abort + Sync>(submitters: u32, rt: &R, alloc: Global)
     requires { (0 < submitters) × (submitters ≤ 16) }
 {
-    let mut journal = SlowWriter::new(alloc, 100, None);
-    let ending = run_on(alloc, MANY, submitters, TURNS, &mut journal, rt);
+    let journal = SlowWriter::new(alloc, 100, None);
+    let (ending, journal) = run_on(alloc, MANY, submitters, TURNS, journal, rt);
     assert!(rt; matches!(ending, RunEnding::Ended(Ending::Done)));
-    let mut out = SlowWriter::new(alloc, 100, None);
-    let checked = drm_engine_tests::run_on(alloc, Engine::Check, &journal.taken, &mut out);
+    let out = SlowWriter::new(alloc, 100, None);
+    let (checked, out) = drm_engine_tests::run_on(alloc, Engine::Check, &journal.taken, out);
     assert!(rt; matches!(checked, Ending::Done));
     assert!(rt; out.taken.as_slice() == b"same\n".as_slice());
 }
@@ -126,8 +126,8 @@ fn journals_are_the_same_as_one_job_after_another(rt: HostRuntime) -> Result<(),
 
 #[test]
 fn a_write_that_fails_is_told(rt: HostRuntime) -> Result<(), Fail> {
-    let mut out = SlowWriter::new(rt.alloc(), 7, Some(21));
-    let ending = run_on(rt.alloc(), ONE, 1, TURNS, &mut out, &rt);
+    let out = SlowWriter::new(rt.alloc(), 7, Some(21));
+    let (ending, out) = run_on(rt.alloc(), ONE, 1, TURNS, out, &rt);
     assert!(rt; matches!(ending, RunEnding::Ended(Ending::NoOutput)));
     assert!(rt; out.taken.as_slice() == &ONE_TOLD[..21]);
     Ok(())

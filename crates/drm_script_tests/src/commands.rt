@@ -3,6 +3,7 @@ use crate::joined;
 use drm_core::Event;
 use drm_packet::Packet;
 use drm_script::{Script, read_script, read_script_from};
+use drm_stream::Source;
 use drm_text::{Fault, ReadError};
 use drm_types::{Access, BufferId, Priority};
 use std::alloc::Global;
@@ -106,7 +107,7 @@ drop 3 0\nend 4\nplan 5 1 9\narm 6\npick 1 18446744073709551615\nstep 0\nfinish 
 reap 0\nread 7 1\nfence 4294967295\ndump 1\n";
 
 fn all_commands(alloc: Global) -> Option<Script> {
-    let mut text = ALL_COMMANDS;
+    let mut text = Source::new(ALL_COMMANDS);
     read_script_from(alloc, &mut text).ok()
 }
 

@@ -3,6 +3,7 @@ use crate::joined;
 use drm_journal::{
     Journal, read_journal, read_journal_from, run_journal, run_journal_from, write_journal,
 };
+use drm_stream::Source;
 use drm_text::{Fault, ReadError};
 use std::alloc::{AllocError, Global};
 use std::test::Fail;
@@ -56,7 +57,7 @@ fn a_journal_of_moves_is_written_as_it_was_read(rt: HostRuntime) -> Result<(), F
 #[test]
 fn a_journal_is_read_from_a_reader(rt: HostRuntime) -> Result<(), Fail> {
     let text = example(rt.alloc())?;
-    let mut reader = text.as_slice();
+    let mut reader = Source::new(text.as_slice());
     let Ok(journal) = read_journal_from(rt.alloc(), &mut reader) else {
         panic!(rt; "refused");
     };
@@ -81,7 +82,7 @@ fn a_journal_runs_as_it_is_read(rt: HostRuntime) -> Result<(), Fail> {
 #[test]
 fn a_journal_that_runs_tells_its_buffers(rt: HostRuntime) -> Result<(), Fail> {
     let text = joined(rt.alloc(), HEADER, b"final 07\nfinal 08\nend\n")?;
-    let mut reader = text.as_slice();
+    let mut reader = Source::new(text.as_slice());
     let Ok(buffers) = run_journal_from(rt.alloc(), &mut reader) else {
         panic!(rt; "refused");
     };

@@ -2,6 +2,7 @@ use crate::expect::expect_eq;
 use crate::joined;
 use drm_packet::Packet;
 use drm_script::{RunScript, read_run, read_run_from};
+use drm_stream::Source;
 use drm_text::{Fault, ReadError};
 use drm_types::{Access, BufferId};
 use std::alloc::Global;
@@ -14,7 +15,7 @@ const TWO_JOBS: &[u8] = b"buffer 00000000\nring 4 10 0\nentity 0 normal\njobs 2\
 submit 0 1 w0 fill:0:0:4:05\nsubmit 0 3 r0\n";
 
 fn two_jobs(alloc: Global) -> Option<RunScript> {
-    let mut text = TWO_JOBS;
+    let mut text = Source::new(TWO_JOBS);
     read_run_from(alloc, &mut text).ok()
 }
 

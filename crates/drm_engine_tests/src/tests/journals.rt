@@ -116,8 +116,8 @@ fn fronts_of_a_journal(rt: HostRuntime) {
     for engine in [Engine::Serial, Engine::Check] {
         for len in 0..GUILTY.len() {
             let (front, _) = GUILTY.split_at(len);
-            let mut writer = SlowWriter::new(rt.alloc(), 100, None);
-            let ending = run_on(rt.alloc(), engine, front, &mut writer);
+            let writer = SlowWriter::new(rt.alloc(), 100, None);
+            let (ending, writer) = run_on(rt.alloc(), engine, front, writer);
             assert_eq!(rt; ending.status(), 2, "at {len}");
             assert!(rt; writer.taken.is_empty(), "at {len}");
         }

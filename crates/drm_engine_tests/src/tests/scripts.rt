@@ -95,8 +95,8 @@ submit 0 1 h0\nsubmit 0 1 m0\nsubmit 0 1 h0 fill:0:0:1:01\npick 0 0\npick 1 0\n"
 /// A front of the script is a script exactly where it ends with a line behind the header.
 fn try_front(rt: &impl Abort, alloc: Global, front: &[u8]) {
     let header = 50;
-    let mut writer = SlowWriter::new(alloc, 100, None);
-    let ending = run_on(alloc, Engine::Replay, front, &mut writer);
+    let writer = SlowWriter::new(alloc, 100, None);
+    let (ending, writer) = run_on(alloc, Engine::Replay, front, writer);
     let is_script = front.len() >= header && front.last() == Some(&b'\n');
     let written = writer.taken.as_slice();
     assert_eq!(rt; ending.status(), if is_script { 0 } else { 2 });
