@@ -1,13 +1,17 @@
 -- What is drawn of a script.
-use Rattle.std.proofs.Common.{◌≡◌, ◌<◌, ℕ, List, Option, Some, None, length, refl, subst}
+use Rattle.std.proofs.Common.{◌≡◌, ◌<◌, ℕ, List, Ok, Option, Some, None, length, refl, subst}
+use Rattle.std.specs.Prelude.{IfSome}
 use Rattle.std.specs.Io.KnownBytes.{Keeps}
 use Rattle.drm_state.specs.declared.answer.Answer.{Answer}
 use Rattle.drm_picture.specs.declared.command.Step.{Step}
 use Rattle.drm_picture.specs.declared.picture.Shape.{Shape}
 use Rattle.drm_script.specs.declared.script.Script.{Script}
+use Rattle.drm_script.specs.Script.{judge_script}
+use Rattle.drm_engine.specs.declared.ending.Ending.{Ending}
+use Rattle.drm_engine.specs.declared.ending.Ending.TheVariants as ending
 use Rattle.drm_engine.specs.Replaying.{AreAnswers}
 use Rattle.drm_picture.specs.Pictures.{part_of}
-use Rattle.drm_draw.specs.Drawing.{AreSteps, IsDrawn, IsDrawnOf, IsTooLong, shape_of}
+use Rattle.drm_draw.specs.Drawing.{AreSteps, Draws, DrawsScript, IsDrawn, IsDrawnOf, IsTooLong, shape_of}
 
 -- the steps of a script
 abbrev pub StepsOf : Script → List Step → Type 0
@@ -29,3 +33,18 @@ too_long script from to steps items part of kept cut long =
 pub untouched : (bytes : Option (List ℕ)) → Keeps bytes bytes
 untouched None = tt
 untouched (Some bytes) = refl
+
+-- what an ending says of a script, it says of the input that spells it
+pub draws_spelled : (script : Script) (from to : ℕ) (input old new : Option (List ℕ)) (ended : Ending) → IfSome input (λ text. judge_script text ≡ Ok script)
+    → DrawsScript script from to old new ended → Draws from to input old new ended
+draws_spelled script from to input old new ending.Done spelled drawn = (script, spelled, drawn)
+draws_spelled script from to input old new ending.Differs spelled never = absurd never
+draws_spelled script from to input old new (ending.GaveUp worker turns) spelled never = absurd never
+draws_spelled script from to input old new ending.NoThread spelled never = absurd never
+draws_spelled script from to input old new (ending.Fault fault) spelled never = absurd never
+draws_spelled script from to input old new ending.TooMany spelled drawn = (script, spelled, drawn)
+draws_spelled script from to input old new ending.NoCount spelled never = absurd never
+draws_spelled script from to input old new (ending.Unexplained word) spelled never = absurd never
+draws_spelled script from to input old new ending.NoMemory spelled kept = kept
+draws_spelled script from to input old new ending.NoInput spelled never = absurd never
+draws_spelled script from to input old new ending.NoOutput spelled drawn = (script, spelled, drawn)

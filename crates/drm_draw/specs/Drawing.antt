@@ -16,13 +16,8 @@ use Rattle.drm_picture.specs.Pictures.{IsPicture, part_of}
 use Rattle.drm_svg.specs.Svg.{IsSvg}
 use Rattle.drm_script.specs.declared.script.Script.{Script}
 use Rattle.drm_script.specs.Script.{judge_script}
-use Rattle.drm_stream.specs.Streams.{SinkState, SourceState}
 use Rattle.drm_stream.specs.Transfer.{AppendsFront}
-use Rattle.drm_engine.specs.Endings.{status_of}
-use Rattle.drm_engine.specs.Failures.{EndsBy, NoneFailed}
 use Rattle.drm_engine.specs.Replaying.{AreAnswers, Replays}
-use Rattle.drm_draw.specs.declared.drawing.Drawing.{Drawing}
-use Rattle.drm_draw.specs.declared.drawing.Drawing.TheVariants as drawing
 use Rattle.drm_engine.specs.declared.ending.Ending.{Ending}
 use Rattle.drm_engine.specs.declared.ending.Ending.TheVariants as ending
 
@@ -86,35 +81,23 @@ IsTooLong script from to =
     (answers : List Answer) × (steps : List Step) × AreAnswers script answers × AreSteps script.lines answers steps × (5000 < length (part_of from to steps))
 
 -- what each ending says of a script that was read, and of what the writer holds before and after
-abbrev pub DrawsScript : Script → ℕ → ℕ → Option (List ℕ) → Option (List ℕ) → Drawing → Type 0
-DrawsScript script from to old new (drawing.Ended ending.Done) = (text : List ℕ) × IsDrawnOf script from to text × Appends old new text
-DrawsScript script from to old new (drawing.Ended ending.NoOutput) = (text : List ℕ) × IsDrawnOf script from to text × AppendsFront old new text
-DrawsScript script from to old new (drawing.Ended ending.NoMemory) = Keeps old new
-DrawsScript script from to old new (drawing.Ended ending.Differs) = ⊥
-DrawsScript script from to old new (drawing.Ended ending.NoInput) = ⊥
-DrawsScript script from to old new (drawing.Ended (ending.Fault fault)) = ⊥
-DrawsScript script from to old new drawing.TooMany = IsTooLong script from to × Keeps old new
+abbrev pub DrawsScript : Script → ℕ → ℕ → Option (List ℕ) → Option (List ℕ) → Ending → Type 0
+DrawsScript script from to old new ending.Done = (text : List ℕ) × IsDrawnOf script from to text × Appends old new text
+DrawsScript script from to old new ending.TooMany = IsTooLong script from to × Keeps old new
+DrawsScript script from to old new ending.NoMemory = Keeps old new
+DrawsScript script from to old new ending.NoOutput = (text : List ℕ) × IsDrawnOf script from to text × AppendsFront old new text
+DrawsScript script from to old new other = ⊥
 
 -- a script that the input spells where it is known, of which this holds
 abbrev pub SpellsScript : Option (List ℕ) → (Script → Type 0) → Type 0
 SpellsScript input Hold = (script : Script) × IfSome input (λ text. judge_script text ≡ Ok script) × Hold script
 
--- what each ending says of the input and of what the writer holds before and after
-abbrev pub Draws : ℕ → ℕ → Option (List ℕ) → Option (List ℕ) → Option (List ℕ) → Drawing → Type 0
-Draws from to input old new (drawing.Ended ending.Done) = SpellsScript input (λ script. DrawsScript script from to old new (drawing.Ended ending.Done))
-Draws from to input old new (drawing.Ended ending.NoOutput) = SpellsScript input (λ script. DrawsScript script from to old new (drawing.Ended ending.NoOutput))
-Draws from to input old new (drawing.Ended ending.NoMemory) = Keeps old new
-Draws from to input old new (drawing.Ended ending.Differs) = ⊥
-Draws from to input old new (drawing.Ended ending.NoInput) = Keeps old new
-Draws from to input old new (drawing.Ended (ending.Fault fault)) = Replays input old new (ending.Fault fault)
-Draws from to input old new drawing.TooMany = SpellsScript input (λ script. DrawsScript script from to old new drawing.TooMany)
-
--- a drawing ended so by what became of its reads and writes: one of too many commands where none failed
-abbrev pub DrawsBy : SourceState → SourceState → SinkState → SinkState → Drawing → Type 0
-DrawsBy before after old new (drawing.Ended ending) = EndsBy before after old new ending
-DrawsBy before after old new drawing.TooMany = NoneFailed before after old new
-
--- the exit status: too many commands are a fault of the command line
-abbrev pub status_of_drawing : Drawing → ℕ
-status_of_drawing (drawing.Ended ending) = status_of ending
-status_of_drawing drawing.TooMany = 2
+-- what each ending says of the input and of what the writer holds before and after: a drawing has no other
+abbrev pub Draws : ℕ → ℕ → Option (List ℕ) → Option (List ℕ) → Option (List ℕ) → Ending → Type 0
+Draws from to input old new ending.Done = SpellsScript input (λ script. DrawsScript script from to old new ending.Done)
+Draws from to input old new (ending.Fault fault) = Replays input old new (ending.Fault fault)
+Draws from to input old new ending.TooMany = SpellsScript input (λ script. DrawsScript script from to old new ending.TooMany)
+Draws from to input old new ending.NoMemory = Keeps old new
+Draws from to input old new ending.NoInput = Keeps old new
+Draws from to input old new ending.NoOutput = SpellsScript input (λ script. DrawsScript script from to old new ending.NoOutput)
+Draws from to input old new other = ⊥

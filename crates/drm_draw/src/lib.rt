@@ -3,4 +3,4 @@
 
 mod drawing;
 
-pub use drawing::{Drawing, draw};
+pub use drawing::draw;

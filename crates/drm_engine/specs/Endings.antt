@@ -1,6 +1,7 @@
 -- What the program tells of an ending.
 use Rattle.std.specs.Prelude.{ℕ, Bool, true, false, List, ◌++◌, codes}
 use Rattle.std.specs.Fmt.{decimal}
+use Rattle.std.specs.String.{string_bytes}
 use Rattle.drm_text.specs.Faults.{number_of_fault}
 use Rattle.drm_text.specs.declared.fault.Fault.TheVariants.{Text, Device}
 use Rattle.drm_stream.specs.declared.input.InputError.{InputError}
@@ -18,16 +19,18 @@ ending_of_input (input.Fault fault) = ending.Fault fault
 abbrev pub is_told : Ending → Bool
 is_told ending.Done = true
 is_told ending.Differs = true
-is_told (ending.Fault fault) = false
-is_told ending.NoInput = false
-is_told ending.NoMemory = false
-is_told ending.NoOutput = false
+is_told other = false
 
 -- the exit status
 abbrev pub status_of : Ending → ℕ
 status_of ending.Done = 0
 status_of ending.Differs = 1
+status_of (ending.GaveUp worker turns) = 1
+status_of ending.NoThread = 1
 status_of (ending.Fault fault) = 2
+status_of ending.TooMany = 2
+status_of ending.NoCount = 2
+status_of (ending.Unexplained word) = 2
 status_of ending.NoMemory = 3
 status_of ending.NoInput = 4
 status_of ending.NoOutput = 4
@@ -36,9 +39,18 @@ status_of ending.NoOutput = 4
 abbrev pub text_of_ending : Ending → List ℕ
 text_of_ending ending.Done = codes "done"
 text_of_ending ending.Differs = codes "differs"
+text_of_ending (ending.GaveUp worker turns) = codes "gave up " ++ decimal worker
+text_of_ending ending.NoThread = codes "no thread"
 text_of_ending (ending.Fault (Text line column what)) =
     codes "line " ++ decimal line ++ codes " column " ++ decimal column ++ codes ": fault " ++ decimal (number_of_fault what)
 text_of_ending (ending.Fault (Device bad)) = codes "refused 1 " ++ decimal bad.part ++ codes " " ++ decimal bad.index
+text_of_ending ending.TooMany =
+    codes "error: a picture has at most 5000 commands\n\nDraw a part with '--from N' and '--to M'. For more information, try '--help'."
+text_of_ending ending.NoCount =
+    codes "error: '--from' and '--to' take a number of commands, 0 to 4294967295\n\nFor more information, try '--help'."
+text_of_ending (ending.Unexplained word) =
+    codes "error: invalid value '" ++ string_bytes word
+    ++ codes "' for '[NUMBER]': no refusal and no fault has this number\n\nFor more information, try '--help'."
 text_of_ending ending.NoMemory = codes "out of memory"
 text_of_ending ending.NoInput = codes "input failed"
 text_of_ending ending.NoOutput = codes "output failed"

@@ -15,14 +15,14 @@ use Rattle.drm_engine.specs.Leaving.{text_of_buffers}
 abbrev pub Spells : Option (List ℕ) → (JournalParts → Type 0) → Type 0
 Spells input Hold = (journal : JournalParts) × IfSome input (λ text. judge_journal text ≡ Ok journal) × Hold journal
 
--- what each ending of `serial` says of the input and of what the writer holds before and after
+-- what each ending of `serial` says of the input and of what the writer holds before and after: it has no other
 abbrev pub Serializes : Option (List ℕ) → Option (List ℕ) → Option (List ℕ) → Ending → Type 0
 Serializes input old new ending.Done = Spells input (λ journal. Appends old new (text_of_buffers (left_by journal)))
-Serializes input old new ending.Differs = ⊥
 Serializes input old new (ending.Fault fault) = IfSome input (λ text. judge_journal text ≡ Err fault) × Keeps old new
 Serializes input old new ending.NoInput = Keeps old new
 Serializes input old new ending.NoMemory = Keeps old new
 Serializes input old new ending.NoOutput = Spells input (λ journal. AppendsFront old new (text_of_buffers (left_by journal)))
+Serializes input old new other = ⊥
 
 -- the comparison of what a journal leaves with its last bytes, where this holds of the comparison
 abbrev pub Finds : JournalParts → (Comparison → Type 0) → Type 0
@@ -38,7 +38,7 @@ abbrev pub IsCompared : Option (List ℕ) → Option (List ℕ) → Option (List
 IsCompared input old new told =
     Spells input (λ journal. Finds journal (λ found. (ending_of found ≡ told) × Appends old new (text_of_comparison found)))
 
--- what each ending of `check` says of the input and of what the writer holds before and after
+-- what each ending of `check` says of the input and of what the writer holds before and after: it has no other
 abbrev pub Checks : Option (List ℕ) → Option (List ℕ) → Option (List ℕ) → Ending → Type 0
 Checks input old new ending.Done = IsCompared input old new ending.Done
 Checks input old new ending.Differs = IsCompared input old new ending.Differs
@@ -47,3 +47,4 @@ Checks input old new ending.NoInput = Keeps old new
 Checks input old new ending.NoMemory = Keeps old new
 Checks input old new ending.NoOutput =
     Spells input (λ journal. Finds journal (λ found. AppendsFront old new (text_of_comparison found)))
+Checks input old new other = ⊥

@@ -23,14 +23,14 @@ abbrev pub Answers : Option (List ℕ) → (List Answer → Type 0) → Type 0
 Answers input Hold =
     (script : Script) × IfSome input (λ text. judge_script text ≡ Ok script) × ((answers : List Answer) × AreAnswers script answers × Hold answers)
 
--- what each ending says of the input and of what the writer holds before and after
+-- what each ending says of the input and of what the writer holds before and after: a replay has no other
 abbrev pub Replays : Option (List ℕ) → Option (List ℕ) → Option (List ℕ) → Ending → Type 0
 Replays input old new ending.Done = Answers input (λ answers. Appends old new (text_of_answers answers))
-Replays input old new ending.Differs = ⊥
 Replays input old new (ending.Fault fault) = IfSome input (λ text. judge_script text ≡ Err fault) × Keeps old new
 Replays input old new ending.NoInput = Keeps old new
 Replays input old new ending.NoMemory = Keeps old new
 Replays input old new ending.NoOutput = Answers input (λ answers. AppendsFront old new (text_of_answers answers))
+Replays input old new other = ⊥
 
 -- the core gives answers to these events, one step after another, of which this holds
 abbrev pub IsAnswered : CoreState → List Event → CoreState → (List Answer → Type 0) → Type 0
@@ -61,8 +61,6 @@ Written old new (Err error) text = ToldFront old new text
 -- what each ending says of a script that was read, and of what the writer holds before and after
 abbrev pub Plays : Script → Option (List ℕ) → Option (List ℕ) → Ending → Type 0
 Plays script old new ending.Done = (answers : List Answer) × AreAnswers script answers × Appends old new (text_of_answers answers)
-Plays script old new ending.Differs = ⊥
-Plays script old new (ending.Fault fault) = ⊥
-Plays script old new ending.NoInput = ⊥
 Plays script old new ending.NoMemory = Keeps old new
 Plays script old new ending.NoOutput = (answers : List Answer) × AreAnswers script answers × AppendsFront old new (text_of_answers answers)
+Plays script old new other = ⊥

@@ -8,19 +8,37 @@ use drm_stream::InputError;
 use drm_types::BadSpec;
 use std::fmt;
 
-/// How a run of an engine ended.
+/// How a run of an engine ended. The clause `ending` of each engine says which of these it can have.
 #[derive(Debug, Drop)]
 pub enum Ending {
     /// All was read, and all that was asked for was written.
     Done,
     /// All was read and compared, and where it differs was written.
     Differs,
+    /// A worker of a run had no turn left before it was done. Nothing was written.
+    GaveUp {
+        /// The least number of such a worker.
+        worker: u32,
+        /// How many turns it had.
+        turns: u32,
+    },
+    /// A thread of a run could not be started. Nothing was written.
+    NoThread,
     /// The first fault of the text, or the first part of the device that is out of its limits. Nothing was written.
     Fault(Fault),
-    /// A read failed. Nothing was written.
-    NoInput,
+    /// More commands were to be drawn than a picture has. Nothing was written.
+    TooMany,
+    /// A word that is to count the commands to be drawn spells no number. Nothing was read, and nothing written.
+    NoCount,
+    /// The word that is to be explained spells no number that is. Nothing was written.
+    Unexplained {
+        /// The word.
+        word: String,
+    },
     /// Memory was refused outside of an event, or to a read. Nothing was written.
     NoMemory,
+    /// A read failed. Nothing was written.
+    NoInput,
     /// A write failed. What was written is a front of what was to be written, and not all of it.
     NoOutput,
 }
@@ -51,7 +69,9 @@ impl Ending {
         match self {
             Ending::Done => 0,
             Ending::Differs => 1,
+            Ending::GaveUp { .. } | Ending::NoThread => 1,
             Ending::Fault(_) => 2,
+            Ending::TooMany | Ending::NoCount | Ending::Unexplained { .. } => 2,
             Ending::NoMemory => 3,
             Ending::NoInput | Ending::NoOutput => 4,
         }
@@ -65,12 +85,26 @@ impl fmt::Display for Ending {
         match self {
             Ending::Done => write!(f, "done"),
             Ending::Differs => write!(f, "differs"),
+            Ending::GaveUp { worker, .. } => write!(f, "gave up {worker}"),
+            Ending::NoThread => write!(f, "no thread"),
             Ending::Fault(Fault::Text { line, column, what }) => {
                 write!(f, "line {line} column {column}: fault {}", what.number())
             }
             Ending::Fault(Fault::Device(BadSpec { part, index })) => {
                 write!(f, "refused 1 {part} {index}")
             }
+            Ending::TooMany => write!(
+                f,
+                "error: a picture has at most 5000 commands\n\nDraw a part with '--from N' and '--to M'. For more information, try '--help'."
+            ),
+            Ending::NoCount => write!(
+                f,
+                "error: '--from' and '--to' take a number of commands, 0 to 4294967295\n\nFor more information, try '--help'."
+            ),
+            Ending::Unexplained { word } => write!(
+                f,
+                "error: invalid value '{word}' for '[NUMBER]': no refusal and no fault has this number\n\nFor more information, try '--help'."
+            ),
             Ending::NoMemory => write!(f, "out of memory"),
             Ending::NoInput => write!(f, "input failed"),
             Ending::NoOutput => write!(f, "output failed"),

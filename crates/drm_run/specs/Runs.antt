@@ -11,12 +11,9 @@ use Rattle.drm_journal.specs.Journal.{JournalParts}
 use Rattle.drm_journal.specs.JournalText.{text_of_journal}
 use Rattle.drm_journal.specs.Leaving.{AreLeft, journal_told}
 use Rattle.drm_script.specs.Run.{judge_run}
-use Rattle.drm_stream.specs.Streams.{SinkState, SourceState}
 use Rattle.drm_stream.specs.Transfer.{AppendsFront}
-use Rattle.drm_engine.specs.Failures.{EndsBy, NoneFailed}
+use Rattle.drm_engine.specs.declared.ending.Ending.{Ending}
 use Rattle.drm_engine.specs.declared.ending.Ending.TheVariants as ending
-use Rattle.drm_run.specs.declared.ending.RunEnding.{RunEnding}
-use Rattle.drm_run.specs.declared.ending.RunEnding.TheVariants.{Ended, GaveUp, NoThread}
 
 -- the journal of what a device has left
 abbrev pub journal_of : Closed → JournalParts
@@ -34,19 +31,14 @@ abbrev pub Reports : ℕ → Option (List ℕ) → (JournalParts → Type 0) →
 Reports n input Hold =
     (script : RunScript) × IfSome input (λ text. judge_run text ≡ Ok script) × ((r : Report) × IsReport script.spec script.jobs n r × Hold (journal_of r.closed))
 
--- what each ending says of the input and of what the writer holds before and after: a worker gave up after so many turns
-abbrev pub Runs : ℕ → ℕ → Option (List ℕ) → Option (List ℕ) → Option (List ℕ) → RunEnding → Type 0
-Runs n turns input old new (Ended ending.Done) = Reports n input (λ journal. Appends old new (text_of_journal journal))
-Runs n turns input old new (Ended ending.Differs) = ⊥
-Runs n turns input old new (Ended (ending.Fault fault)) = IfSome input (λ text. judge_run text ≡ Err fault) × Keeps old new
-Runs n turns input old new (Ended ending.NoInput) = Keeps old new
-Runs n turns input old new (Ended ending.NoMemory) = Keeps old new
-Runs n turns input old new (Ended ending.NoOutput) = Reports n input (λ journal. AppendsFront old new (text_of_journal journal))
-Runs n turns input old new (GaveUp worker spent) = (spent ≡ turns) × Keeps old new
-Runs n turns input old new NoThread = Keeps old new
-
--- a run ended so by what became of its reads and writes: it is not given up where one failed
-abbrev pub RunEndsBy : SourceState → SourceState → SinkState → SinkState → RunEnding → Type 0
-RunEndsBy from to old new (Ended ending) = EndsBy from to old new ending
-RunEndsBy from to old new (GaveUp worker turns) = NoneFailed from to old new
-RunEndsBy from to old new NoThread = NoneFailed from to old new
+-- what each ending says of the input and of what the writer holds before and after: a worker gave up after so many turns, and
+-- a run has no other ending
+abbrev pub Runs : ℕ → ℕ → Option (List ℕ) → Option (List ℕ) → Option (List ℕ) → Ending → Type 0
+Runs n turns input old new ending.Done = Reports n input (λ journal. Appends old new (text_of_journal journal))
+Runs n turns input old new (ending.GaveUp worker spent) = (spent ≡ turns) × Keeps old new
+Runs n turns input old new ending.NoThread = Keeps old new
+Runs n turns input old new (ending.Fault fault) = IfSome input (λ text. judge_run text ≡ Err fault) × Keeps old new
+Runs n turns input old new ending.NoMemory = Keeps old new
+Runs n turns input old new ending.NoInput = Keeps old new
+Runs n turns input old new ending.NoOutput = Reports n input (λ journal. AppendsFront old new (text_of_journal journal))
+Runs n turns input old new other = ⊥

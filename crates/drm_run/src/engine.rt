@@ -1,9 +1,9 @@
 //! The engine.
 ghost use Rattle.std.specs.Prelude.{◌<◌, ◌≤◌};
 ghost use Rattle.drm_stream.specs.Transfer.{TakesAtMost};
-ghost use Rattle.drm_run.specs.Runs.{RunEndsBy, Runs};
+ghost use Rattle.drm_engine.specs.Failures.{EndsBy};
+ghost use Rattle.drm_run.specs.Runs.{Runs};
 
-use crate::ending::RunEnding;
 use crate::progress::Progress;
 use crate::telling::journal_text;
 use drm_engine::Ending;
@@ -58,17 +58,17 @@ pub fn run<H: Threads + Wait + Sync, R: Read, W: Write, P: Progress + Sync>(
     turns: u32,
     progress: &P,
     rt: &H,
-) -> RunEnding
+) -> Ending
     requires { (0 < submitters) × (submitters ≤ 16) }
     ensures ending { Runs submitters turns reader.old.remaining writer.old.contents writer.new.contents result }
     ensures most { TakesAtMost 1048577 reader.old reader.new }
-    ensures failures { RunEndsBy reader.old reader.new writer.old writer.new result }
+    ensures failures { EndsBy reader.old reader.new writer.old writer.new result }
 {
     jobs_run_in_their_device();
     serial_keeps_sizes();
     let RunScript { spec, jobs } = match read_run_from(alloc, reader) {
         Ok(script) => script,
-        Err(error) => return RunEnding::Ended(Ending::of_input(error)),
+        Err(error) => return Ending::of_input(error),
     };
     let clock = Readings {
         count: AtomicU64::new(0),
@@ -80,16 +80,16 @@ pub fn run<H: Threads + Wait + Sync, R: Read, W: Write, P: Progress + Sync>(
     };
     let report = match run_all(alloc, spec, jobs, submitters, turns, &clock, &gate, rt) {
         Ok(report) => report,
-        Err(RunFault::Spec(bad)) => return RunEnding::Ended(Ending::Fault(Fault::Device(bad))),
-        Err(RunFault::Memory) => return RunEnding::Ended(Ending::NoMemory),
-        Err(RunFault::NoThread) => return RunEnding::NoThread,
-        Err(RunFault::GaveUp { worker }) => return RunEnding::GaveUp { worker, turns },
+        Err(RunFault::Spec(bad)) => return Ending::Fault(Fault::Device(bad)),
+        Err(RunFault::Memory) => return Ending::NoMemory,
+        Err(RunFault::NoThread) => return Ending::NoThread,
+        Err(RunFault::GaveUp { worker }) => return Ending::GaveUp { worker, turns },
     };
     let Ok(text) = journal_text(alloc, report.closed) else {
-        return RunEnding::Ended(Ending::NoMemory);
+        return Ending::NoMemory;
     };
     match put_all(writer, &text) {
-        Ok(()) => RunEnding::Ended(Ending::Done),
-        Err(_) => RunEnding::Ended(Ending::NoOutput),
+        Ok(()) => Ending::Done,
+        Err(_) => Ending::NoOutput,
     }
 }

@@ -8,8 +8,9 @@ ghost use Rattle.drm_run.specs.Runs.{Runs};
 #[cfg(test)]
 mod runs;
 
+use drm_engine::Ending;
 use drm_engine_tests::{SlowReader, SlowWriter};
-use drm_run::{RunEnding, Silent, run};
+use drm_run::{Silent, run};
 use drm_stream::{Sink, Source};
 use std::alloc::Global;
 use std::sync::Wait;
@@ -23,7 +24,7 @@ pub fn run_on<H: Threads + Wait + Sync>(
     turns: u32,
     writer: SlowWriter,
     rt: &H,
-) -> (RunEnding, SlowWriter)
+) -> (Ending, SlowWriter)
     requires { (0 < submitters) × (submitters ≤ 16) }
     ensures { Runs submitters turns (Some text.now) (Some writer.taken.items) (Some result.1.taken.items) result.0 }
 {

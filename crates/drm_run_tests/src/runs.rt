@@ -4,7 +4,6 @@ ghost use Rattle.std.specs.Prelude.{◌<◌, ◌≤◌};
 use crate::run_on;
 use drm_engine::{Ending, Engine};
 use drm_engine_tests::SlowWriter;
-use drm_run::RunEnding;
 use std::alloc::Global;
 use std::process::Abort;
 use std::sync::Wait;
@@ -42,7 +41,7 @@ const AFTER: &[u8] =
 fn tells<R: Threads + Wait + Abort + Sync>(text: &[u8], told: &[u8], rt: &R, alloc: Global) {
     let out = SlowWriter::new(alloc, 7, None);
     let (ending, out) = run_on(alloc, text, 1, TURNS, out, rt);
-    assert!(rt; matches!(ending, RunEnding::Ended(Ending::Done)));
+    assert!(rt; matches!(ending, Ending::Done));
     assert!(rt; out.taken.as_slice() == told);
 }
 
@@ -107,7 +106,7 @@ fn is_same<R: Threads + Wait + Abort + Sync>(submitters: u32, rt: &R, alloc: Glo
 {
     let journal = SlowWriter::new(alloc, 100, None);
     let (ending, journal) = run_on(alloc, MANY, submitters, TURNS, journal, rt);
-    assert!(rt; matches!(ending, RunEnding::Ended(Ending::Done)));
+    assert!(rt; matches!(ending, Ending::Done));
     let out = SlowWriter::new(alloc, 100, None);
     let (checked, out) = drm_engine_tests::run_on(alloc, Engine::Check, &journal.taken, out);
     assert!(rt; matches!(checked, Ending::Done));
@@ -128,17 +127,7 @@ fn journals_are_the_same_as_one_job_after_another(rt: HostRuntime) -> Result<(),
 fn a_write_that_fails_is_told(rt: HostRuntime) -> Result<(), Fail> {
     let out = SlowWriter::new(rt.alloc(), 7, Some(21));
     let (ending, out) = run_on(rt.alloc(), ONE, 1, TURNS, out, &rt);
-    assert!(rt; matches!(ending, RunEnding::Ended(Ending::NoOutput)));
+    assert!(rt; matches!(ending, Ending::NoOutput));
     assert!(rt; out.taken.as_slice() == &ONE_TOLD[..21]);
-    Ok(())
-}
-
-#[test]
-fn endings_of_runs(rt: HostRuntime) -> Result<(), Fail> {
-    let ending = RunEnding::NoThread;
-    assert_eq!(rt; ending.status(), 1);
-    assert!(rt; !ending.is_told());
-    assert_eq!(rt; ending.to_string(rt.alloc())?.as_str(), "no thread");
-    assert!(rt; RunEnding::Ended(Ending::Done).is_told());
     Ok(())
 }

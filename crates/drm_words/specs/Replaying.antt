@@ -18,20 +18,18 @@ IsWorded script Hold = (answers : List Answer) × AreAnswers script answers × H
 abbrev pub AnswersInWords : Option (List ℕ) → (List ℕ → Type 0) → Type 0
 AnswersInWords input Hold = (script : Script) × IfSome input (λ text. judge_script text ≡ Ok script) × IsWorded script Hold
 
--- what each ending says of the input and of what the writer holds before and after
+-- what each ending says of the input and of what the writer holds before and after: it has no other
 abbrev pub ReplaysWithWords : Option (List ℕ) → Option (List ℕ) → Option (List ℕ) → Ending → Type 0
 ReplaysWithWords input old new ending.Done = AnswersInWords input (λ told. Appends old new told)
-ReplaysWithWords input old new ending.Differs = ⊥
 ReplaysWithWords input old new (ending.Fault fault) = IfSome input (λ text. judge_script text ≡ Err fault) × Keeps old new
 ReplaysWithWords input old new ending.NoInput = Keeps old new
 ReplaysWithWords input old new ending.NoMemory = Keeps old new
 ReplaysWithWords input old new ending.NoOutput = AnswersInWords input (λ told. AppendsFront old new told)
+ReplaysWithWords input old new other = ⊥
 
 -- what each ending says of a script that was read, and of what the writer holds before and after
 abbrev pub PlaysWithWords : Script → Option (List ℕ) → Option (List ℕ) → Ending → Type 0
 PlaysWithWords script old new ending.Done = IsWorded script (λ told. Appends old new told)
-PlaysWithWords script old new ending.Differs = ⊥
-PlaysWithWords script old new (ending.Fault fault) = ⊥
-PlaysWithWords script old new ending.NoInput = ⊥
 PlaysWithWords script old new ending.NoMemory = Keeps old new
 PlaysWithWords script old new ending.NoOutput = IsWorded script (λ told. AppendsFront old new told)
+PlaysWithWords script old new other = ⊥

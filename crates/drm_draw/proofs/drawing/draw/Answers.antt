@@ -1,5 +1,11 @@
+use Rattle.drm_draw.proofs.Drawn.{draws_spelled}
 use Rattle.drm_engine.proofs.Failures.{input_fails}
 use Rattle.drm_draw.proofs.drawing.draw.Goals as goal
+
+pub returns-in-Ok-clause-ending : goal.returns-in-Ok-clause-ending
+returns-in-Ok-clause-ending g c =
+    draws_spelled c.in-Ok.script c.args.from c.args.to c.args.reader.now.remaining c.args.writer.now.contents c.draw_script.new.writer.contents c.draw_script.result c.in-Ok.ensures.value
+    c.draw_script.ensures.ending
 
 pub returns-in-Ok-clause-most : goal.returns-in-Ok-clause-most
 returns-in-Ok-clause-most g c = c.read_script_from.ensures.most
