@@ -1,20 +1,16 @@
 -- How rows are told.
-use Rattle.std.specs.Prelude.{◌≡◌, ℕ, List, ◌++◌, codes, flat_map, map}
-use Rattle.drm_explain.specs.declared.explanation.Explanation.{Explanation}
+use Rattle.std.specs.Prelude.{List, ℕ, ◌++◌, codes}
+use Rattle.drm_explain.specs.Rows.{Row}
 
 -- a row in one line
-abbrev pub line_of : Explanation → List ℕ
-line_of row = row.form.now ++ codes ": " ++ row.meaning.now ++ codes "\n"
+abbrev pub line_of : Row → List ℕ
+line_of row = row.form ++ codes ": " ++ row.meaning ++ codes "\n"
 
 -- a row in lines
-abbrev pub text_of : Explanation → List ℕ
+abbrev pub text_of : Row → List ℕ
 text_of row =
-    row.form.now ++ codes "\n"
-    ++ codes "How you got here: " ++ row.meaning.now ++ codes "\n"
-    ++ codes "What to do: " ++ row.remedy.now ++ codes "\n"
-    ++ codes "In the kernel: " ++ row.kernel.now ++ codes "\n"
-    ++ row.details.now
-
--- the text has one line for each of these numbers, that of a row with the number
-abbrev pub IsList : List ℕ → List ℕ → Type 0
-IsList listed text = (rows : List Explanation) × (map (λ row. row.number) rows ≡ listed) × (text ≡ flat_map line_of rows)
+    row.form ++ codes "\n"
+    ++ codes "How you got here: " ++ row.meaning ++ codes "\n"
+    ++ codes "What to do: " ++ row.remedy ++ codes "\n"
+    ++ codes "In the kernel: " ++ row.kernel ++ codes "\n"
+    ++ row.details

@@ -1,57 +1,73 @@
-//! A row of the table, and how it is found.
+//! How a row of the table is found.
 
-ghost use Rattle.std.specs.Prelude.{◌≡◌, find, is_some, IfSome};
+ghost use Rattle.std.specs.Prelude.{◌≡◌, ◌==◌, find, is_some, map, option_map};
 ghost use Rattle.std.specs.Fmt.{decimal};
 ghost use Rattle.std.specs.Str.{bytes_eq};
 ghost use Rattle.drm_explain.specs.Numbers.{is_in, numbers};
+ghost use Rattle.drm_explain.specs.Rows.{row_of, row_spelled, sentence_at, sentence_in, told};
 
-use crate::table::{of_contexts, of_devices, of_jobs, of_packets, of_rings, of_runs, of_texts};
+use crate::table::{ROWS, Row};
 
-/// What a number means.
-#[derive(Clone, Copy)]
-pub struct Explanation {
-    /// The number of a refusal or of a fault.
-    pub number: u32,
-    /// How the number is written where it is met, with the letters of its fields.
-    pub form: &'static str,
-    /// How one gets there.
-    pub meaning: &'static str,
-    /// What to do.
-    pub remedy: &'static str,
-    /// The kernel's error or call that it stands for.
-    pub kernel: &'static str,
-    /// Further lines, each with its line end: the parts of a device that is refused, the column of a fault.
-    pub details: &'static str,
+// The row of a number in a table.
+fn numbered(mut table: &[Row], number: u32) -> Option<Row>
+    ensures { option_map told result ≡ find (λ row. row.number == number) (map told table.entry.now) }
+{
+    while let [row, rest @ ..] = table {
+        if row.0 == number {
+            return Some(*row);
+        }
+        table = rest;
+    }
+    None
 }
 
-/// The numbers that are explained, in ascending order.
-pub static NUMBERS: [u32; 45] = [
-    1, 10, 11, 12, 13, 14, 15, 16, 17, 18, 19, 20, 21, 30, 31, 35, 40, 41, 42, 43, 44, 45, 46, 47,
-    50, 51, 52, 53, 54, 55, 56, 57, 60, 61, 62, 63, 70, 71, 72, 73, 74, 75, 76, 77, 114,
-];
+// The row of the number that a word spells, in a table.
+fn spelled(mut table: &[Row], word: &str) -> Option<Row>
+    ensures { option_map told result ≡ find (λ row. bytes_eq (decimal row.number) word.now) (map told table.entry.now) }
+{
+    while let [row, rest @ ..] = table {
+        if itoa::Buffer::new().format(row.0) == word {
+            return Some(*row);
+        }
+        table = rest;
+    }
+    None
+}
 
 /// The row of a number.
-pub fn explain(number: u32) -> Option<Explanation>
-    ensures number { IfSome result (λ row. row.number ≡ number) }
+#[tactic(auto, using(crate::proofs::Rows::row_known), unfolding(crate::specs::Rows::row_of, crate::specs::Rows::rows))]
+pub fn explain(number: u32) -> Option<Row>
+    ensures row { option_map told result ≡ row_of number }
     ensures known { is_some result ≡ is_in numbers number }
 {
-    match number {
-        0..=15 => of_jobs(number),
-        16..=29 => of_packets(number),
-        30..=39 => of_devices(number),
-        40..=49 => of_rings(number),
-        50..=59 => of_contexts(number),
-        70..=79 => of_texts(number),
-        _ => of_runs(number),
+    numbered(&ROWS, number)
+}
+
+/// The row of the number that a word spells in decimal digits, with no sign and no leading zero.
+#[tactic(auto, unfolding(crate::specs::Rows::row_spelled, crate::specs::Rows::rows))]
+pub fn explain_word(word: &str) -> Option<Row>
+    ensures { option_map told result ≡ row_spelled word.now }
+{
+    spelled(&ROWS, word)
+}
+
+// The sentence at this place of some, or nothing.
+fn sentence_of(sentences: &'static [&'static str], place: usize) -> &'static str
+    ensures { result.now ≡ sentence_in (map (λ s. s.now) sentences.entry.now) place }
+{
+    match sentences.get(place) {
+        Some(sentence) => sentence,
+        None => "",
     }
 }
 
-/// The number that a word spells in decimal digits, with no sign and no leading zero, if it is explained.
-pub fn number_of_word(word: &str) -> Option<u32>
-    ensures { result ≡ find (λ number. bytes_eq (decimal number) word.now) numbers }
+/// What is said of an answer with this number, in one of its cases, with `%` in place of each number.
+#[tactic(auto, unfolding(crate::specs::Rows::sentence_at))]
+pub fn sentence(number: u32, place: usize) -> &'static str
+    ensures { result.now ≡ sentence_at number place }
 {
-    NUMBERS
-        .iter()
-        .copied()
-        .find(|number| itoa::Buffer::new().format(*number) == word)
+    match explain(number) {
+        Some(row) => sentence_of(row.2, place),
+        None => "",
+    }
 }

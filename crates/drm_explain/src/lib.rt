@@ -1,8 +1,9 @@
 //! What each number means that the engines answer: the refusals of events and of library calls, and the faults of texts.
 //!
-//! The table (`table`) has a row for each: how one gets there, what to do, and the kernel's error or call that it models.
-//! `explain` finds the row of a number, and answers `None` exactly for a number that `specs/Numbers` does not list. The
-//! documents tell the same words in their tables, and a test compares them.
+//! The table (`table`) has a row for each: how it is written, what is said of an answer with it, how one gets there, what to
+//! do, and the kernel's error or call that it models. Nothing else spells these words: `tell_word` writes rows, and `sentence`
+//! is what `drm_words` says of a refusal. `explain` finds the row of a number, and answers `None` exactly for a number that
+//! `specs/Numbers` does not list. The documents tell the same words in their tables, and a test compares them.
 #![tactic(auto)]
 
 mod explanation;
@@ -10,6 +11,7 @@ mod table;
 mod telling;
 mod text;
 
-pub use explanation::{Explanation, NUMBERS, explain, number_of_word};
-pub use telling::{Telling, tell_word};
-pub use text::list_text;
+pub use explanation::{explain, explain_word, sentence};
+pub use table::Row;
+pub use telling::tell_word;
+pub use text::{list_text, row_text};

@@ -1,10 +1,11 @@
 //! How rows are told.
 
-ghost use Rattle.std.specs.Prelude.{◌≡◌, ◌++◌, codes, IfOk, OnOk};
+ghost use Rattle.std.specs.Prelude.{◌≡◌, ◌++◌, codes, flat_map, map, IfOk, OnOk};
 ghost use Rattle.drm_explain.specs.Numbers.{numbers};
-ghost use Rattle.drm_explain.specs.Texts.{IsList, line_of, text_of};
+ghost use Rattle.drm_explain.specs.Rows.{rows, told};
+ghost use Rattle.drm_explain.specs.Texts.{line_of, text_of};
 
-use crate::explanation::{Explanation, NUMBERS, explain};
+use crate::table::{ROWS, Row};
 use std::alloc::{AllocError, Global};
 
 // Puts a title, a text and a line end behind a text.
@@ -16,39 +17,45 @@ fn put_line(text: &mut Vec<u8>, title: &str, line: &str) -> Result<(), AllocErro
     text.extend_from_slice(b"\n")
 }
 
-impl Explanation {
-    /// The lines that tell the row: its form, how one gets there, what to do, the kernel's answer, and the details.
-    pub fn to_text(&self, alloc: Global) -> Result<Vec<u8>, AllocError>
-        ensures { IfOk result (λ text. text.items ≡ text_of self.now) }
-    {
-        let mut text = Vec::new(alloc);
-        put_line(&mut text, "", self.form)?;
-        put_line(&mut text, "How you got here: ", self.meaning)?;
-        put_line(&mut text, "What to do: ", self.remedy)?;
-        put_line(&mut text, "In the kernel: ", self.kernel)?;
-        text.extend_from_slice(self.details.as_bytes())?;
-        Ok(text)
-    }
+/// The lines that tell a row: its form, how one gets there, what to do, the kernel's answer, and the details.
+pub fn row_text(alloc: Global, row: &Row) -> Result<Vec<u8>, AllocError>
+    ensures { IfOk result (λ text. text.items ≡ text_of (told row.now)) }
+{
+    let (_, form, _, meaning, remedy, kernel, details) = *row;
+    let mut text = Vec::new(alloc);
+    put_line(&mut text, "", form)?;
+    put_line(&mut text, "How you got here: ", meaning)?;
+    put_line(&mut text, "What to do: ", remedy)?;
+    put_line(&mut text, "In the kernel: ", kernel)?;
+    text.extend_from_slice(details.as_bytes())?;
+    Ok(text)
 }
 
 // Puts the row in one line behind a text.
-fn put_row(text: &mut Vec<u8>, row: &Explanation) -> Result<(), AllocError>
-    ensures { OnOk result (text.new.items ≡ text.old.items ++ line_of row.now) }
+fn put_row(text: &mut Vec<u8>, row: &Row) -> Result<(), AllocError>
+    ensures { OnOk result (text.new.items ≡ text.old.items ++ line_of (told row.now)) }
 {
-    text.extend_from_slice(row.form.as_bytes())?;
-    put_line(text, ": ", row.meaning)
+    let (_, form, _, meaning, _, _, _) = *row;
+    text.extend_from_slice(form.as_bytes())?;
+    put_line(text, ": ", meaning)
+}
+
+// One line for each row of a table.
+fn list_of(alloc: Global, table: &[Row]) -> Result<Vec<u8>, AllocError>
+    ensures { IfOk result (λ text. text.items ≡ flat_map line_of (map told table.entry.now)) }
+{
+    let mut text = Vec::new(alloc);
+    for row in table {
+        put_row(&mut text, row)?;
+    }
+    Ok(text)
 }
 
 /// One line for each number in ascending order: its form, and how one gets there.
+#[tactic(auto, unfolding(crate::specs::Rows::rows))]
 pub fn list_text(alloc: Global) -> Result<Vec<u8>, AllocError>
-    ensures { IfOk result (λ text. IsList numbers text.items) }
+    ensures text { IfOk result (λ text. text.items ≡ flat_map line_of rows) }
+    ensures numbers { map (λ row. row.number) rows ≡ numbers }
 {
-    let mut text = Vec::new(alloc);
-    for number in &NUMBERS {
-        match explain(*number) {
-            Some(row) => put_row(&mut text, &row)?,
-            None => unreachable!(),
-        }
-    }
-    Ok(text)
+    list_of(alloc, &ROWS)
 }
