@@ -1,50 +1,70 @@
--- What is left where memory was refused.
+-- What is left where memory was refused, and what is asked of a request.
 use Rattle.std.proofs.Common.{◌≡◌, ◌⊎◌, inl, inr, ℕ, List, [], ◌∷◌, Option, Some, None, refl}
 use Rattle.std.specs.Io.KnownBytes.{Keeps}
 use Rattle.clap.specs.Words.{IsAmong, Kinds, Text}
 use Rattle.clap.specs.declared.error.kind.ErrorKind.{ErrorKind}
 use Rattle.clap.specs.declared.error.kind.ErrorKind.TheVariants.{OutOfMemory}
-use Rattle.drm_draw.specs.declared.drawing.Drawing.TheVariants.{Ended}
+use Rattle.drm_stream.specs.Streams.{NoWriteFailed, SinkState, SourceState}
 use Rattle.drm_engine.specs.Engines.{Runs}
+use Rattle.drm_engine.specs.Failures.{EndsBy, TellsWrites}
 use Rattle.drm_engine.specs.declared.engine.Engine.{Engine}
 use Rattle.drm_engine.specs.declared.engine.Engine.TheVariants as engine
-use Rattle.drm_engine.specs.declared.ending.Ending.TheVariants.{NoMemory}
+use Rattle.drm_engine.specs.declared.ending.Ending.{Ending}
+use Rattle.drm_engine.specs.declared.ending.Ending.TheVariants as ending
+use Rattle.drm_explain.specs.Telling.{Tells}
 use Rattle.drm_command_line.specs.CommandLine.{IsAsked}
 use Rattle.drm_command_line.specs.declared.command_line.Request.{Request}
-use Rattle.drm_command_line.specs.declared.command_line.Request.TheVariants.{Draw, Explain, ReplayWithWords, Run, Work}
-use Rattle.drm_explain.specs.declared.telling.Telling.TheVariants as telling
-use Rattle.drm_run.specs.declared.ending.RunEnding.TheVariants as run_ending
-use Rattle.drm_stream.specs.Streams.{SinkState, SourceState}
-use Rattle.drmsim.specs.Statuses.{DrawnFrom, IsObeyed}
+use Rattle.drm_command_line.specs.declared.command_line.Request.TheVariants as request
+use Rattle.drmsim.specs.Statuses.{Does, DrawsBetween, EndsAs, MayHappen, number_of_word}
 
 pub untouched : (bytes : Option (List ℕ)) → Keeps bytes bytes
 untouched None = tt
 untouched (Some bytes) = refl
 
 -- a run for which memory was refused leaves what the writer holds
-pub runs_without_memory : (engine : Engine) (input bytes : Option (List ℕ)) → Runs engine input bytes bytes NoMemory
+runs_without_memory : (engine : Engine) (input bytes : Option (List ℕ)) → Runs engine input bytes bytes ending.NoMemory
 runs_without_memory engine.Replay input bytes = untouched bytes
 runs_without_memory engine.Serial input bytes = untouched bytes
 runs_without_memory engine.Check input bytes = untouched bytes
 
--- a drawing for which memory was refused leaves what the writer holds
-pub drawn_without_memory : (from to : Option ℕ) (source : SourceState) (sink : SinkState) (status : ℕ) → status ≡ 3 → DrawnFrom from to source source sink sink status
-drawn_without_memory (Some from) (Some to) source sink status is = (Ended NoMemory, untouched sink.contents, (refl, refl), is)
-drawn_without_memory (Some from) None source sink status is = (refl, refl, inr is)
-drawn_without_memory None to source sink status is = (refl, refl, inr is)
+-- so does a drawing
+drawn_without_memory : (from to : Option ℕ) (source : SourceState) (sink : SinkState) → DrawsBetween from to source source sink sink ending.NoMemory
+drawn_without_memory (Some from) (Some to) source sink = untouched sink.contents
+drawn_without_memory (Some from) None source sink = (refl, refl)
+drawn_without_memory None to source sink = (refl, refl)
 
--- so does whatever is asked for
-pub obeyed_without_memory : (words : List Text) (request : Request) (source : SourceState) (sink : SinkState) (status : ℕ) → IsAsked words request → status ≡ 3
-    → IsObeyed words source source sink sink status
-obeyed_without_memory words (Run engine) source sink status asked is =
-    inl (engine, asked, (NoMemory, runs_without_memory engine source.remaining sink.contents, (refl, refl), is))
-obeyed_without_memory words (Work submitters turns) source sink status asked is =
-    inr (inl (submitters, turns, asked, (run_ending.Ended NoMemory, untouched sink.contents, (refl, refl), is)))
-obeyed_without_memory words (Explain word) source sink status asked is =
-    inr (inr (inl (asked.0, refl, (telling.NoMemory, untouched sink.contents, refl, is))))
-obeyed_without_memory words (Draw from to) source sink status asked is = inr (inr (inr (inl (asked.0, drawn_without_memory _ _ source sink status is))))
-obeyed_without_memory words ReplayWithWords source sink status asked is =
-    inr (inr (inr (inr (asked, (NoMemory, untouched sink.contents, (refl, refl), is)))))
+-- and whatever is asked for
+done_without_memory : (asked : Request) (source : SourceState) (sink : SinkState) → Does asked source source sink sink ending.NoMemory
+done_without_memory (request.Run engine) source sink = runs_without_memory engine source.remaining sink.contents
+done_without_memory request.ReplayWithWords source sink = untouched sink.contents
+done_without_memory (request.Work submitters turns) source sink = untouched sink.contents
+done_without_memory (request.Explain word) source sink = (refl, untouched sink.contents)
+done_without_memory (request.Draw from to) source sink = drawn_without_memory _ _ source sink
+
+pub ends_without_memory : (asked : Request) (source : SourceState) (sink : SinkState) (status : ℕ) → status ≡ 3 → EndsAs asked source source sink sink status
+ends_without_memory asked source sink status is = (ending.NoMemory, done_without_memory asked source sink, (refl, refl), is)
+
+-- an explanation reads nothing, so no read of it fails
+pub told_unread : (word : Option Text) (source : SourceState) (old new : SinkState) (ended : Ending) → Tells word old.contents new.contents ended → TellsWrites old new ended → EndsBy source source old new ended
+told_unread word source old new ending.Done tells wrote = ((refl, refl), wrote)
+told_unread word source old new ending.Differs never wrote = absurd never
+told_unread word source old new (ending.GaveUp worker turns) never wrote = absurd never
+told_unread word source old new ending.NoThread never wrote = absurd never
+told_unread word source old new (ending.Fault fault) never wrote = absurd never
+told_unread word source old new ending.TooMany never wrote = absurd never
+told_unread word source old new ending.NoCount never wrote = absurd never
+told_unread word source old new (ending.Unexplained said) tells wrote = ((refl, refl), wrote)
+told_unread word source old new ending.NoMemory tells wrote = (refl, wrote)
+told_unread word source old new ending.NoInput never wrote = absurd never
+told_unread word source old new ending.NoOutput tells wrote = ((refl, refl), wrote)
+
+-- what is asked for may happen
+pub may_happen : (words : List Text) (asked : Request) → IsAsked words asked → MayHappen asked
+may_happen words (request.Run engine) is = tt
+may_happen words request.ReplayWithWords is = tt
+may_happen words (request.Work submitters turns) is = is.1.0.1
+may_happen words (request.Explain word) is = tt
+may_happen words (request.Draw from to) is = tt
 
 -- of words without a fault only want of memory is an error
 pub memory_alone : (kinds : Kinds) (found : ErrorKind) → kinds ≡ [] → (found ≡ OutOfMemory) ⊎ IsAmong found kinds → found ≡ OutOfMemory

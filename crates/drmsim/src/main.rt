@@ -13,35 +13,31 @@ ghost use Rattle.std.specs.Process.{exit_status};
 ghost use Rattle.std.specs.String.{string_bytes};
 ghost use Rattle.clap.specs.Words.{fault_of, kind_of};
 ghost use Rattle.drm_command_line.specs.CommandLine.{IsCommandLineForWords, IsCommandLineOf, program_app};
-ghost use Rattle.drm_draw.specs.Drawing.{status_of_drawing};
+ghost use Rattle.drm_command_line.specs.declared.command_line.Request.TheVariants.{ReplayWithWords, Run};
 ghost use Rattle.drm_engine.specs.Endings.{status_of};
-ghost use Rattle.drm_run.specs.Endings.{status_of as status_of_run};
+ghost use Rattle.drm_engine.specs.Failures.{EndsBy};
 ghost use Rattle.drm_engine.specs.declared.engine.Engine.{Engine as EngineOf};
-ghost use Rattle.drmsim.specs.Statuses.{DrawnAs, EndsAs, EndsInWords, IsObeyed, IsRefusal, ToldAs, WorksAs, number_of_word, status_of_error, status_of_telling};
+ghost use Rattle.drm_run.specs.Runs.{Runs};
+ghost use Rattle.drmsim.specs.Statuses.{Does, DrawsBetween, EndsAs, IsObeyed, IsRefusal, MayHappen, number_of_word, status_of_error};
 
 mod progress;
 
 use clap::error::ErrorKind as WordsError;
 use drm_command_line::{Request, read_words};
-use drm_draw::{Drawing, draw};
+use drm_draw::draw;
 use drm_engine::Ending;
-use drm_explain::{Telling, tell_word};
-use drm_run::{RunEnding, run};
+use drm_explain::tell_word;
+use drm_run::run;
 use drm_stream::{Sink, Source};
 use drm_text::read_number;
 use drm_words::replay_with_words;
 use progress::ProgressLine;
+use std::alloc::Global;
 use std::env;
 use std::io::{self, ErrorKind, Read, Write};
 use std::process::ExitCode;
 use std::sync::Wait;
 use std::thread::Threads;
-
-/// The exit status where a number is asked for that is none: the command line is refused.
-const UNKNOWN_NUMBER: u8 = 2;
-
-/// The exit status where what a command is given asks for what it does not do.
-const REFUSED_WORDS: u8 = 2;
 
 /// The words of the command line, the program's name first.
 fn words(rt: &HostRuntime) -> io::Result<Vec<String>> {
@@ -49,20 +45,13 @@ fn words(rt: &HostRuntime) -> io::Result<Vec<String>> {
 }
 
 /// Tells the ending on standard error, unless standard output has; nothing is left to do where that can't be written.
-fn tell(rt: &HostRuntime, ending: &RunEnding) -> ExitCode
-    ensures { exit_status result ≡ status_of_run ending.now }
+fn tell(rt: &HostRuntime, ending: Ending) -> ExitCode
+    ensures { exit_status result ≡ status_of ending }
 {
     if !ending.is_told() {
         eprintln!(rt; "{ending}").ok();
     }
     ExitCode::from(ending.status())
-}
-
-/// Tells the ending of what needs no threads.
-fn tell_ended(rt: &HostRuntime, ending: Ending) -> ExitCode
-    ensures { exit_status result ≡ status_of ending }
-{
-    tell(rt, &RunEnding::Ended(ending))
 }
 
 /// Tells that the words of the command line could not be had.
@@ -71,7 +60,7 @@ fn tell_unread(rt: &HostRuntime, error: &io::Error) -> ExitCode
     ensures other { error_kind error.now ≢ ErrorKind.OutOfMemory → exit_status result ≡ 2 }
 {
     if error.kind() == ErrorKind::OutOfMemory {
-        return tell_ended(rt, Ending::NoMemory);
+        return tell(rt, Ending::NoMemory);
     }
     eprintln!(rt; "the command line: {error}").ok();
     ExitCode::from(2)
@@ -82,53 +71,13 @@ fn explain(rt: &HostRuntime, error: &clap::Error) -> ExitCode
     ensures { (is_printed : Bool) × (exit_status result ≡ status_of_error (kind_of error.now) is_printed) }
 {
     if error.kind() == WordsError::OutOfMemory {
-        return tell_ended(rt, Ending::NoMemory);
+        return tell(rt, Ending::NoMemory);
     }
     let printed = error.print(rt);
     if printed.is_err() && !error.use_stderr() {
-        return tell_ended(rt, Ending::NoOutput);
+        return tell(rt, Ending::NoOutput);
     }
     ExitCode::from(error.exit_code() as u8)
-}
-
-/// Tells on standard error why nothing was explained, or that the explanation could not be written.
-fn tell_telling(rt: &HostRuntime, how: Telling, word: &str) -> ExitCode
-    ensures { exit_status result ≡ status_of_telling how }
-{
-    match how {
-        Telling::Told => tell_ended(rt, Ending::Done),
-        Telling::NoMemory => tell_ended(rt, Ending::NoMemory),
-        Telling::NoOutput => tell_ended(rt, Ending::NoOutput),
-        Telling::Unknown => {
-            eprintln!(rt;
-                "error: invalid value '{word}' for '[NUMBER]': no refusal and no fault has this number\n\nFor more information, try '--help'."
-            ).ok();
-            ExitCode::from(UNKNOWN_NUMBER)
-        }
-    }
-}
-
-/// Explains the number that the word spells, or lists all numbers.
-fn explain_number<W: Write>(rt: &HostRuntime, word: Option<&str>, writer: &mut Sink<W>) -> ExitCode
-    ensures { ToldAs (option_map (λ w. w.now) word.entry) writer.old writer.new (exit_status result) }
-{
-    let how = tell_word(rt.alloc(), word, writer);
-    tell_telling(rt, how, word.unwrap_or(""))
-}
-
-/// Tells the ending of a drawing; of one that is too long, which options help.
-fn tell_drawing(rt: &HostRuntime, ending: Drawing) -> ExitCode
-    ensures { exit_status result ≡ status_of_drawing ending }
-{
-    match ending {
-        Drawing::Ended(ending) => tell_ended(rt, ending),
-        Drawing::TooMany => {
-            eprintln!(rt;
-                "error: a picture has at most 5000 commands\n\nDraw a part with '--from N' and '--to M'. For more information, try '--help'."
-            ).ok();
-            ExitCode::from(REFUSED_WORDS)
-        }
-    }
 }
 
 /// The number that a word spells, or another where there is no word.
@@ -144,25 +93,19 @@ fn number_or(other: u32, word: Option<&str>) -> Option<u64>
 
 /// Draws the part of a run between the numbers that two words spell.
 fn draw_part<R: Read, W: Write>(
-    rt: &HostRuntime,
+    alloc: Global,
     from: Option<&str>,
     to: Option<&str>,
     reader: &mut Source<R>,
     writer: &mut Sink<W>,
-) -> ExitCode
-    ensures { DrawnAs (option_map (λ w. w.now) from.entry) (option_map (λ w. w.now) to.entry) reader.old reader.new writer.old writer.new (exit_status result) }
+) -> Ending
+    ensures ending { DrawsBetween (number_of_word 0 (option_map (λ w. w.now) from.entry)) (number_of_word 4294967295 (option_map (λ w. w.now) to.entry))
+        reader.old reader.new writer.old writer.new result }
+    ensures failures { EndsBy reader.old reader.new writer.old writer.new result }
 {
     match (number_or(0, from), number_or(u32::MAX, to)) {
-        (Some(from), Some(to)) => {
-            let ending = draw(rt.alloc(), from as u32, to as u32, reader, writer);
-            tell_drawing(rt, ending)
-        }
-        _ => {
-            eprintln!(rt;
-                "error: '--from' and '--to' take a number of commands, 0 to 4294967295\n\nFor more information, try '--help'."
-            ).ok();
-            ExitCode::from(REFUSED_WORDS)
-        }
+        (Some(from), Some(to)) => draw(alloc, from as u32, to as u32, reader, writer),
+        _ => Ending::NoCount,
     }
 }
 
@@ -174,9 +117,10 @@ fn work<H: Threads + Wait + Sync, R: Read, W: Write>(
     turns: u32,
     reader: &mut Source<R>,
     writer: &mut Sink<W>,
-) -> ExitCode
+) -> Ending
     requires { (0 < submitters) × (submitters ≤ 16) }
-    ensures { WorksAs submitters turns reader.old reader.new writer.old writer.new (exit_status result) }
+    ensures ending { Runs submitters turns reader.old.remaining writer.old.contents writer.new.contents result }
+    ensures failures { EndsBy reader.old reader.new writer.old writer.new result }
 {
     let line = ProgressLine::new(rt);
     let ending = run(
@@ -189,10 +133,33 @@ fn work<H: Threads + Wait + Sync, R: Read, W: Write>(
         threads,
     );
     line.clear();
-    tell(rt, &ending)
+    ending
 }
 
-/// Does what the words ask for, between the reader and the writer; `threads` is what may start them.
+/// Does what is asked for, between the reader and the writer; `threads` is what may start them.
+fn fulfil<H: Threads + Wait + Sync, R: Read, W: Write>(
+    rt: &HostRuntime,
+    threads: &H,
+    request: Request,
+    reader: &mut Source<R>,
+    writer: &mut Sink<W>,
+) -> Ending
+    requires { MayHappen request }
+    ensures ending { Does request.entry reader.old reader.new writer.old writer.new result }
+    ensures failures { EndsBy reader.old reader.new writer.old writer.new result }
+{
+    match request {
+        Request::Run(engine) => engine.run(rt.alloc(), reader, writer),
+        Request::ReplayWithWords => replay_with_words(rt.alloc(), reader, writer),
+        Request::Work { submitters, turns } => {
+            work(rt, threads, submitters, turns, reader, writer)
+        }
+        Request::Explain(word) => tell_word(rt.alloc(), word, writer),
+        Request::Draw { from, to } => draw_part(rt.alloc(), from, to, reader, writer),
+    }
+}
+
+/// Does what the words ask for, and tells how it ended.
 fn obey<H: Threads + Wait + Sync, R: Read, W: Write>(
     rt: &HostRuntime,
     threads: &H,
@@ -201,9 +168,9 @@ fn obey<H: Threads + Wait + Sync, R: Read, W: Write>(
     writer: &mut Sink<W>,
 ) -> ExitCode
     ensures commands { (engine : EngineOf) → IsCommandLineOf engine (map string_bytes words.now)
-        → EndsAs engine reader.old reader.new writer.old writer.new (exit_status result) }
+        → EndsAs (Run engine) reader.old reader.new writer.old writer.new (exit_status result) }
     ensures worded { IsCommandLineForWords (map string_bytes words.now)
-        → EndsInWords reader.old reader.new writer.old writer.new (exit_status result) }
+        → EndsAs ReplayWithWords reader.old reader.new writer.old writer.new (exit_status result) }
     ensures accepted { fault_of program_app (map string_bytes words.now) ≡ []
         → IsObeyed (map string_bytes words.now) reader.old reader.new writer.old writer.new (exit_status result) }
     ensures unread { fault_of program_app (map string_bytes words.now) ≢ []
@@ -214,15 +181,10 @@ fn obey<H: Threads + Wait + Sync, R: Read, W: Write>(
         → IsRefusal (fault_of program_app (map string_bytes words.now)) (exit_status result) }
 {
     match read_words(rt.alloc(), words) {
-        Ok(Request::Run(engine)) => tell_ended(rt, engine.run(rt.alloc(), reader, writer)),
-        Ok(Request::ReplayWithWords) => {
-            tell_ended(rt, replay_with_words(rt.alloc(), reader, writer))
+        Ok(request) => {
+            let ending = fulfil(rt, threads, request, reader, writer);
+            tell(rt, ending)
         }
-        Ok(Request::Work { submitters, turns }) => {
-            work(rt, threads, submitters, turns, reader, writer)
-        }
-        Ok(Request::Explain(word)) => explain_number(rt, word, writer),
-        Ok(Request::Draw { from, to }) => draw_part(rt, from, to, reader, writer),
         Err(error) => explain(rt, &error),
     }
 }
