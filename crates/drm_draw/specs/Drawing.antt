@@ -1,5 +1,5 @@
 -- Pictures of runs: what is written is the picture of what the script that is read does.
-use Rattle.std.specs.Prelude.{◌≡◌, ◌<◌, ℕ, List, Option, Some, None, Ok, IfSome, length, map, min}
+use Rattle.std.specs.Prelude.{◌≡◌, ◌<◌, ℕ, List, Option, Some, None, length, map, min}
 use Rattle.std.specs.Io.KnownBytes.{Appends, Keeps}
 use Rattle.drm_types.specs.declared.spec.DeviceSpec.{DeviceSpec}
 use Rattle.drm_job.specs.declared.Draft.{Draft}
@@ -15,9 +15,8 @@ use Rattle.drm_picture.specs.declared.picture.Shape.{Shape}
 use Rattle.drm_picture.specs.Pictures.{IsPicture, part_of}
 use Rattle.drm_svg.specs.Svg.{IsSvg}
 use Rattle.drm_script.specs.declared.script.Script.{Script}
-use Rattle.drm_script.specs.Script.{judge_script}
 use Rattle.drm_stream.specs.Transfer.{AppendsFront}
-use Rattle.drm_engine.specs.Replaying.{AreAnswers, Replays}
+use Rattle.drm_engine.specs.Replaying.{AreAnswers, Replays, SpellsScript}
 use Rattle.drm_engine.specs.declared.ending.Ending.{Ending}
 use Rattle.drm_engine.specs.declared.ending.Ending.TheVariants as ending
 
@@ -87,10 +86,6 @@ DrawsScript script from to old new ending.TooMany = IsTooLong script from to × 
 DrawsScript script from to old new ending.NoMemory = Keeps old new
 DrawsScript script from to old new ending.NoOutput = (text : List ℕ) × IsDrawnOf script from to text × AppendsFront old new text
 DrawsScript script from to old new other = ⊥
-
--- a script that the input spells where it is known, of which this holds
-abbrev pub SpellsScript : Option (List ℕ) → (Script → Type 0) → Type 0
-SpellsScript input Hold = (script : Script) × IfSome input (λ text. judge_script text ≡ Ok script) × Hold script
 
 -- what each ending says of the input and of what the writer holds before and after: a drawing has no other
 abbrev pub Draws : ℕ → ℕ → Option (List ℕ) → Option (List ℕ) → Option (List ℕ) → Ending → Type 0

@@ -1,25 +1,27 @@
 -- Answers that are told in pieces.
-use Rattle.std.proofs.Common.{◌≡◌, ◌<◌, ℕ, ◌+◌, List, [], ◌∷◌, ◌++◌, length, take, append_assoc, append-nil, Option, Ok, Err, Result, refl, sym, ap, subst, ◌∙◌, arith}
-use Rattle.std.specs.Prelude.{is_ok, is_err, OnOk, OnErr, true, false}
+use Rattle.std.proofs.Common.{◌≡◌, ◌<◌, ℕ, ◌+◌, List, [], ◌∷◌, ◌++◌, length, take, append_assoc, append-nil, Option, None, Some, Ok, Err, Result, refl, sym, ap, subst, ◌∙◌, arith}
+use Rattle.std.specs.Prelude.{is_ok, IfSome, OnSome, OnOk, OnErr, true, false}
 use Rattle.std.specs.Io.KnownBytes.{Appends}
 use Rattle.std.proofs.KnownBytes.{Appends-nil, Appends-trans}
 use Rattle.std.proofs.Math.Seq.{take-append-add}
-use Rattle.std.proofs.lemmas.Grind.{flat_map-append}
-use Rattle.std.proofs.lemmas.List.{length-append, take-append-le, flat_map_more}
+use Rattle.std.proofs.lemmas.List.{length-append, take-append-le}
 use Rattle.drm_types.specs.declared.spec.DeviceSpec.{DeviceSpec}
 use Rattle.drm_state.specs.declared.answer.Answer.{Answer}
 use Rattle.drm_core.specs.declared.event.Event.{Event}
 use Rattle.drm_core.specs.State.{CoreState, opened}
 use Rattle.drm_core.specs.Headline.{Headline}
 use Rattle.drm_core.specs.Lawful.{IsLawful}
-use Rattle.drm_core.specs.Run.{AllNamesExist, EveryRunIsLawful, Run}
+use Rattle.drm_core.specs.Run.{AllNamesExist, EveryRunIsLawful, LawfulRun, Run}
 use Rattle.drm_core.specs.Step.{Step}
 use Rattle.drm_answer.specs.Answers.{line_of, text_of_answers}
 use Rattle.drm_script.specs.Kept.{AnswersFirst}
+use Rattle.drm_script.specs.Script.{judge_script}
+use Rattle.drm_script.specs.declared.script.Script.{Script}
 use Rattle.drm_stream.specs.Streams.{SinkState}
 use Rattle.drm_stream.specs.Transfer.{AppendsFront, WritesOrFails}
-use Rattle.drm_script.specs.declared.script.Script.{Script}
-use Rattle.drm_engine.specs.Replaying.{AppendsPiece, AreAnswers, IsAnswered, Told, ToldFront, ToldSoFar, Written}
+use Rattle.drm_engine.specs.declared.ending.Ending.{Ending}
+use Rattle.drm_engine.specs.declared.ending.Ending.TheVariants as ending
+use Rattle.drm_engine.specs.Replaying.{AppendsPiece, AreAnswers, IsAnswered, IsToldAs, PlaysAs, Replays, ReplaysAs, SpellsScript, Told, ToldFront, ToldSoFar, Written, text_of_lines}
 
 -- whatever run of the rest follows, it makes one of the whole with the answers so far
 abbrev pub GoesOn : CoreState → List Event → List Answer → CoreState → List Event → Type 0
@@ -49,10 +51,6 @@ pub chunk_turned : (start now next : CoreState) (events chunk rest : List Event)
 chunk_turned start now next events chunk rest so_far answers run goes_on more new behind =
     subst (λ given. Run start events given new) (sym (append_assoc so_far answers more)) (goes_on (answers ++ more) new (run_behind now next new chunk rest answers more run behind))
 
--- the text of these answers, and then of those
-pub text_behind : (so_far answers : List Answer) → text_of_answers (so_far ++ answers) ≡ text_of_answers so_far ++ text_of_answers answers
-text_behind so_far answers = flat_map-append line_of so_far answers
-
 -- all events of a chunk name what is there, and so do those behind it
 pub names_first : (spec : DeviceSpec) (chunk rest : List Event) → AllNamesExist spec (chunk ++ rest) → AllNamesExist spec chunk
 names_first spec [] rest names = tt
@@ -65,15 +63,6 @@ names_behind old new (event ∷ chunk) rest same names = names_behind old new ch
 pub run_ends : (start now : CoreState) (events rest : List Event) (so_far : List Answer) → rest ≡ [] → GoesOn start events so_far now rest → Run start events so_far now
 run_ends start now events [] so_far none goes_on = subst (λ given. Run start events given now) (append-nil so_far) (goes_on [] now refl)
 run_ends start now events (event ∷ rest) so_far none goes_on = absurd (cc)
-
--- the text of one answer more
-one_more : (so_far : List Answer) (answer : Answer) → text_of_answers (so_far ++ answer ∷ []) ≡ text_of_answers so_far ++ line_of answer
-one_more so_far answer = sym (flat_map_more line_of [] so_far answer)
-
--- the same behind other text
-pub one_more_behind : (text : List ℕ) (so_far : List Answer) (answer : Answer) → text ++ text_of_answers (so_far ++ answer ∷ []) ≡ (text ++ text_of_answers so_far) ++ line_of answer
-one_more_behind text so_far answer =
-    ap (λ (more : List ℕ). text ++ more) (one_more so_far answer) ∙ sym (append_assoc text (text_of_answers so_far) (line_of answer))
 
 -- what was written first, and then a piece with more behind it
 pub piece_behind : (a b c : Option (List ℕ)) (text piece more left : List ℕ) → AppendsPiece a b text piece → AppendsPiece b c (piece ++ more) left → AppendsPiece a c (text ++ more) left
@@ -94,12 +83,6 @@ front_of_more a b text more p =
     let some : p.0 < length text = p.1 in
     (p.0, omega (arith, some, length-append text more), subst (Appends a b) (sym (take-append-le p.0 text more (omega (arith, some)))) p.2)
 
--- before the first event nothing is answered, and nothing told
-pub nothing_told : (a : SinkState) (start : CoreState) (events rest : List Event) (piece : List ℕ) → rest ≡ events → piece ≡ []
-    → (given : List Answer) × GoesOn start events given start rest × ToldSoFar a a (text_of_answers given) piece
-nothing_told a start events rest piece same none =
-    ([], (λ more new run. subst (λ es. Run start es more new) same run), (([], Appends-nil a.contents, sym none), refl))
-
 -- where nothing was written, all is still to be written
 pub kept_so_far : (a : SinkState) (piece : List ℕ) → ToldSoFar a a piece piece
 kept_so_far a piece = (([], Appends-nil a.contents, refl), refl)
@@ -118,6 +101,79 @@ front_next a b c text more piece p q = (front_behind a.contents b.contents c.con
 pub told_next : {E : Type 0} (a b c : SinkState) (next : Result (Unit {0}) E) (text more piece left : List ℕ) → ToldSoFar a b text piece → Told b c next (piece ++ more) left → Told a c next (text ++ more) left
 told_next a b c (Ok v) text more piece left p q = so_far_next a b c text more piece left p q
 told_next a b c (Err e) text more piece left p q = front_next a b c text more piece p q
+
+-- ---- lines
+
+-- whatever answers the rest gets, the lines of the whole are those told so far and the lines of the rest
+abbrev pub LinesSoFar : (Event → Answer → List ℕ) → List Event → List Answer → List Event → List ℕ → Type 0
+LinesSoFar line events so_far rest said = (more : List Answer) → text_of_lines line events (so_far ++ more) ≡ said ++ text_of_lines line rest more
+
+-- what was answered so far, and told of it
+abbrev pub SaidSoFar : {E : Type 0} → (Event → Answer → List ℕ) → SinkState → SinkState → CoreState → CoreState → List Event → List Event → Result (Unit {0}) E → List ℕ → Type 0
+SaidSoFar line old new start now events rest told piece =
+    (given : List Answer) × GoesOn start events given now rest × ((said : List ℕ) × LinesSoFar line events given rest said × Told old new told said piece)
+
+-- the same of a part of the events, whatever was told before it
+abbrev pub SaidOfPart : {E : Type 0} → (Event → Answer → List ℕ) → SinkState → SinkState → CoreState → CoreState → List Event → List Event → Result (Unit {0}) E → Result (Unit {0}) E → List ℕ → List ℕ → Type 0
+SaidOfPart line from now_at start now events rest before told first piece =
+    (given : List Answer) × GoesOn start events given now rest × ((said : List ℕ) × LinesSoFar line events given rest said
+    × ((old : SinkState) (text : List ℕ) → Told old from before text first → Told old now_at told (text ++ said) piece))
+
+-- before the first event nothing is answered, and nothing told
+pub nothing_said : (line : Event → Answer → List ℕ) (a : SinkState) (start : CoreState) (events rest : List Event) (piece : List ℕ) → rest ≡ events → piece ≡ []
+    → (given : List Answer) × GoesOn start events given start rest × ((said : List ℕ) × LinesSoFar line events given rest said × ToldSoFar a a said piece)
+nothing_said line a start events rest piece same none =
+    ([], (λ more new run. subst (λ es. Run start es more new) same run), ([], (λ more. ap (λ es. text_of_lines line es more) (sym same)), (([], Appends-nil a.contents, sym none), refl)))
+
+pub nothing_of_part : {E : Type 0} (line : Event → Answer → List ℕ) (a : SinkState) (start : CoreState) (events rest : List Event) (before : Result (Unit {0}) E) (piece : List ℕ) → rest ≡ events
+    → SaidOfPart line a a start start events rest before before piece piece
+nothing_of_part line a start events rest before piece same =
+    ([], (λ more new run. subst (λ es. Run start es more new) same run), ([], (λ more. ap (λ es. text_of_lines line es more) (sym same)), λ old text was. subst (λ (t : List ℕ). Told old a before t piece) (sym (append-nil text)) was))
+
+-- one line more
+pub line_more : (line : Event → Answer → List ℕ) (events rest left : List Event) (so_far : List Answer) (event : Event) (answer : Answer) (said : List ℕ) → rest ≡ event ∷ left
+    → LinesSoFar line events so_far rest said → LinesSoFar line events (so_far ++ answer ∷ []) left (said ++ line event answer)
+line_more line events rest left so_far event answer said split so more =
+    ap (text_of_lines line events) (append_assoc so_far (answer ∷ []) more)
+    ∙ so (answer ∷ more)
+    ∙ ap (λ (es : List Event). said ++ text_of_lines line es (answer ∷ more)) split
+    ∙ sym (append_assoc said (line event answer) (text_of_lines line left more))
+
+-- the lines of some events that were answered, and then those of the events behind them
+lines_behind : (line : Event → Answer → List ℕ) (now next : CoreState) (chunk rest : List Event) (answers more : List Answer) → Run now chunk answers next
+    → text_of_lines line (chunk ++ rest) (answers ++ more) ≡ text_of_lines line chunk answers ++ text_of_lines line rest more
+lines_behind line now next [] rest [] more run = refl
+lines_behind line now next [] rest (answer ∷ answers) more never = absurd never
+lines_behind line now next (event ∷ chunk) rest [] more never = absurd never
+lines_behind line now next (event ∷ chunk) rest (answer ∷ answers) more run =
+    ap (λ (t : List ℕ). line event answer ++ t) (lines_behind line run.0 next chunk rest answers more run.2)
+    ∙ sym (append_assoc (line event answer) (text_of_lines line chunk answers) (text_of_lines line rest more))
+
+-- the lines of a chunk more
+pub chunk_said : (line : Event → Answer → List ℕ) (now next : CoreState) (events chunk rest : List Event) (so_far answers : List Answer) (said : List ℕ) → Run now chunk answers next
+    → LinesSoFar line events so_far (chunk ++ rest) said → LinesSoFar line events (so_far ++ answers) rest (said ++ text_of_lines line chunk answers)
+chunk_said line now next events chunk rest so_far answers said run so more =
+    ap (text_of_lines line events) (append_assoc so_far answers more)
+    ∙ so (answers ++ more)
+    ∙ ap (λ (t : List ℕ). said ++ t) (lines_behind line now next chunk rest answers more run)
+    ∙ sym (append_assoc said (text_of_lines line chunk answers) (text_of_lines line rest more))
+
+-- the lines of all events
+pub lines_end : (line : Event → Answer → List ℕ) (events rest : List Event) (so_far : List Answer) (said : List ℕ) → rest ≡ [] → LinesSoFar line events so_far rest said
+    → said ≡ text_of_lines line events so_far
+lines_end line events rest so_far said none so =
+    sym (append-nil said) ∙ sym (ap (λ (es : List Event). said ++ text_of_lines line es []) none) ∙ sym (so []) ∙ ap (text_of_lines line events) (append-nil so_far)
+
+-- those that have the answers alone are the lines of the answers
+pub lines_of_answers : (start final : CoreState) (events : List Event) (answers : List Answer) → LawfulRun start events answers final
+    → text_of_lines (λ event answer. line_of answer) events answers ≡ text_of_answers answers
+lines_of_answers start final [] [] run = refl
+lines_of_answers start final [] (answer ∷ answers) never = absurd never
+lines_of_answers start final (event ∷ events) [] never = absurd never
+lines_of_answers start final (event ∷ events) (answer ∷ answers) run =
+    ap (λ (t : List ℕ). line_of answer ++ t) (lines_of_answers run.1.0 final events answers run.1.3)
+
+-- ---- what was written of them
 
 -- a front of a text is one of a longer text
 pub front_longer : (a b : SinkState) (text more : List ℕ) → ToldFront a b text → ToldFront a b (text ++ more)
@@ -146,15 +202,21 @@ pub told_more : {E : Type 0} (a b c : SinkState) (told next : Result (Unit {0}) 
 told_more a b c (Ok u) next text line piece left is p q = told_next a b c next text line piece left p q
 told_more a b c (Err e) next text line piece left is p q = absurd (cc)
 
--- one that is still to be written
-pub told_piece : {E : Type 0} (a b : SinkState) (told : Result (Unit {0}) E) (text line piece : List ℕ) → is_ok told ≡ true → Told a b told text piece → Told a b told (text ++ line) (piece ++ line)
-told_piece a b (Ok u) text line piece is p = so_far_behind a b text piece line p
-told_piece a b (Err e) text line piece is p = absurd (cc)
-
 -- and where one could not be told
 pub told_less : {E : Type 0} (a b : SinkState) (told : Result (Unit {0}) E) (text line piece : List ℕ) → is_ok told ≡ false → Told a b told text piece → Told a b told (text ++ line) piece
 told_less a b (Ok u) text line piece is p = absurd (cc)
 told_less a b (Err e) text line piece is p = front_longer a b text line p
+
+-- the same of one line more behind what was said of a part
+pub said_more : {E : Type 0} (a b c : SinkState) (told next : Result (Unit {0}) E) (text said line piece left : List ℕ) → is_ok told ≡ true → Told a b told (text ++ said) piece
+    → Told b c next (piece ++ line) left → Told a c next (text ++ (said ++ line)) left
+said_more a b c told next text said line piece left is p q =
+    subst (λ (t : List ℕ). Told a c next t left) (append_assoc text said line) (told_more a b c told next (text ++ said) line piece left is p q)
+
+pub said_less : {E : Type 0} (a b : SinkState) (told : Result (Unit {0}) E) (text said line piece : List ℕ) → is_ok told ≡ false → Told a b told (text ++ said) piece
+    → Told a b told (text ++ (said ++ line)) piece
+said_less a b told text said line piece is p =
+    subst (λ (t : List ℕ). Told a b told t piece) (append_assoc text said line) (told_less a b told (text ++ said) line piece is p)
 
 -- where no piece is left, all is written
 pub all_written : {E : Type 0} (a b : SinkState) (told : Result (Unit {0}) E) (text piece : List ℕ) → piece ≡ [] → Told a b told text piece → Written a b told text
@@ -162,17 +224,14 @@ all_written a b (Ok u) text piece none p =
     (subst (Appends a.contents b.contents) (sym (p.0.2 ∙ ap (λ (l : List ℕ). p.0.0 ++ l) none ∙ append-nil p.0.0)) p.0.1, p.1)
 all_written a b (Err e) text piece none p = p
 
+-- what holds anyway holds where there is a value
+pub if_any : {A : Type 0} (o : Option A) (P : Type 0) → P → OnSome o P
+if_any None P p = tt
+if_any (Some x) P p = p
+
 pub holds_of_ok : {A E : Type 0} (r : Result A E) (P : Type 0) → is_ok r ≡ true → OnOk r P → P
 holds_of_ok (Ok x) P is p = p
 holds_of_ok (Err e) P is p = absurd (cc)
-
-pub ok_of_no_err : {A E : Type 0} (r : Result A E) → is_err r ≡ false → is_ok r ≡ true
-ok_of_no_err (Ok x) is = refl
-ok_of_no_err (Err e) is = absurd (cc)
-
-pub no_ok_of_err : {A E : Type 0} (r : Result A E) → is_err r ≡ true → is_ok r ≡ false
-no_ok_of_err (Ok x) is = absurd (cc)
-no_ok_of_err (Err e) is = refl
 
 -- a core that was opened is lawful
 pub opened_lawful : (spec : DeviceSpec) → EveryRunIsLawful → IsLawful (opened spec)
@@ -185,3 +244,45 @@ played script core final events Hold lawful promised core_is events_is names a =
     let run : Run (opened script.spec) script.lines a.0 final =
     subst (λ (s : CoreState). Run s script.lines a.0 final) core_is (subst (λ (es : List Event). Run core es a.0 final) events_is a.1) in
     (a.0, (final, lawful script.spec script.lines a.0 final names run, promised script.spec script.lines a.0 final names run), a.2)
+
+-- what an ending says of a script, it says of the input that spells it
+pub plays_spelled : (text : List Event → List Answer → List ℕ) (script : Script) (input old new : Option (List ℕ)) (ended : Ending) → IfSome input (λ bytes. judge_script bytes ≡ Ok script)
+    → PlaysAs text script old new ended → ReplaysAs text input old new ended
+plays_spelled text script input old new ending.Done spelled told = (script, spelled, told)
+plays_spelled text script input old new ending.Differs spelled never = absurd never
+plays_spelled text script input old new (ending.GaveUp worker turns) spelled never = absurd never
+plays_spelled text script input old new ending.NoThread spelled never = absurd never
+plays_spelled text script input old new (ending.Fault fault) spelled never = absurd never
+plays_spelled text script input old new ending.TooMany spelled never = absurd never
+plays_spelled text script input old new ending.NoCount spelled never = absurd never
+plays_spelled text script input old new (ending.Unexplained word) spelled never = absurd never
+plays_spelled text script input old new ending.NoMemory spelled kept = kept
+plays_spelled text script input old new ending.NoInput spelled never = absurd never
+plays_spelled text script input old new ending.NoOutput spelled told = (script, spelled, told)
+
+-- the same text of the same answers
+abbrev AreAlike : (List Event → List Answer → List ℕ) → (List Event → List Answer → List ℕ) → Type 0
+AreAlike one other = (script : Script) (answers : List Answer) → AreAnswers script answers → one script.lines answers ≡ other script.lines answers
+
+told_alike : (one other : List Event → List Answer → List ℕ) (input : Option (List ℕ)) (Hold : List ℕ → Type 0) → AreAlike one other → SpellsScript input (λ script. IsToldAs one script Hold)
+    → SpellsScript input (λ script. IsToldAs other script Hold)
+told_alike one other input Hold alike told = (told.0, told.1, (told.2.0, told.2.1, subst Hold (alike told.0 told.2.0 told.2.1) told.2.2))
+
+replays_alike : (one other : List Event → List Answer → List ℕ) (input old new : Option (List ℕ)) (ended : Ending) → AreAlike one other → ReplaysAs one input old new ended → ReplaysAs other input old new ended
+replays_alike one other input old new ending.Done alike told = told_alike one other input (λ text. Appends old new text) alike told
+replays_alike one other input old new ending.Differs alike never = absurd never
+replays_alike one other input old new (ending.GaveUp worker turns) alike never = absurd never
+replays_alike one other input old new ending.NoThread alike never = absurd never
+replays_alike one other input old new (ending.Fault fault) alike kept = kept
+replays_alike one other input old new ending.TooMany alike never = absurd never
+replays_alike one other input old new ending.NoCount alike never = absurd never
+replays_alike one other input old new (ending.Unexplained word) alike never = absurd never
+replays_alike one other input old new ending.NoMemory alike kept = kept
+replays_alike one other input old new ending.NoInput alike kept = kept
+replays_alike one other input old new ending.NoOutput alike told = told_alike one other input (λ text. AppendsFront old new text) alike told
+
+-- the lines that have the answers alone
+pub replays_bare : (input old new : Option (List ℕ)) (ended : Ending) → ReplaysAs (text_of_lines (λ event answer. line_of answer)) input old new ended → Replays input old new ended
+replays_bare input old new ended told =
+    replays_alike (text_of_lines (λ event answer. line_of answer)) (λ events answers. text_of_answers answers) input old new ended
+    (λ script answers are. lines_of_answers (opened script.spec) are.0 script.lines answers are.1) told

@@ -1,5 +1,5 @@
 -- A replay: what is written answers the script that is read.
-use Rattle.std.specs.Prelude.{◌≡◌, ℕ, true, List, ◌++◌, Option, Result, Ok, Err, IfSome}
+use Rattle.std.specs.Prelude.{◌≡◌, ℕ, true, List, ◌++◌, Option, Result, Ok, Err, IfSome, flat_map, zip}
 use Rattle.std.specs.Io.KnownBytes.{Appends, Keeps}
 use Rattle.drm_state.specs.declared.answer.Answer.{Answer}
 use Rattle.drm_core.specs.State.{CoreState, opened}
@@ -18,19 +18,37 @@ use Rattle.drm_engine.specs.declared.ending.Ending.TheVariants as ending
 abbrev pub AreAnswers : Script → List Answer → Type 0
 AreAnswers script answers = (final : CoreState) × LawfulRun (opened script.spec) script.lines answers final × Promises script.spec final
 
--- a script that the input spells where it is known, and answers to its events, of which this holds
-abbrev pub Answers : Option (List ℕ) → (List Answer → Type 0) → Type 0
-Answers input Hold =
-    (script : Script) × IfSome input (λ text. judge_script text ≡ Ok script) × ((answers : List Answer) × AreAnswers script answers × Hold answers)
+-- a script that the input spells where it is known, of which this holds
+abbrev pub SpellsScript : Option (List ℕ) → (Script → Type 0) → Type 0
+SpellsScript input Hold = (script : Script) × IfSome input (λ text. judge_script text ≡ Ok script) × Hold script
+
+-- what the events and the answers to them are told as: one such line for each event, with the answer to it
+abbrev pub text_of_lines : (Event → Answer → List ℕ) → List Event → List Answer → List ℕ
+text_of_lines line events answers = flat_map (λ p. line p.0 p.1) (zip events answers)
+
+-- answers to the script, of whose text this holds
+abbrev pub IsToldAs : (List Event → List Answer → List ℕ) → Script → (List ℕ → Type 0) → Type 0
+IsToldAs text script Hold = (answers : List Answer) × AreAnswers script answers × Hold (text script.lines answers)
+
+-- what each ending says of a script that was read, and of what the writer holds before and after
+abbrev pub PlaysAs : (List Event → List Answer → List ℕ) → Script → Option (List ℕ) → Option (List ℕ) → Ending → Type 0
+PlaysAs text script old new ending.Done = IsToldAs text script (λ told. Appends old new told)
+PlaysAs text script old new ending.NoMemory = Keeps old new
+PlaysAs text script old new ending.NoOutput = IsToldAs text script (λ told. AppendsFront old new told)
+PlaysAs text script old new other = ⊥
 
 -- what each ending says of the input and of what the writer holds before and after: a replay has no other
+abbrev pub ReplaysAs : (List Event → List Answer → List ℕ) → Option (List ℕ) → Option (List ℕ) → Option (List ℕ) → Ending → Type 0
+ReplaysAs text input old new ending.Done = SpellsScript input (λ script. IsToldAs text script (λ told. Appends old new told))
+ReplaysAs text input old new (ending.Fault fault) = IfSome input (λ bytes. judge_script bytes ≡ Err fault) × Keeps old new
+ReplaysAs text input old new ending.NoMemory = Keeps old new
+ReplaysAs text input old new ending.NoInput = Keeps old new
+ReplaysAs text input old new ending.NoOutput = SpellsScript input (λ script. IsToldAs text script (λ told. AppendsFront old new told))
+ReplaysAs text input old new other = ⊥
+
+-- the same of the answers alone
 abbrev pub Replays : Option (List ℕ) → Option (List ℕ) → Option (List ℕ) → Ending → Type 0
-Replays input old new ending.Done = Answers input (λ answers. Appends old new (text_of_answers answers))
-Replays input old new (ending.Fault fault) = IfSome input (λ text. judge_script text ≡ Err fault) × Keeps old new
-Replays input old new ending.NoInput = Keeps old new
-Replays input old new ending.NoMemory = Keeps old new
-Replays input old new ending.NoOutput = Answers input (λ answers. AppendsFront old new (text_of_answers answers))
-Replays input old new other = ⊥
+Replays = ReplaysAs (λ events answers. text_of_answers answers)
 
 -- the core gives answers to these events, one step after another, of which this holds
 abbrev pub IsAnswered : CoreState → List Event → CoreState → (List Answer → Type 0) → Type 0
@@ -57,10 +75,3 @@ Told old new (Err error) text piece = ToldFront old new text
 abbrev pub Written : {E : Type 0} → SinkState → SinkState → Result (Unit {0}) E → List ℕ → Type 0
 Written old new (Ok done) text = Appends old.contents new.contents text × NoWriteFailed old new
 Written old new (Err error) text = ToldFront old new text
-
--- what each ending says of a script that was read, and of what the writer holds before and after
-abbrev pub Plays : Script → Option (List ℕ) → Option (List ℕ) → Ending → Type 0
-Plays script old new ending.Done = (answers : List Answer) × AreAnswers script answers × Appends old new (text_of_answers answers)
-Plays script old new ending.NoMemory = Keeps old new
-Plays script old new ending.NoOutput = (answers : List Answer) × AreAnswers script answers × AppendsFront old new (text_of_answers answers)
-Plays script old new other = ⊥

@@ -6,13 +6,15 @@
 //! most, by how many reads (`most`), and that a failed input or output is told exactly where a read or a write failed
 //! (`failures`): the whole text is judged before anything is written.
 //! `Ending` has the exit status and the text of each such way. An `Engine` is what a word of the command line names.
-//! A `Piece` is the room in which lines are gathered before they are written.
+//! `replay_lines` is `replay` with any other line for each event (`Lines`), which has to be what the trait says. A `Piece` is
+//! the room in which lines are gathered before they are written.
 #![tactic(auto)]
 
 mod checking;
 mod comparison;
 mod ending;
 mod engine;
+mod lines;
 mod piece;
 mod replaying;
 mod serializing;
@@ -20,6 +22,7 @@ mod serializing;
 pub use checking::check;
 pub use ending::Ending;
 pub use engine::Engine;
+pub use lines::Lines;
 pub use piece::{PIECE, Piece, WriteFailed};
-pub use replaying::replay;
+pub use replaying::{replay, replay_lines};
 pub use serializing::serial;

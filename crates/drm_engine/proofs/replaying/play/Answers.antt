@@ -1,9 +1,8 @@
 use Rattle.std.proofs.Common.{refl, subst, sym}
 use Rattle.std.specs.Io.KnownBytes.{Appends}
-use Rattle.drm_answer.specs.Answers.{text_of_answers}
 use Rattle.drm_core.specs.Lawful.{IsLawful}
 use Rattle.drm_stream.specs.Streams.{NoWriteFailed}
-use Rattle.drm_engine.specs.Replaying.{ToldFront}
+use Rattle.drm_engine.specs.Replaying.{ToldFront, text_of_lines}
 use Rattle.drm_engine.proofs.Pieces.{opened_lawful, played}
 use Rattle.drm_engine.proofs.replaying.play.Goals as goal
 
@@ -17,7 +16,7 @@ write_lines-requires-clause-limits g c = rw c.in-Ok-build.ensures.ok.0 c.require
 pub returns-in-Ok-write_lines-clause-ending : goal.returns-in-Ok-write_lines-clause-ending
 returns-in-Ok-write_lines-clause-ending g c =
     let p = played c.args.script c.in-Ok-build.core c.write_lines.new.core c.args.script.lines
-    (λ answers. Appends c.args.writer.now.contents c.write_lines.new.writer.contents (text_of_answers answers) × NoWriteFailed c.args.writer.now c.write_lines.new.writer)
+    (λ answers. Appends c.args.writer.now.contents c.write_lines.new.writer.contents (text_of_lines g.L.Lines.line c.args.script.lines answers) × NoWriteFailed c.args.writer.now c.write_lines.new.writer)
     c.every_run_is_lawful.ensures c.headline.ensures c.in-Ok-build.ensures.ok.0 refl c.requires.exist c.in-Ok-write_lines.ensures in
     (p.0, p.1, p.2.0)
 
@@ -27,7 +26,7 @@ returns-in-Ok-write_lines-clause-failures g c = λ from to read. (read, c.in-Ok-
 pub returns-clause-ending : goal.returns-clause-ending
 returns-clause-ending g c =
     let p = played c.args.script c.in-Ok-build.core c.write_lines.new.core c.args.script.lines
-    (λ answers. ToldFront c.args.writer.now c.write_lines.new.writer (text_of_answers answers))
+    (λ answers. ToldFront c.args.writer.now c.write_lines.new.writer (text_of_lines g.L.Lines.line c.args.script.lines answers))
     c.every_run_is_lawful.ensures c.headline.ensures c.in-Ok-build.ensures.ok.0 refl c.requires.exist c.in-Err.ensures in
     (p.0, p.1, p.2.0)
 

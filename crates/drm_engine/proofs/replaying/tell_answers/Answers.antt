@@ -1,9 +1,9 @@
 use Rattle.std.proofs.Common.{◌++◌, ◌∙◌, ap, arith, subst, sym}
 use Rattle.drm_types.specs.Limits.{spec_fault}
-use Rattle.drm_answer.specs.Answers.{text_of_answers}
 use Rattle.drm_core.specs.Run.{AllNamesExist}
 use Rattle.drm_script.specs.Chunks.{all_of}
-use Rattle.drm_engine.proofs.Pieces.{GoesOn, chunk_turned, names_behind, names_first, nothing_told, run_ends, text_behind}
+use Rattle.drm_engine.specs.Replaying.{Told, text_of_lines}
+use Rattle.drm_engine.proofs.Pieces.{GoesOn, LinesSoFar, chunk_said, chunk_turned, lines_end, names_behind, names_first, nothing_said, run_ends}
 use Rattle.drm_engine.proofs.replaying.tell_answers.Goals as goal
 
 pub tell_chunk-told-requires : goal.tell_chunk-told-requires
@@ -21,13 +21,13 @@ loop-chunk-init g c = record {
   lawful = c.requires.lawful;
   limits = c.requires.limits;
   short = rw c.requires.bare (omega arith);
-  so_far = nothing_told c.args.writer.now c.args.core.now c.args.events (all_of c.into_chunks-chunks.result) c.args.piece.now c.into_chunks-chunks.ensures c.requires.bare;
+  so_far = nothing_said g.L.Lines.line c.args.writer.now c.args.core.now c.args.events (all_of c.into_chunks-chunks.result) c.args.piece.now c.into_chunks-chunks.ensures c.requires.bare;
 }
 
 pub loop-chunk-preserved : goal.loop-chunk-preserved
 loop-chunk-preserved g c =
     let so = c.loop-chunk.invariant.so_far in
-    let told = c.tell_chunk-told.ensures.told c.args.writer.now (text_of_answers so.0) so.2 in
+    let told = c.tell_chunk-told.ensures.told c.args.writer.now so.2.0 so.2.2 in
     record {
       names = names_behind c.loop-chunk.core.device.spec c.tell_chunk-told.new.core.device.spec c.in-Some.chunk (all_of c.next.new.self) c.tell_chunk-told.ensures.spec
           (subst (λ chunks. AllNamesExist c.loop-chunk.core.device.spec (all_of chunks)) c.in-Some.ensures.some c.loop-chunk.invariant.names);
@@ -38,11 +38,21 @@ loop-chunk-preserved g c =
         so.0 ++ told.0,
         chunk_turned c.args.core.now c.loop-chunk.core c.tell_chunk-told.new.core c.args.events c.in-Some.chunk (all_of c.next.new.self) so.0 told.0 told.1
             (subst (λ chunks. GoesOn c.args.core.now c.args.events so.0 c.loop-chunk.core (all_of chunks)) c.in-Some.ensures.some so.1),
-        rw (text_behind so.0 told.0) told.2,
+        (
+          so.2.0 ++ text_of_lines g.L.Lines.line c.in-Some.chunk told.0,
+          chunk_said g.L.Lines.line c.loop-chunk.core c.tell_chunk-told.new.core c.args.events c.in-Some.chunk (all_of c.next.new.self) so.0 told.0 so.2.0 told.1
+              (subst (λ chunks. LinesSoFar g.L.Lines.line c.args.events so.0 (all_of chunks) so.2.0) c.in-Some.ensures.some so.2.1),
+          told.2,
+        ),
       );
     }
 
 pub returns : goal.returns
 returns g c =
     let so = c.loop-chunk.invariant.so_far in
-    (so.0, run_ends c.args.core.now c.loop-chunk.core c.args.events (all_of c.loop-chunk.chunks) so.0 (ap all_of c.in_default.ensures.none) so.1, so.2)
+    let none = ap all_of c.in_default.ensures.none in
+    let all = lines_end g.L.Lines.line c.args.events (all_of c.loop-chunk.chunks) so.0 so.2.0 none so.2.1 in (
+      so.0,
+      run_ends c.args.core.now c.loop-chunk.core c.args.events (all_of c.loop-chunk.chunks) so.0 none so.1,
+      subst (λ text. Told c.args.writer.now c.loop-chunk.writer c.loop-chunk.told text c.loop-chunk.piece) all so.2.2,
+    )

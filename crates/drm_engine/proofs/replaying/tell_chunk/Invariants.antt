@@ -1,11 +1,8 @@
-use Rattle.std.proofs.Common.{◌≡◌, ◌<◌, ℕ, List, ◌++◌, length}
-use Rattle.drm_state.specs.declared.answer.Answer.{Answer}
-use Rattle.drm_answer.specs.Answers.{text_of_answers}
+use Rattle.std.proofs.Common.{◌≡◌, ◌<◌, length}
+use Rattle.std.specs.Prelude.{OnOk}
 use Rattle.drm_core.specs.Lawful.{IsLawful}
 use Rattle.drm_core.specs.Run.{AllNamesExist}
-use Rattle.drm_stream.specs.Streams.{SinkState}
-use Rattle.drm_engine.specs.Replaying.{Told}
-use Rattle.drm_engine.proofs.Pieces.{GoesOn}
+use Rattle.drm_engine.proofs.Pieces.{SaidOfPart}
 use Rattle.drm_engine.proofs.replaying.tell_chunk.Given as goal
 
 abbrev pub invariant-loop-answer : goal.invariant-loop-answer
@@ -13,10 +10,8 @@ invariant-loop-answer g l = record {
   names : AllNamesExist l.core.device.spec l.rest;
   spec : l.core.device.spec ≡ l.fn.core.device.spec;
   lawful : IsLawful l.core;
-  short : length l.piece < 32768;
-  so_far : (given : List Answer) × GoesOn l.fn.core l.fn.chunk given l.core l.rest
-      × ((old : SinkState) (text : List ℕ) → Told old l.fn.writer l.fn.before text l.fn.piece
-      → Told old l.writer l.told (text ++ text_of_answers given) l.piece);
+  short : OnOk l.told (length l.piece < 32768);
+  so_far : SaidOfPart g.L.Lines.line l.fn.writer l.writer l.fn.core l.core l.fn.chunk l.rest l.fn.before l.told l.fn.piece l.piece;
 }
 
 abbrev pub decreases-loop-answer : goal.decreases-loop-answer

@@ -1,6 +1,13 @@
 use Rattle.std.proofs.Common.{rules}
+use Rattle.drm_engine.specs.Replaying.{text_of_lines}
 use Rattle.drm_engine.proofs.Failures.{input_fails}
-use Rattle.drm_words.proofs.replaying.replay_with_words.Goals as goal
+use Rattle.drm_engine.proofs.Pieces.{plays_spelled}
+use Rattle.drm_engine.proofs.replaying.replay_lines.Goals as goal
+
+pub returns-in-Ok-clause-ending : goal.returns-in-Ok-clause-ending
+returns-in-Ok-clause-ending g c =
+    plays_spelled (text_of_lines g.L.Lines.line) c.in-Ok.script c.args.reader.now.remaining c.args.writer.now.contents c.play.new.writer.contents c.play.result c.in-Ok.ensures.value
+    c.play.ensures.ending
 
 pub returns-in-Ok-clause-most : goal.returns-in-Ok-clause-most
 returns-in-Ok-clause-most g c = c.read_script_from.ensures.most
