@@ -1,8 +1,9 @@
 -- The lines of answers with words beside them.
-use Rattle.std.specs.Prelude.{ℕ, List, [], ◌∷◌, ◌++◌, codes, flat_map, zip}
+use Rattle.std.specs.Prelude.{ℕ, List, [], ◌∷◌, ◌++◌, codes}
 use Rattle.drm_core.specs.declared.event.Event.{Event}
 use Rattle.drm_state.specs.declared.answer.Answer.{Answer}
 use Rattle.drm_answer.specs.Answers.{words_of}
+use Rattle.drm_engine.specs.Replaying.{text_of_lines}
 use Rattle.drm_words.specs.declared.subject.Subject.{Subject}
 use Rattle.drm_words.specs.Sentences.{sentence_of}
 use Rattle.drm_words.specs.Subjects.{subject_of}
@@ -13,4 +14,4 @@ worded_line_of subject answer = words_of answer ++ codes "  # " ++ sentence_of s
 
 -- one such line for each event, with the answer to it
 abbrev pub text_with_words : List Event → List Answer → List ℕ
-text_with_words events answers = flat_map (λ p. worded_line_of (subject_of p.0) p.1) (zip events answers)
+text_with_words events answers = text_of_lines (λ event answer. worded_line_of (subject_of event) answer) events answers

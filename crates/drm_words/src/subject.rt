@@ -19,7 +19,7 @@ pub struct Subject {
 }
 
 /// A command that names nothing yet.
-fn naming_nothing(command: Command) -> Subject
+pub(crate) fn naming_nothing(command: Command) -> Subject
     ensures { result ≡ naming_nothing command }
 {
     Subject {
