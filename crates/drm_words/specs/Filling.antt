@@ -7,3 +7,16 @@ unfoldable pub filled : List ℕ → List ℕ → List ℕ
 filled [] numbers = []
 filled (byte ∷ rest) numbers =
     if byte == 37 then flat_map decimal (take 1 numbers) ++ filled rest (drop 1 numbers) else byte ∷ filled rest numbers
+
+-- the numbers of a sentence, of which none has more than three: zeros stand behind the last
+abbrev pub no_numbers : List ℕ
+no_numbers = 0 ∷ 0 ∷ 0 ∷ []
+
+abbrev pub one : ℕ → List ℕ
+one a = a ∷ 0 ∷ 0 ∷ []
+
+abbrev pub two : ℕ → ℕ → List ℕ
+two a b = a ∷ b ∷ 0 ∷ []
+
+abbrev pub three : ℕ → ℕ → ℕ → List ℕ
+three a b c = a ∷ b ∷ c ∷ []

@@ -1,7 +1,7 @@
--- What is said of a refusal.
-use Rattle.std.specs.Prelude.{ℕ, List, [], ◌∷◌, codes}
-use Rattle.drm_job.specs.declared.DraftList.{DraftList}
-use Rattle.drm_job.specs.declared.DraftList.TheVariants as list
+-- What is said of a refusal: a sentence of the row with its number, and the numbers in it.
+use Rattle.std.specs.Prelude.{ℕ, List, [], ◌∷◌}
+use Rattle.drm_answer.specs.Answers.{number_of_list, numbers_of_refusal}
+use Rattle.drm_explain.specs.Rows.{sentence_at}
 use Rattle.drm_job.specs.declared.JobFault.{JobFault}
 use Rattle.drm_job.specs.declared.JobFault.TheVariants as job
 use Rattle.drm_state.specs.declared.answer.Refusal.{Refusal}
@@ -9,66 +9,66 @@ use Rattle.drm_state.specs.declared.answer.Refusal.TheVariants as refusal
 use Rattle.drm_text.specs.declared.keywords.Command.{Command}
 use Rattle.drm_text.specs.declared.keywords.Command.TheVariants as command
 use Rattle.drm_words.specs.declared.subject.Subject.{Subject}
-use Rattle.drm_words.specs.Filling.{filled}
+use Rattle.drm_words.specs.Filling.{no_numbers, one, three, two}
 
--- what a job has too many of
-abbrev pub sentence_of_list : DraftList → List ℕ
-sentence_of_list list.Declared = filled (codes "the job declares too many buffers: at most 16") []
-sentence_of_list list.After = filled (codes "the job names too many fences: at most 16") []
-sentence_of_list list.Packets = filled (codes "the job has too many packets: at most 64") []
+-- the number of a refusal, which the line of the answer tells first
+abbrev pub first_number : List ℕ → ℕ
+first_number [] = 0
+first_number (n ∷ ns) = n
 
--- why a job is none of the device
-abbrev pub sentence_of_fault : Subject → JobFault → List ℕ
-sentence_of_fault subject job.NoEntity = filled (codes "entity % is not there") (subject.entity ∷ [])
-sentence_of_fault subject job.NoCredits = filled (codes "the job counts no credits: at least 1") []
-sentence_of_fault subject (job.TooMany what) = sentence_of_list what
-sentence_of_fault subject (job.NoBuffer buffer) = filled (codes "the job declares buffer %, which is not there") (buffer ∷ [])
-sentence_of_fault subject (job.DeclaredTwice buffer) = filled (codes "the job declares buffer % twice") (buffer ∷ [])
-sentence_of_fault subject (job.MoveNotKernel buffer) =
-    filled (codes "the job moves buffer %, and entity % has no kernel priority") (buffer ∷ subject.entity ∷ [])
-sentence_of_fault subject (job.PacketUndeclared packet) =
-    filled (codes "packet % touches a buffer that the job does not declare") (packet ∷ [])
-sentence_of_fault subject (job.PacketOnHold packet) = filled (codes "packet % touches a buffer that the job only holds") (packet ∷ [])
-sentence_of_fault subject (job.PacketReadOnly packet) = filled (codes "packet % writes a buffer that the job only reads") (packet ∷ [])
-sentence_of_fault subject (job.PacketRange packet) = filled (codes "a range of packet % is empty or leaves its buffer") (packet ∷ [])
+abbrev pub number_of_refusal : Refusal → ℕ
+number_of_refusal refused = first_number (numbers_of_refusal refused)
 
--- where there is nothing to do: what the command looked for on its ring
-abbrev pub sentence_of_idle : Command → Subject → List ℕ
-sentence_of_idle command.Pick subject = filled (codes "no ready job waits for ring %") (subject.ring ∷ [])
-sentence_of_idle command.Step subject = filled (codes "ring % has no packet to run") (subject.ring ∷ [])
-sentence_of_idle _ subject = filled (codes "ring % has no job to finish") (subject.ring ∷ [])
+-- which sentence of its row is said of a fault of a job, and the numbers in it
+abbrev pub case_of_fault : Subject → JobFault → ℕ × List ℕ
+case_of_fault subject job.NoEntity = (0, one subject.entity)
+case_of_fault subject job.NoCredits = (0, no_numbers)
+case_of_fault subject (job.TooMany what) = (number_of_list what, no_numbers)
+case_of_fault subject (job.NoBuffer buffer) = (0, one buffer)
+case_of_fault subject (job.DeclaredTwice buffer) = (0, one buffer)
+case_of_fault subject (job.MoveNotKernel buffer) = (0, two buffer subject.entity)
+case_of_fault subject (job.PacketUndeclared packet) = (0, one packet)
+case_of_fault subject (job.PacketOnHold packet) = (0, one packet)
+case_of_fault subject (job.PacketReadOnly packet) = (0, one packet)
+case_of_fault subject (job.PacketRange packet) = (0, one packet)
 
--- where the entity of a job is stopped, which a planned job has named before
-abbrev pub sentence_of_stopped : Command → Subject → List ℕ
-sentence_of_stopped command.Arm subject =
-    filled (codes "the entity of the job that context % has planned was cancelled, and takes no more jobs") (subject.ctx ∷ [])
-sentence_of_stopped _ subject = filled (codes "entity % was cancelled, and takes no more jobs") (subject.entity ∷ [])
+-- which is said of a ring that has nothing to do: what the command looked for there
+abbrev pub idle_case : Command → ℕ
+idle_case command.Pick = 0
+idle_case command.Step = 1
+idle_case _ = 2
 
--- why a command was refused
-abbrev pub sentence_of_refusal : Subject → Refusal → List ℕ
-sentence_of_refusal subject (refusal.Faulty fault) = sentence_of_fault subject fault
-sentence_of_refusal subject refusal.Memory = filled (codes "memory was refused to the command") []
-sentence_of_refusal subject (refusal.NoFence fence) = filled (codes "fence % belongs to no job that was armed yet") (fence ∷ [])
-sentence_of_refusal subject refusal.Stopped = sentence_of_stopped subject.command subject
-sentence_of_refusal subject refusal.Full = filled (codes "the device has taken as many jobs as its header allows") []
-sentence_of_refusal subject refusal.Idle = sentence_of_idle subject.command subject
-sentence_of_refusal subject (refusal.NoCredit need free) =
-    filled (codes "the next job of ring % needs % credits, and the ring has %") (subject.ring ∷ need ∷ free ∷ [])
-sentence_of_refusal subject refusal.NotComplete = filled (codes "the first job of ring % has packets to run") (subject.ring ∷ [])
-sentence_of_refusal subject refusal.AlreadyStopped = filled (codes "entity % was cancelled before") (subject.entity ∷ [])
-sentence_of_refusal subject refusal.Waits =
-    filled (codes "the first queued job of entity % waits for a job that has not ended") (subject.entity ∷ [])
-sentence_of_refusal subject refusal.Nothing = filled (codes "entity % is not stopped, or has no queued job") (subject.entity ∷ [])
-sentence_of_refusal subject (refusal.Busy fence) =
-    filled (codes "buffer % is still written by fence %") (subject.buffer ∷ fence ∷ [])
-sentence_of_refusal subject refusal.PacketOut = filled (codes "a packet is out, and has to be reported first") []
-sentence_of_refusal subject refusal.CtxBusy = filled (codes "context % has begun already") (subject.ctx ∷ [])
-sentence_of_refusal subject refusal.CtxIdle = filled (codes "context % has not begun") (subject.ctx ∷ [])
-sentence_of_refusal subject (refusal.NotHeld buffer) = filled (codes "context % does not hold buffer %") (subject.ctx ∷ buffer ∷ [])
-sentence_of_refusal subject refusal.NotAllHeld = filled (codes "context % does not hold all buffers that the job declares") (subject.ctx ∷ [])
-sentence_of_refusal subject refusal.NotPlanned = filled (codes "context % has no plan") (subject.ctx ∷ [])
-sentence_of_refusal subject refusal.Sealed = filled (codes "context % is sealed: it has taken its last lock") (subject.ctx ∷ [])
-sentence_of_refusal subject (refusal.StillHolds buffer) = filled (codes "context % still holds buffer %") (subject.ctx ∷ buffer ∷ [])
-sentence_of_refusal subject (refusal.Held buffer) = filled (codes "a context holds buffer %, which the job declares") (buffer ∷ [])
-sentence_of_refusal subject refusal.TicketsOut = filled (codes "no tickets are left") []
-sentence_of_refusal subject refusal.Already = filled (codes "context % holds buffer % already") (subject.ctx ∷ subject.buffer ∷ [])
+-- which is said where the entity of a job is stopped, which a planned job has named before
+abbrev pub stopped_case : Command → Subject → ℕ × List ℕ
+stopped_case command.Arm subject = (1, one subject.ctx)
+stopped_case _ subject = (0, one subject.entity)
+
+-- which is said of a refusal
+abbrev pub case_of : Subject → Refusal → ℕ × List ℕ
+case_of subject (refusal.Faulty fault) = case_of_fault subject fault
+case_of subject refusal.Memory = (0, no_numbers)
+case_of subject (refusal.NoFence fence) = (0, one fence)
+case_of subject refusal.Stopped = stopped_case subject.command subject
+case_of subject refusal.Full = (0, no_numbers)
+case_of subject refusal.Idle = (idle_case subject.command, one subject.ring)
+case_of subject (refusal.NoCredit need free) = (0, three subject.ring need free)
+case_of subject refusal.NotComplete = (0, one subject.ring)
+case_of subject refusal.AlreadyStopped = (0, one subject.entity)
+case_of subject refusal.Waits = (0, one subject.entity)
+case_of subject refusal.Nothing = (0, one subject.entity)
+case_of subject (refusal.Busy fence) = (0, two subject.buffer fence)
+case_of subject refusal.PacketOut = (0, no_numbers)
+case_of subject refusal.CtxBusy = (0, one subject.ctx)
+case_of subject refusal.CtxIdle = (0, one subject.ctx)
+case_of subject (refusal.NotHeld buffer) = (0, two subject.ctx buffer)
+case_of subject refusal.NotAllHeld = (0, one subject.ctx)
+case_of subject refusal.NotPlanned = (0, one subject.ctx)
+case_of subject refusal.Sealed = (0, one subject.ctx)
+case_of subject (refusal.StillHolds buffer) = (0, two subject.ctx buffer)
+case_of subject (refusal.Held buffer) = (0, one buffer)
+case_of subject refusal.TicketsOut = (0, no_numbers)
+case_of subject refusal.Already = (0, two subject.ctx subject.buffer)
+
+-- the words, with '%' in place of each number, and the numbers
+abbrev pub said_of_refusal : Subject → Refusal → List ℕ × List ℕ
+said_of_refusal subject refused = (sentence_at (number_of_refusal refused) (case_of subject refused).0, (case_of subject refused).1)

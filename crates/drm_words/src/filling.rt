@@ -8,6 +8,9 @@ use drm_engine::{Piece, WriteFailed};
 use drm_stream::Sink;
 use std::io::Write;
 
+/// The numbers of a sentence, of which none has more than three: zeros stand behind the last.
+pub(crate) type Numbers = [u64; 3];
+
 // Puts a number.
 fn put_number<W: Write>(
     piece: &mut Piece,

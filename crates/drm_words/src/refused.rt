@@ -1,240 +1,116 @@
-//! What is said of refusals.
+//! What is said of refusals: a sentence of the table of numbers, and the numbers in it.
 
-ghost use Rattle.std.specs.Prelude.{◌++◌};
-ghost use Rattle.drm_engine.specs.Replaying.{Told};
-ghost use Rattle.drm_words.specs.Refused.{sentence_of_fault, sentence_of_idle, sentence_of_list, sentence_of_refusal, sentence_of_stopped};
+ghost use Rattle.std.specs.Prelude.{◌≡◌};
+ghost use Rattle.drm_answer.specs.Answers.{number_of_list, numbers_of_fault};
+ghost use Rattle.drm_words.specs.Refused.{case_of, case_of_fault, first_number, idle_case, number_of_refusal, said_of_refusal, stopped_case};
 
-use crate::filling::put_filled;
+use crate::filling::Numbers;
 use crate::subject::Subject;
 use drm_core::Refusal;
-use drm_engine::{Piece, WriteFailed};
+use drm_explain::sentence;
 use drm_job::{DraftList, JobFault};
-use drm_stream::Sink;
 use drm_text::Command;
-use std::io::Write;
 
-// What is said of some refusals, with `%` in place of each number.
-const NO_FENCE: &[u8] = b"fence % belongs to no job that was armed yet";
+// The number of a refusal, which of the sentences in its row is said of it, counted from 0, and the numbers in that.
+type Choice = (u32, usize, Numbers);
 
-const FULL: &[u8] = b"the device has taken as many jobs as its header allows";
-
-const NO_CREDIT: &[u8] = b"the next job of ring % needs % credits, and the ring has %";
-
-const NOT_COMPLETE: &[u8] = b"the first job of ring % has packets to run";
-
-const WAITS: &[u8] = b"the first queued job of entity % waits for a job that has not ended";
-
-const NOTHING: &[u8] = b"entity % is not stopped, or has no queued job";
-
-const BUSY: &[u8] = b"buffer % is still written by fence %";
-
-const PACKET_OUT: &[u8] = b"a packet is out, and has to be reported first";
-
-const NOT_HELD: &[u8] = b"context % does not hold buffer %";
-
-const NOT_ALL_HELD: &[u8] = b"context % does not hold all buffers that the job declares";
-
-const SEALED: &[u8] = b"context % is sealed: it has taken its last lock";
-
-const STILL_HOLDS: &[u8] = b"context % still holds buffer %";
-
-const HELD: &[u8] = b"a context holds buffer %, which the job declares";
-
-// What a job has too many of.
-fn put_list<W: Write>(
-    piece: &mut Piece,
-    writer: &mut Sink<W>,
-    list: DraftList,
-) -> Result<(), WriteFailed>
-    ensures { Told writer.old writer.new result (piece.old ++ sentence_of_list list) piece.new }
+// Which sentence is said of a list that has too many words.
+fn list_case(list: DraftList) -> usize
+    ensures { result ≡ number_of_list list }
 {
     match list {
-        DraftList::Declared => put_filled(
-            piece,
-            writer,
-            b"the job declares too many buffers: at most 16",
-            &[],
-        ),
-        DraftList::After => put_filled(
-            piece,
-            writer,
-            b"the job names too many fences: at most 16",
-            &[],
-        ),
-        DraftList::Packets => put_filled(
-            piece,
-            writer,
-            b"the job has too many packets: at most 64",
-            &[],
-        ),
+        DraftList::Declared => 0,
+        DraftList::After => 1,
+        DraftList::Packets => 2,
     }
 }
 
 // Why a job is none of the device.
-fn put_fault<W: Write>(
-    piece: &mut Piece,
-    writer: &mut Sink<W>,
-    subject: Subject,
-    fault: JobFault,
-) -> Result<(), WriteFailed>
-    ensures { Told writer.old writer.new result (piece.old ++ sentence_of_fault subject fault) piece.new }
+fn choice_of_fault(subject: Subject, fault: JobFault) -> Choice
+    ensures number { result.0 ≡ first_number (numbers_of_fault fault) }
+    ensures case { case_of_fault subject fault ≡ (result.1, result.2) }
 {
     let entity = u64::from(subject.entity);
     match fault {
-        JobFault::NoEntity => put_filled(piece, writer, b"entity % is not there", &[entity]),
-        JobFault::NoCredits => put_filled(
-            piece,
-            writer,
-            b"the job counts no credits: at least 1",
-            &[],
-        ),
-        JobFault::TooMany { what } => put_list(piece, writer, what),
-        JobFault::NoBuffer { buffer } => put_filled(
-            piece,
-            writer,
-            b"the job declares buffer %, which is not there",
-            &[u64::from(buffer.number())],
-        ),
-        JobFault::DeclaredTwice { buffer } => put_filled(
-            piece,
-            writer,
-            b"the job declares buffer % twice",
-            &[u64::from(buffer.number())],
-        ),
-        JobFault::MoveNotKernel { buffer } => put_filled(
-            piece,
-            writer,
-            b"the job moves buffer %, and entity % has no kernel priority",
-            &[u64::from(buffer.number()), entity],
-        ),
-        JobFault::PacketUndeclared { packet } => put_filled(
-            piece,
-            writer,
-            b"packet % touches a buffer that the job does not declare",
-            &[u64::from(packet)],
-        ),
-        JobFault::PacketOnHold { packet } => put_filled(
-            piece,
-            writer,
-            b"packet % touches a buffer that the job only holds",
-            &[u64::from(packet)],
-        ),
-        JobFault::PacketReadOnly { packet } => put_filled(
-            piece,
-            writer,
-            b"packet % writes a buffer that the job only reads",
-            &[u64::from(packet)],
-        ),
-        JobFault::PacketRange { packet } => put_filled(
-            piece,
-            writer,
-            b"a range of packet % is empty or leaves its buffer",
-            &[u64::from(packet)],
-        ),
+        JobFault::NoEntity => (10, 0, [entity, 0, 0]),
+        JobFault::NoCredits => (11, 0, [0, 0, 0]),
+        JobFault::TooMany { what } => (13, list_case(what), [0, 0, 0]),
+        JobFault::NoBuffer { buffer } => (14, 0, [u64::from(buffer.number()), 0, 0]),
+        JobFault::DeclaredTwice { buffer } => (15, 0, [u64::from(buffer.number()), 0, 0]),
+        JobFault::MoveNotKernel { buffer } => (19, 0, [u64::from(buffer.number()), entity, 0]),
+        JobFault::PacketUndeclared { packet } => (16, 0, [u64::from(packet), 0, 0]),
+        JobFault::PacketOnHold { packet } => (21, 0, [u64::from(packet), 0, 0]),
+        JobFault::PacketReadOnly { packet } => (17, 0, [u64::from(packet), 0, 0]),
+        JobFault::PacketRange { packet } => (18, 0, [u64::from(packet), 0, 0]),
     }
 }
 
-// What the command looked for on its ring, where that has nothing to do.
-fn put_idle<W: Write>(
-    piece: &mut Piece,
-    writer: &mut Sink<W>,
-    subject: Subject,
-) -> Result<(), WriteFailed>
-    ensures { Told writer.old writer.new result (piece.old ++ sentence_of_idle subject.command subject) piece.new }
+// Which sentence is said of a ring that has nothing to do: what the command looked for there.
+fn idle_case(command: Command) -> usize
+    ensures { result ≡ idle_case command }
 {
-    let ring = u64::from(subject.ring);
-    match subject.command {
-        Command::Pick => put_filled(piece, writer, b"no ready job waits for ring %", &[ring]),
-        Command::Step => put_filled(piece, writer, b"ring % has no packet to run", &[ring]),
-        _ => put_filled(piece, writer, b"ring % has no job to finish", &[ring]),
+    match command {
+        Command::Pick => 0,
+        Command::Step => 1,
+        _ => 2,
     }
 }
 
-// That the entity of a job is stopped, which a planned job has named before.
-fn put_stopped<W: Write>(
-    piece: &mut Piece,
-    writer: &mut Sink<W>,
-    subject: Subject,
-) -> Result<(), WriteFailed>
-    ensures { Told writer.old writer.new result (piece.old ++ sentence_of_stopped subject.command subject) piece.new }
+// Which sentence is said where the entity of a job is stopped, which a planned job has named before, and the number in it.
+fn stopped_case(subject: Subject) -> (usize, Numbers)
+    ensures { stopped_case subject.command subject ≡ (result.0, result.1) }
 {
+    let ctx = u64::from(subject.ctx);
+    let entity = u64::from(subject.entity);
     match subject.command {
-        Command::Arm => put_filled(
-            piece,
-            writer,
-            b"the entity of the job that context % has planned was cancelled, and takes no more jobs",
-            &[u64::from(subject.ctx)],
-        ),
-        _ => put_filled(
-            piece,
-            writer,
-            b"entity % was cancelled, and takes no more jobs",
-            &[u64::from(subject.entity)],
-        ),
+        Command::Arm => (1, [ctx, 0, 0]),
+        _ => (0, [entity, 0, 0]),
     }
 }
 
-/// Puts why a command was refused.
-pub(crate) fn put_refusal<W: Write>(
-    piece: &mut Piece,
-    writer: &mut Sink<W>,
-    subject: Subject,
-    refusal: Refusal,
-) -> Result<(), WriteFailed>
-    ensures { Told writer.old writer.new result (piece.old ++ sentence_of_refusal subject refusal) piece.new }
+// Why a command was refused.
+fn choice_of(subject: Subject, refusal: Refusal) -> Choice
+    ensures number { result.0 ≡ number_of_refusal refusal }
+    ensures case { case_of subject refusal ≡ (result.1, result.2) }
 {
     let ctx = u64::from(subject.ctx);
     let ring = u64::from(subject.ring);
     let entity = u64::from(subject.entity);
     let named = u64::from(subject.buffer);
     match refusal {
-        Refusal::Faulty(fault) => put_fault(piece, writer, subject, fault),
-        Refusal::Memory => put_filled(piece, writer, b"memory was refused to the command", &[]),
-        Refusal::NoFence { fence } => put_filled(piece, writer, NO_FENCE, &[u64::from(fence)]),
-        Refusal::Stopped => put_stopped(piece, writer, subject),
-        Refusal::Full => put_filled(piece, writer, FULL, &[]),
-        Refusal::Idle => put_idle(piece, writer, subject),
-        Refusal::NoCredit { need, free } => put_filled(
-            piece,
-            writer,
-            NO_CREDIT,
-            &[ring, u64::from(need), u64::from(free)],
-        ),
-        Refusal::NotComplete => put_filled(piece, writer, NOT_COMPLETE, &[ring]),
-        Refusal::AlreadyStopped => put_filled(
-            piece,
-            writer,
-            b"entity % was cancelled before",
-            &[entity],
-        ),
-        Refusal::Waits => put_filled(piece, writer, WAITS, &[entity]),
-        Refusal::Nothing => put_filled(piece, writer, NOTHING, &[entity]),
-        Refusal::Busy { fence } => put_filled(piece, writer, BUSY, &[named, u64::from(fence)]),
-        Refusal::PacketOut => put_filled(piece, writer, PACKET_OUT, &[]),
-        Refusal::CtxBusy => put_filled(piece, writer, b"context % has begun already", &[ctx]),
-        Refusal::CtxIdle => put_filled(piece, writer, b"context % has not begun", &[ctx]),
-        Refusal::NotHeld { buffer } => put_filled(
-            piece,
-            writer,
-            NOT_HELD,
-            &[ctx, u64::from(buffer.number())],
-        ),
-        Refusal::NotAllHeld => put_filled(piece, writer, NOT_ALL_HELD, &[ctx]),
-        Refusal::NotPlanned => put_filled(piece, writer, b"context % has no plan", &[ctx]),
-        Refusal::Sealed => put_filled(piece, writer, SEALED, &[ctx]),
-        Refusal::StillHolds { buffer } => put_filled(
-            piece,
-            writer,
-            STILL_HOLDS,
-            &[ctx, u64::from(buffer.number())],
-        ),
-        Refusal::Held { buffer } => put_filled(piece, writer, HELD, &[u64::from(buffer.number())]),
-        Refusal::TicketsOut => put_filled(piece, writer, b"no tickets are left", &[]),
-        Refusal::Already => put_filled(
-            piece,
-            writer,
-            b"context % holds buffer % already",
-            &[ctx, named],
-        ),
+        Refusal::Faulty(fault) => choice_of_fault(subject, fault),
+        Refusal::Memory => (12, 0, [0, 0, 0]),
+        Refusal::NoFence { fence } => (20, 0, [u64::from(fence), 0, 0]),
+        Refusal::Stopped => {
+            let stopped = stopped_case(subject);
+            (30, stopped.0, stopped.1)
+        }
+        Refusal::Full => (31, 0, [0, 0, 0]),
+        Refusal::Idle => (40, idle_case(subject.command), [ring, 0, 0]),
+        Refusal::NoCredit { need, free } => (41, 0, [ring, u64::from(need), u64::from(free)]),
+        Refusal::NotComplete => (42, 0, [ring, 0, 0]),
+        Refusal::AlreadyStopped => (43, 0, [entity, 0, 0]),
+        Refusal::Waits => (44, 0, [entity, 0, 0]),
+        Refusal::Nothing => (45, 0, [entity, 0, 0]),
+        Refusal::Busy { fence } => (46, 0, [named, u64::from(fence), 0]),
+        Refusal::PacketOut => (47, 0, [0, 0, 0]),
+        Refusal::CtxBusy => (50, 0, [ctx, 0, 0]),
+        Refusal::CtxIdle => (51, 0, [ctx, 0, 0]),
+        Refusal::NotHeld { buffer } => (52, 0, [ctx, u64::from(buffer.number()), 0]),
+        Refusal::NotAllHeld => (53, 0, [ctx, 0, 0]),
+        Refusal::NotPlanned => (54, 0, [ctx, 0, 0]),
+        Refusal::Sealed => (55, 0, [ctx, 0, 0]),
+        Refusal::StillHolds { buffer } => (56, 0, [ctx, u64::from(buffer.number()), 0]),
+        Refusal::Held { buffer } => (57, 0, [u64::from(buffer.number()), 0, 0]),
+        Refusal::TicketsOut => (60, 0, [0, 0, 0]),
+        Refusal::Already => (114, 0, [ctx, named, 0]),
     }
+}
+
+/// What is said of a refusal.
+pub(crate) fn said_of_refusal(subject: Subject, refusal: Refusal) -> (&'static str, Numbers)
+    ensures { said_of_refusal subject refusal ≡ (result.0.now, result.1) }
+{
+    let choice = choice_of(subject, refusal);
+    (sentence(choice.0, choice.1), choice.2)
 }

@@ -1,15 +1,14 @@
 //! What is said of answers, and their lines with it.
 
-ghost use Rattle.std.specs.Prelude.{◌≡◌, ◌+◌, ◌≤◌, ◌++◌, ◌∷◌, [], ℕ, length};
+ghost use Rattle.std.specs.Prelude.{◌≡◌, ◌+◌, ◌≤◌, ◌++◌, length};
 ghost use Rattle.drm_answer.specs.Answers.{words_of};
 ghost use Rattle.drm_answer.specs.Lines.{line_room};
 ghost use Rattle.drm_engine.specs.Replaying.{Told};
-ghost use Rattle.drm_words.specs.Filling.{filled};
 ghost use Rattle.drm_words.specs.Lines.{worded_line_of};
-ghost use Rattle.drm_words.specs.Sentences.{sentence_of, sentence_of_armed, sentence_of_bytes, sentence_of_finished, sentence_of_ok, sentence_of_picked, sentence_of_status};
+ghost use Rattle.drm_words.specs.Sentences.{said_of, said_of_armed, said_of_bytes, said_of_ok, sentence_of, words_of_finished, words_of_picked, words_of_status};
 
-use crate::filling::put_filled;
-use crate::refused::put_refusal;
+use crate::filling::{Numbers, put_filled};
+use crate::refused::said_of_refusal;
 use crate::subject::Subject;
 use drm_core::Answer;
 use drm_engine::{Piece, WriteFailed};
@@ -18,164 +17,158 @@ use drm_text::Command;
 use drm_types::{FenceId, Outcome};
 use std::io::Write;
 
+// What is said of some answers, with `%` in place of each number.
+const DROPPED: &str = "context % has let go of buffer %, and has no plan";
+
+const CANCELLED: &str =
+    "entity % is stopped: it takes no more jobs, and its queued ones are not picked";
+
+const ARMED_AS_PLANNED: &str =
+    "the job that context % has planned has fence % and waits in the queue of its entity";
+
+const ARMED: &str = "the job has fence % and waits in the queue of entity %";
+
+const SKIPPED: &str = "ring % takes the job of fence %, and runs none of it: its entity is guilty";
+
+const TICKET: &str =
+    "context % has ticket %: of two contexts that with the lower ticket is the older";
+
+const OLDER: &str = "the older ticket % holds buffer %, so context % should back off";
+
+const YOUNGER: &str = "the younger ticket % holds buffer %, so context % may wait and try again";
+
+const PLANNED: &str = "context % may arm its job of entity %, and takes no more locks";
+
+const RAN: &str = "ring % ran packet % of fence %";
+
+const STALLED: &str = "ring % stands still: the next packet of fence % waits for more resets";
+
+const NOT_YET: &str = "the first job of ring % is due in %";
+
+const COMPLETE: &str = "the first job of ring % is due, but has nothing left to run";
+
+const RESUMED: &str = "the first job of ring % hangs: it is reset, and goes on at its next packet";
+
+const GUILTY: &str =
+    "the first job of ring % hangs once too often: entity % is guilty, and its jobs there are skipped";
+
+const REAPED: &str =
+    "the job of fence % leaves the queue of entity %: it is stopped, and never ran";
+
 // What was done: a context sealed, let go or ended, or an entity stopped.
-fn put_ok<W: Write>(
-    piece: &mut Piece,
-    writer: &mut Sink<W>,
-    subject: Subject,
-) -> Result<(), WriteFailed>
-    ensures { Told writer.old writer.new result (piece.old ++ sentence_of_ok subject.command subject) piece.new }
+fn said_of_ok(subject: Subject) -> (&'static str, Numbers)
+    ensures { said_of_ok subject.command subject ≡ (result.0.now, result.1) }
 {
     let ctx = u64::from(subject.ctx);
+    let buffer = u64::from(subject.buffer);
+    let entity = u64::from(subject.entity);
     match subject.command {
-        Command::Done => put_filled(piece, writer, b"context % takes no more locks", &[ctx]),
-        Command::Drop => put_filled(
-            piece,
-            writer,
-            b"context % has let go of buffer %, and has no plan",
-            &[ctx, u64::from(subject.buffer)],
-        ),
-        Command::Cancel => put_filled(
-            piece,
-            writer,
-            b"entity % is stopped: it takes no more jobs, and its queued ones are not picked",
-            &[u64::from(subject.entity)],
-        ),
-        _ => put_filled(piece, writer, b"context % has ended", &[ctx]),
+        Command::Done => ("context % takes no more locks", [ctx, 0, 0]),
+        Command::Drop => (DROPPED, [ctx, buffer, 0]),
+        Command::Cancel => (CANCELLED, [entity, 0, 0]),
+        _ => ("context % has ended", [ctx, 0, 0]),
     }
 }
 
 // A job that was armed at once, or as it was planned.
-fn put_armed<W: Write>(
-    piece: &mut Piece,
-    writer: &mut Sink<W>,
-    subject: Subject,
-    fence: FenceId,
-) -> Result<(), WriteFailed>
-    ensures { Told writer.old writer.new result (piece.old ++ sentence_of_armed subject.command subject fence) piece.new }
+fn said_of_armed(subject: Subject, fence: FenceId) -> (&'static str, Numbers)
+    ensures { said_of_armed subject.command subject fence ≡ (result.0.now, result.1) }
 {
+    let ctx = u64::from(subject.ctx);
+    let entity = u64::from(subject.entity);
+    let armed = u64::from(fence);
     match subject.command {
-        Command::Arm => put_filled(
-            piece,
-            writer,
-            b"the job that context % has planned has fence % and waits in the queue of its entity",
-            &[u64::from(subject.ctx), u64::from(fence)],
-        ),
-        _ => put_filled(
-            piece,
-            writer,
-            b"the job has fence % and waits in the queue of entity %",
-            &[u64::from(fence), u64::from(subject.entity)],
-        ),
+        Command::Arm => (ARMED_AS_PLANNED, [ctx, armed, 0]),
+        _ => (ARMED, [armed, entity, 0]),
     }
 }
 
 // A job that was picked, to be skipped or not.
-fn put_picked<W: Write>(
-    piece: &mut Piece,
-    writer: &mut Sink<W>,
-    subject: Subject,
-    fence: FenceId,
-    skipped: bool,
-) -> Result<(), WriteFailed>
-    ensures { Told writer.old writer.new result (piece.old ++ sentence_of_picked subject fence skipped) piece.new }
+fn words_of_picked(skipped: bool) -> &'static str
+    ensures { result.now ≡ words_of_picked skipped }
 {
-    let numbers = [u64::from(subject.ring), u64::from(fence)];
     if skipped {
-        put_filled(
-            piece,
-            writer,
-            b"ring % takes the job of fence %, and runs none of it: its entity is guilty",
-            &numbers,
-        )
+        SKIPPED
     } else {
-        put_filled(piece, writer, b"ring % takes the job of fence %", &numbers)
+        "ring % takes the job of fence %"
     }
 }
 
 // A job that left its ring.
-fn put_finished<W: Write>(
-    piece: &mut Piece,
-    writer: &mut Sink<W>,
-    subject: Subject,
-    fence: FenceId,
-    outcome: Outcome,
-) -> Result<(), WriteFailed>
-    ensures { Told writer.old writer.new result (piece.old ++ sentence_of_finished subject fence outcome) piece.new }
+fn words_of_finished(outcome: Outcome) -> &'static str
+    ensures { result.now ≡ words_of_finished outcome }
 {
-    let numbers = [u64::from(fence), u64::from(subject.ring)];
     match outcome {
-        Outcome::Good => put_filled(
-            piece,
-            writer,
-            b"fence % has ended: its job is done, and leaves ring %",
-            &numbers,
-        ),
-        Outcome::Cancelled => put_filled(
-            piece,
-            writer,
-            b"fence % has ended: its job was skipped, and leaves ring %",
-            &numbers,
-        ),
-        Outcome::Stopped => put_filled(
-            piece,
-            writer,
-            b"fence % has ended: its job was stopped, and leaves ring %",
-            &numbers,
-        ),
+        Outcome::Good => "fence % has ended: its job is done, and leaves ring %",
+        Outcome::Cancelled => "fence % has ended: its job was skipped, and leaves ring %",
+        Outcome::Stopped => "fence % has ended: its job was stopped, and leaves ring %",
     }
 }
 
 // Bytes that were read under a lock, or with none.
-fn put_read<W: Write>(
-    piece: &mut Piece,
-    writer: &mut Sink<W>,
-    subject: Subject,
-) -> Result<(), WriteFailed>
-    ensures { Told writer.old writer.new result (piece.old ++ sentence_of_bytes subject.command subject) piece.new }
+fn said_of_bytes(subject: Subject) -> (&'static str, Numbers)
+    ensures { said_of_bytes subject.command subject ≡ (result.0.now, result.1) }
 {
+    let ctx = u64::from(subject.ctx);
     let buffer = u64::from(subject.buffer);
     match subject.command {
-        Command::Read => put_filled(
-            piece,
-            writer,
-            b"context % reads buffer %: all that write it have ended",
-            &[u64::from(subject.ctx), buffer],
+        Command::Read => (
+            "context % reads buffer %: all that write it have ended",
+            [ctx, buffer, 0],
         ),
-        _ => put_filled(
-            piece,
-            writer,
-            b"what buffer % holds now, read with no lock",
-            &[buffer],
-        ),
-    }
-}
-
-// What is said of a fence that is so far, with `%` in place of its number.
-fn words_of_status(status: i32) -> &'static [u8]
-    ensures { (fence : ℕ) → filled result.now (fence ∷ []) ≡ sentence_of_status fence status }
-{
-    if status == 0 {
-        b"fence % is active: its job has not ended"
-    } else if status == 1 {
-        b"fence % has ended: its job is done"
-    } else if status == -3 {
-        b"fence % has ended: its job was stopped before it ran"
-    } else {
-        b"fence % has ended: its job was cancelled"
+        _ => ("what buffer % holds now, read with no lock", [buffer, 0, 0]),
     }
 }
 
 // How far a fence is.
-fn put_status<W: Write>(
-    piece: &mut Piece,
-    writer: &mut Sink<W>,
-    fence: FenceId,
-    status: i32,
-) -> Result<(), WriteFailed>
-    ensures { Told writer.old writer.new result (piece.old ++ sentence_of_status fence status) piece.new }
+fn words_of_status(status: i32) -> &'static str
+    ensures { result.now ≡ words_of_status status }
 {
-    put_filled(piece, writer, words_of_status(status), &[u64::from(fence)])
+    if status == 0 {
+        "fence % is active: its job has not ended"
+    } else if status == 1 {
+        "fence % has ended: its job is done"
+    } else if status == -3 {
+        "fence % has ended: its job was stopped before it ran"
+    } else {
+        "fence % has ended: its job was cancelled"
+    }
+}
+
+// What an answer means to the command that it answers: words with `%` in place of each number, and the numbers of both.
+fn said(subject: Subject, answer: &Answer) -> (&'static str, Numbers)
+    ensures { said_of subject answer.now ≡ (result.0.now, result.1) }
+{
+    let ctx = u64::from(subject.ctx);
+    let buffer = u64::from(subject.buffer);
+    let ring = u64::from(subject.ring);
+    let entity = u64::from(subject.entity);
+    match answer {
+        Answer::Refused(refusal) => said_of_refusal(subject, *refusal),
+        Answer::Ok => said_of_ok(subject),
+        Answer::Armed { fence } => said_of_armed(subject, *fence),
+        Answer::Ticket { ticket } => (TICKET, [ctx, *ticket, 0]),
+        Answer::Held => ("context % holds buffer % now", [ctx, buffer, 0]),
+        Answer::Older { holder } => (OLDER, [*holder, buffer, ctx]),
+        Answer::Younger { holder } => (YOUNGER, [*holder, buffer, ctx]),
+        Answer::Planned => (PLANNED, [ctx, entity, 0]),
+        Answer::Picked { fence, skipped } => {
+            (words_of_picked(*skipped), [ring, u64::from(*fence), 0])
+        }
+        Answer::Ran { fence, packet } => (RAN, [ring, u64::from(*packet), u64::from(*fence)]),
+        Answer::Stalled { fence } => (STALLED, [ring, u64::from(*fence), 0]),
+        Answer::Finished { fence, outcome } => {
+            (words_of_finished(*outcome), [u64::from(*fence), ring, 0])
+        }
+        Answer::Empty => ("ring % has no job", [ring, 0, 0]),
+        Answer::NotYet { due_in } => (NOT_YET, [ring, *due_in, 0]),
+        Answer::Complete => (COMPLETE, [ring, 0, 0]),
+        Answer::Resumed => (RESUMED, [ring, 0, 0]),
+        Answer::Guilty { entity } => (GUILTY, [ring, u64::from(*entity), 0]),
+        Answer::Reaped { fence } => (REAPED, [u64::from(*fence), entity, 0]),
+        Answer::Bytes { .. } => said_of_bytes(subject),
+        Answer::Status { status } => (words_of_status(*status), [u64::from(subject.fence), 0, 0]),
+    }
 }
 
 /// Puts what an answer means to the command that it answers, with the numbers of both. It has no line end.
@@ -187,96 +180,8 @@ pub fn put_sentence<W: Write>(
 ) -> Result<(), WriteFailed>
     ensures { Told writer.old writer.new result (piece.old ++ sentence_of subject answer.now) piece.new }
 {
-    let ctx = u64::from(subject.ctx);
-    let buffer = u64::from(subject.buffer);
-    let ring = u64::from(subject.ring);
-    let entity = u64::from(subject.entity);
-    match answer {
-        Answer::Refused(refusal) => put_refusal(piece, writer, subject, *refusal),
-        Answer::Ok => put_ok(piece, writer, subject),
-        Answer::Armed { fence } => put_armed(piece, writer, subject, *fence),
-        Answer::Ticket { ticket } => put_filled(
-            piece,
-            writer,
-            b"context % has ticket %: of two contexts that with the lower ticket is the older",
-            &[ctx, *ticket],
-        ),
-        Answer::Held => put_filled(
-            piece,
-            writer,
-            b"context % holds buffer % now",
-            &[ctx, buffer],
-        ),
-        Answer::Older { holder } => put_filled(
-            piece,
-            writer,
-            b"the older ticket % holds buffer %, so context % should back off",
-            &[*holder, buffer, ctx],
-        ),
-        Answer::Younger { holder } => put_filled(
-            piece,
-            writer,
-            b"the younger ticket % holds buffer %, so context % may wait and try again",
-            &[*holder, buffer, ctx],
-        ),
-        Answer::Planned => put_filled(
-            piece,
-            writer,
-            b"context % may arm its job of entity %, and takes no more locks",
-            &[ctx, entity],
-        ),
-        Answer::Picked { fence, skipped } => put_picked(piece, writer, subject, *fence, *skipped),
-        Answer::Ran { fence, packet } => put_filled(
-            piece,
-            writer,
-            b"ring % ran packet % of fence %",
-            &[ring, u64::from(*packet), u64::from(*fence)],
-        ),
-        Answer::Stalled { fence } => put_filled(
-            piece,
-            writer,
-            b"ring % stands still: the next packet of fence % waits for more resets",
-            &[ring, u64::from(*fence)],
-        ),
-        Answer::Finished { fence, outcome } => put_finished(
-            piece, writer, subject, *fence, *outcome,
-        ),
-        Answer::Empty => put_filled(piece, writer, b"ring % has no job", &[ring]),
-        Answer::NotYet { due_in } => {
-            put_filled(
-                piece,
-                writer,
-                b"the first job of ring % is due in %",
-                &[ring, *due_in],
-            )
-        }
-        Answer::Complete => put_filled(
-            piece,
-            writer,
-            b"the first job of ring % is due, but has nothing left to run",
-            &[ring],
-        ),
-        Answer::Resumed => put_filled(
-            piece,
-            writer,
-            b"the first job of ring % hangs: it is reset, and goes on at its next packet",
-            &[ring],
-        ),
-        Answer::Guilty { entity } => put_filled(
-            piece,
-            writer,
-            b"the first job of ring % hangs once too often: entity % is guilty, and its jobs there are skipped",
-            &[ring, u64::from(*entity)],
-        ),
-        Answer::Reaped { fence } => put_filled(
-            piece,
-            writer,
-            b"the job of fence % leaves the queue of entity %: it is stopped, and never ran",
-            &[u64::from(*fence), entity],
-        ),
-        Answer::Bytes { .. } => put_read(piece, writer, subject),
-        Answer::Status { status } => put_status(piece, writer, subject.fence, *status),
-    }
+    let told = said(subject, answer);
+    put_filled(piece, writer, told.0.as_bytes(), &told.1)
 }
 
 // Puts the line of an answer without its end.
