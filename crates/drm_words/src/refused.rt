@@ -82,8 +82,8 @@ fn choice_of(subject: Subject, refusal: Refusal) -> Choice
         Refusal::Memory => (12, 0, [0, 0, 0]),
         Refusal::NoFence { fence } => (20, 0, [u64::from(fence), 0, 0]),
         Refusal::Stopped => {
-            let stopped = stopped_case(subject);
-            (30, stopped.0, stopped.1)
+            let (case, numbers) = stopped_case(subject);
+            (30, case, numbers)
         }
         Refusal::Full => (31, 0, [0, 0, 0]),
         Refusal::Idle => (40, idle_case(subject.command), [ring, 0, 0]),
@@ -111,6 +111,6 @@ fn choice_of(subject: Subject, refusal: Refusal) -> Choice
 pub(crate) fn said_of_refusal(subject: Subject, refusal: Refusal) -> (&'static str, Numbers)
     ensures { said_of_refusal subject refusal ≡ (result.0.now, result.1) }
 {
-    let choice = choice_of(subject, refusal);
-    (sentence(choice.0, choice.1), choice.2)
+    let (number, case, numbers) = choice_of(subject, refusal);
+    (sentence(number, case), numbers)
 }

@@ -181,7 +181,8 @@ pub fn put_sentence<W: Write>(
     ensures { Told writer.old writer.new result (piece.old ++ sentence_of subject answer.now) piece.new }
 {
     let told = said(subject, answer);
-    put_filled(piece, writer, told.0.as_bytes(), &told.1)
+    let numbers = told.1;
+    put_filled(piece, writer, told.0.as_bytes(), &numbers)
 }
 
 // Puts the line of an answer without its end.

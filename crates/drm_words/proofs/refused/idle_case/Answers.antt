@@ -1,6 +1,6 @@
-use Rattle.std.proofs.Common.{sym}
-use Rattle.drm_words.proofs.Otherwise.{idle_otherwise}
+use Rattle.std.proofs.Common.{rules, arith}
+use Rattle.std.proofs.lemmas.Grind.{common_steps}
 use Rattle.drm_words.proofs.refused.idle_case.Goals as goal
 
-pub returns-in_default : goal.returns-in_default
-returns-in_default c = sym (idle_otherwise c.args.command c.in_default.not-Pick c.in_default.not-Step)
+pub returns-in-Step : goal.returns-in-Step
+returns-in-Step c = first_of (search rules, grind (arith, common_steps))
