@@ -54,7 +54,7 @@ fn endings(rt: HostRuntime) -> Result<(), Fail> {
         (Ending::NoOutput, 4, "output failed"),
     ];
     for (ending, status, told) in &table {
-        try_ending(&rt, rt.alloc(), ending, *status, *status < 2, told)?;
+        try_ending(&rt, rt.alloc(), ending, *status, *status < 2, *told)?;
     }
     Ok(())
 }
