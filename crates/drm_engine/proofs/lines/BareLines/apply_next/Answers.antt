@@ -1,4 +1,3 @@
-use Rattle.std.proofs.Common.{Option}
 use Rattle.drm_engine.proofs.Pieces.{if_any}
 use Rattle.drm_engine.proofs.lines.BareLines.apply_next.Goals as goal
 
