@@ -1,10 +1,10 @@
 -- The rows of the table.
-use Rattle.std.specs.Prelude.{ℕ, List, [], ◌==◌, Option, find, map, slice_get}
+use Rattle.std.specs.Prelude.{ℕ, List, [], ◌++◌, ◌==◌, Option, find, map, slice_get}
 use Rattle.std.specs.Borrow.{Bor}
 use Rattle.std.specs.Fmt.{decimal}
 use Rattle.std.specs.Option.{option_map_or}
 use Rattle.std.specs.Str.{bytes_eq}
-use Rattle.drm_explain.specs.declared.table.TheConstants.{ROWS}
+use Rattle.drm_explain.specs.declared.table.TheConstants.{CONTEXTS, DEVICES, JOBS, TEXTS}
 
 -- a row: its number, how it is written, what is said of an answer with it in each of its cases, how one gets there, what to
 -- do, what the kernel has in its place, and further lines
@@ -17,9 +17,12 @@ pub record Row : Type 0 where
   pub kernel : List ℕ
   pub details : List ℕ
 
--- those of the table
-unfoldable pub rows : List Row
-rows = map (λ row. record {
+-- a row as a constant has it
+abbrev pub Kept : Type 0
+Kept = ℕ × record { now : List ℕ } × record { now : List (record { now : List ℕ }) } × record { now : List ℕ } × record { now : List ℕ } × record { now : List ℕ } × record { now : List ℕ }
+
+abbrev pub by_texts : Kept → Row
+by_texts row = record {
   number = row.0;
   form = row.1.now;
   sentences = map (λ s. s.now) row.2.now;
@@ -27,10 +30,30 @@ rows = map (λ row. record {
   remedy = row.4.now;
   kernel = row.5.now;
   details = row.6.now;
-}) ROWS
+}
+
+-- the four parts of the table
+unfoldable pub job_rows : List Row
+job_rows = map by_texts JOBS
+
+unfoldable pub device_rows : List Row
+device_rows = map by_texts DEVICES
+
+unfoldable pub context_rows : List Row
+context_rows = map by_texts CONTEXTS
+
+unfoldable pub text_rows : List Row
+text_rows = map by_texts TEXTS
+
+-- all rows
+unfoldable pub rows : List Row
+rows = (job_rows ++ device_rows) ++ (context_rows ++ text_rows)
 
 -- a row as code hands it on
-abbrev pub told : (ℕ × Bor (List ℕ) × Bor (List (Bor (List ℕ))) × Bor (List ℕ) × Bor (List ℕ) × Bor (List ℕ) × Bor (List ℕ)) → Row
+abbrev pub Held : Type 0
+Held = ℕ × Bor (List ℕ) × Bor (List (Bor (List ℕ))) × Bor (List ℕ) × Bor (List ℕ) × Bor (List ℕ) × Bor (List ℕ)
+
+abbrev pub told : Held → Row
 told row = record {
   number = row.0;
   form = row.1.now;

@@ -6,7 +6,7 @@ ghost use Rattle.std.specs.Str.{bytes_eq};
 ghost use Rattle.drm_explain.specs.Numbers.{is_in, numbers};
 ghost use Rattle.drm_explain.specs.Rows.{row_of, row_spelled, sentence_at, sentence_in, told};
 
-use crate::table::{ROWS, Row};
+use crate::table::{Row, of_contexts, of_devices, of_jobs, of_texts};
 
 // The row of a number in a table.
 fn numbered(mut table: &[Row], number: u32) -> Option<Row>
@@ -35,20 +35,26 @@ fn spelled(mut table: &[Row], word: &str) -> Option<Row>
 }
 
 /// The row of a number.
-#[tactic(auto, using(crate::proofs::Rows::row_known), unfolding(crate::specs::Rows::row_of, crate::specs::Rows::rows))]
 pub fn explain(number: u32) -> Option<Row>
     ensures row { option_map told result ≡ row_of number }
     ensures known { is_some result ≡ is_in numbers number }
 {
-    numbered(&ROWS, number)
+    let jobs = numbered(of_jobs(), number);
+    let devices = numbered(of_devices(), number);
+    let contexts = numbered(of_contexts(), number);
+    let texts = numbered(of_texts(), number);
+    jobs.or(devices).or(contexts.or(texts))
 }
 
 /// The row of the number that a word spells in decimal digits, with no sign and no leading zero.
-#[tactic(auto, unfolding(crate::specs::Rows::row_spelled, crate::specs::Rows::rows))]
 pub fn explain_word(word: &str) -> Option<Row>
     ensures { option_map told result ≡ row_spelled word.now }
 {
-    spelled(&ROWS, word)
+    let jobs = spelled(of_jobs(), word);
+    let devices = spelled(of_devices(), word);
+    let contexts = spelled(of_contexts(), word);
+    let texts = spelled(of_texts(), word);
+    jobs.or(devices).or(contexts.or(texts))
 }
 
 // The sentence at this place of some, or nothing.

@@ -1,4 +1,10 @@
-//! The table: a row for each number of a refusal and of a fault.
+//! The table: a row for each number of a refusal and of a fault, in the order of the numbers.
+//!
+//! It stands in four parts, and each is lent by a function of its own: what is proved of a function grows with the square of
+//! the constants that it borrows.
+
+ghost use Rattle.std.specs.Prelude.{◌≡◌, map};
+ghost use Rattle.drm_explain.specs.Rows.{context_rows, device_rows, job_rows, text_rows, told};
 
 /// A row of the table, part by part: the number; how it is written where it is met, with the letters of its fields; what is
 /// said of an answer with it, with `%` in place of each number, once for each case that is told apart; how one gets there;
@@ -13,8 +19,8 @@ pub type Row = (
     &'static str,
 );
 
-/// The rows, in the order of their numbers.
-pub(crate) static ROWS: [Row; 45] = [
+// The rows of a header, and of a job and what it declares.
+static JOBS: [Row; 13] = [
     (
         1,
         "refused 1 P I",
@@ -144,6 +150,10 @@ pub(crate) static ROWS: [Row; 45] = [
         "a driver that checks command streams, since its device has no address space for each process (vc4, radeon): -EINVAL",
         "",
     ),
+];
+
+// The rows of what a device takes, of rings, entities and readbacks.
+static DEVICES: [Row; 11] = [
     (
         30,
         "refused 30",
@@ -250,6 +260,10 @@ pub(crate) static ROWS: [Row; 45] = [
         "dma_fence_wait on the hardware fence, which ends when the packet comes back",
         "",
     ),
+];
+
+// The rows of contexts, of tickets and of a run by threads.
+static CONTEXTS: [Row; 12] = [
     (
         50,
         "refused 50",
@@ -358,6 +372,10 @@ pub(crate) static ROWS: [Row; 45] = [
         "drm_sched_init: -ENOMEM where it gets no workqueue",
         "",
     ),
+];
+
+// The rows of texts, and of a lock that is held already.
+static TEXTS: [Row; 9] = [
     (
         70,
         "fault 70",
@@ -440,3 +458,35 @@ pub(crate) static ROWS: [Row; 45] = [
         "",
     ),
 ];
+
+/// The rows of a header, and of a job and what it declares.
+#[tactic(auto, unfolding(crate::specs::Rows::job_rows))]
+pub(crate) fn of_jobs() -> &'static [Row]
+    ensures { map told result.now ≡ job_rows }
+{
+    &JOBS
+}
+
+/// The rows of what a device takes, of rings, entities and readbacks.
+#[tactic(auto, unfolding(crate::specs::Rows::device_rows))]
+pub(crate) fn of_devices() -> &'static [Row]
+    ensures { map told result.now ≡ device_rows }
+{
+    &DEVICES
+}
+
+/// The rows of contexts, of tickets and of a run by threads.
+#[tactic(auto, unfolding(crate::specs::Rows::context_rows))]
+pub(crate) fn of_contexts() -> &'static [Row]
+    ensures { map told result.now ≡ context_rows }
+{
+    &CONTEXTS
+}
+
+/// The rows of texts, and of a lock that is held already.
+#[tactic(auto, unfolding(crate::specs::Rows::text_rows))]
+pub(crate) fn of_texts() -> &'static [Row]
+    ensures { map told result.now ≡ text_rows }
+{
+    &TEXTS
+}

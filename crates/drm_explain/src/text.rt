@@ -5,7 +5,7 @@ ghost use Rattle.drm_explain.specs.Numbers.{numbers};
 ghost use Rattle.drm_explain.specs.Rows.{rows, told};
 ghost use Rattle.drm_explain.specs.Texts.{line_of, text_of};
 
-use crate::table::{ROWS, Row};
+use crate::table::{Row, of_contexts, of_devices, of_jobs, of_texts};
 use std::alloc::{AllocError, Global};
 
 // Puts a title, a text and a line end behind a text.
@@ -40,22 +40,25 @@ fn put_row(text: &mut Vec<u8>, row: &Row) -> Result<(), AllocError>
     put_line(text, ": ", meaning)
 }
 
-// One line for each row of a table.
-fn list_of(alloc: Global, table: &[Row]) -> Result<Vec<u8>, AllocError>
-    ensures { IfOk result (λ text. text.items ≡ flat_map line_of (map told table.entry.now)) }
+// Puts one line for each row of a table behind a text.
+fn put_rows(text: &mut Vec<u8>, table: &[Row]) -> Result<(), AllocError>
+    ensures { OnOk result (text.new.items ≡ text.old.items ++ flat_map line_of (map told table.entry.now)) }
 {
-    let mut text = Vec::new(alloc);
     for row in table {
-        put_row(&mut text, row)?;
+        put_row(text, row)?;
     }
-    Ok(text)
+    Ok(())
 }
 
 /// One line for each number in ascending order: its form, and how one gets there.
-#[tactic(auto, unfolding(crate::specs::Rows::rows))]
 pub fn list_text(alloc: Global) -> Result<Vec<u8>, AllocError>
     ensures text { IfOk result (λ text. text.items ≡ flat_map line_of rows) }
     ensures numbers { map (λ row. row.number) rows ≡ numbers }
 {
-    list_of(alloc, &ROWS)
+    let mut text = Vec::new(alloc);
+    put_rows(&mut text, of_jobs())?;
+    put_rows(&mut text, of_devices())?;
+    put_rows(&mut text, of_contexts())?;
+    put_rows(&mut text, of_texts())?;
+    Ok(text)
 }
