@@ -4,7 +4,7 @@ use Rattle.std.specs.Io.KnownBytes.{Keeps}
 use Rattle.clap.specs.Words.{IsAmong, Kinds, Text}
 use Rattle.clap.specs.declared.error.kind.ErrorKind.{ErrorKind}
 use Rattle.clap.specs.declared.error.kind.ErrorKind.TheVariants.{OutOfMemory}
-use Rattle.drm_stream.specs.Streams.{NoWriteFailed, SinkState, SourceState}
+use Rattle.drm_stream.specs.Streams.{SinkState, SourceState}
 use Rattle.drm_engine.specs.Engines.{Runs}
 use Rattle.drm_engine.specs.Failures.{EndsBy, TellsWrites}
 use Rattle.drm_engine.specs.declared.engine.Engine.{Engine}
@@ -15,7 +15,7 @@ use Rattle.drm_explain.specs.Telling.{Tells}
 use Rattle.drm_command_line.specs.CommandLine.{IsAsked}
 use Rattle.drm_command_line.specs.declared.command_line.Request.{Request}
 use Rattle.drm_command_line.specs.declared.command_line.Request.TheVariants as request
-use Rattle.drmsim.specs.Statuses.{Does, DrawsBetween, EndsAs, MayHappen, number_of_word}
+use Rattle.drmsim.specs.Statuses.{Does, DrawsBetween, EndsAs, MayHappen}
 
 pub untouched : (bytes : Option (List ℕ)) → Keeps bytes bytes
 untouched None = tt

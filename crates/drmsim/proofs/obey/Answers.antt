@@ -1,6 +1,5 @@
-use Rattle.std.proofs.Common.{◌≡◌, ◌∙◌, ap, map, subst}
+use Rattle.std.proofs.Common.{◌∙◌, ap, map, rules, subst}
 use Rattle.std.specs.String.{string_bytes}
-use Rattle.drm_engine.specs.declared.engine.Engine.{Engine}
 use Rattle.drm_command_line.specs.declared.command_line.Request.{Request}
 use Rattle.drm_command_line.specs.declared.command_line.Request.TheVariants.{ReplayWithWords, Run}
 use Rattle.drmsim.specs.Statuses.{EndsAs, status_of_error}
@@ -8,7 +7,7 @@ use Rattle.drmsim.proofs.Statuses.{ends_without_memory, may_happen, memory_alone
 use Rattle.drmsim.proofs.obey.Goals as goal
 
 pub fulfil-ending-requires : goal.fulfil-ending-requires
-fulfil-ending-requires g c = may_happen (map string_bytes c.args.words.now) c.in-Ok.request c.in-Ok.ensures.named
+fulfil-ending-requires g c = (search rules, may_happen (map string_bytes c.args.words.now) c.in-Ok.request c.in-Ok.ensures.named)
 
 pub returns-in-Ok-clause-commands : goal.returns-in-Ok-clause-commands
 returns-in-Ok-clause-commands g c = λ engine line.
