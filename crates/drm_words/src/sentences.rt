@@ -18,6 +18,33 @@ use drm_text::Command;
 use drm_types::{FenceId, Outcome};
 use std::io::Write;
 
+// What is said of some answers, with `%` in place of each number.
+const TICKET: &[u8] =
+    b"context % has ticket %: of two contexts that with the lower ticket is the older";
+
+const OLDER: &[u8] = b"the older ticket % holds buffer %, so context % should back off";
+
+const YOUNGER: &[u8] = b"the younger ticket % holds buffer %, so context % may wait and try again";
+
+const PLANNED: &[u8] = b"context % may arm its job of entity %, and takes no more locks";
+
+const RAN: &[u8] = b"ring % ran packet % of fence %";
+
+const STALLED: &[u8] = b"ring % stands still: the next packet of fence % waits for more resets";
+
+const NOT_YET: &[u8] = b"the first job of ring % is due in %";
+
+const COMPLETE: &[u8] = b"the first job of ring % is due, but has nothing left to run";
+
+const RESUMED: &[u8] =
+    b"the first job of ring % hangs: it is reset, and goes on at its next packet";
+
+const GUILTY: &[u8] =
+    b"the first job of ring % hangs once too often: entity % is guilty, and its jobs there are skipped";
+
+const REAPED: &[u8] =
+    b"the job of fence % leaves the queue of entity %: it is stopped, and never ran";
+
 // What was done: a context sealed, let go or ended, or an entity stopped.
 fn put_ok<W: Write>(
     piece: &mut Piece,
@@ -195,85 +222,33 @@ pub fn put_sentence<W: Write>(
         Answer::Refused(refusal) => put_refusal(piece, writer, subject, *refusal),
         Answer::Ok => put_ok(piece, writer, subject),
         Answer::Armed { fence } => put_armed(piece, writer, subject, *fence),
-        Answer::Ticket { ticket } => put_filled(
-            piece,
-            writer,
-            b"context % has ticket %: of two contexts that with the lower ticket is the older",
-            &[ctx, *ticket],
-        ),
+        Answer::Ticket { ticket } => put_filled(piece, writer, TICKET, &[ctx, *ticket]),
         Answer::Held => put_filled(
             piece,
             writer,
             b"context % holds buffer % now",
             &[ctx, buffer],
         ),
-        Answer::Older { holder } => put_filled(
-            piece,
-            writer,
-            b"the older ticket % holds buffer %, so context % should back off",
-            &[*holder, buffer, ctx],
-        ),
-        Answer::Younger { holder } => put_filled(
-            piece,
-            writer,
-            b"the younger ticket % holds buffer %, so context % may wait and try again",
-            &[*holder, buffer, ctx],
-        ),
-        Answer::Planned => put_filled(
-            piece,
-            writer,
-            b"context % may arm its job of entity %, and takes no more locks",
-            &[ctx, entity],
-        ),
+        Answer::Older { holder } => put_filled(piece, writer, OLDER, &[*holder, buffer, ctx]),
+        Answer::Younger { holder } => put_filled(piece, writer, YOUNGER, &[*holder, buffer, ctx]),
+        Answer::Planned => put_filled(piece, writer, PLANNED, &[ctx, entity]),
         Answer::Picked { fence, skipped } => put_picked(piece, writer, subject, *fence, *skipped),
         Answer::Ran { fence, packet } => put_filled(
             piece,
             writer,
-            b"ring % ran packet % of fence %",
+            RAN,
             &[ring, u64::from(*packet), u64::from(*fence)],
         ),
-        Answer::Stalled { fence } => put_filled(
-            piece,
-            writer,
-            b"ring % stands still: the next packet of fence % waits for more resets",
-            &[ring, u64::from(*fence)],
-        ),
+        Answer::Stalled { fence } => put_filled(piece, writer, STALLED, &[ring, u64::from(*fence)]),
         Answer::Finished { fence, outcome } => put_finished(
             piece, writer, subject, *fence, *outcome,
         ),
         Answer::Empty => put_filled(piece, writer, b"ring % has no job", &[ring]),
-        Answer::NotYet { due_in } => {
-            put_filled(
-                piece,
-                writer,
-                b"the first job of ring % is due in %",
-                &[ring, *due_in],
-            )
-        }
-        Answer::Complete => put_filled(
-            piece,
-            writer,
-            b"the first job of ring % is due, but has nothing left to run",
-            &[ring],
-        ),
-        Answer::Resumed => put_filled(
-            piece,
-            writer,
-            b"the first job of ring % hangs: it is reset, and goes on at its next packet",
-            &[ring],
-        ),
-        Answer::Guilty { entity } => put_filled(
-            piece,
-            writer,
-            b"the first job of ring % hangs once too often: entity % is guilty, and its jobs there are skipped",
-            &[ring, u64::from(*entity)],
-        ),
-        Answer::Reaped { fence } => put_filled(
-            piece,
-            writer,
-            b"the job of fence % leaves the queue of entity %: it is stopped, and never ran",
-            &[u64::from(*fence), entity],
-        ),
+        Answer::NotYet { due_in } => { put_filled(piece, writer, NOT_YET, &[ring, *due_in]) }
+        Answer::Complete => put_filled(piece, writer, COMPLETE, &[ring]),
+        Answer::Resumed => put_filled(piece, writer, RESUMED, &[ring]),
+        Answer::Guilty { entity } => put_filled(piece, writer, GUILTY, &[ring, u64::from(*entity)]),
+        Answer::Reaped { fence } => put_filled(piece, writer, REAPED, &[u64::from(*fence), entity]),
         Answer::Bytes { .. } => put_read(piece, writer, subject),
         Answer::Status { status } => put_status(piece, writer, subject.fence, *status),
     }
