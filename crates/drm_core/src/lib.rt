@@ -16,6 +16,7 @@ mod locking;
 mod looking;
 mod machine;
 mod names;
+mod outline;
 mod planned;
 mod planning;
 mod submission;
