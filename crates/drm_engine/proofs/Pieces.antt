@@ -7,6 +7,7 @@ use Rattle.std.proofs.Math.Seq.{take-append-add}
 use Rattle.std.proofs.lemmas.Grind.{flat_map-append}
 use Rattle.std.proofs.lemmas.List.{length-append, take-append-le, flat_map_more}
 use Rattle.drm_types.specs.declared.spec.DeviceSpec.{DeviceSpec}
+use Rattle.drm_job.specs.declared.Draft.{Draft}
 use Rattle.drm_state.specs.declared.answer.Answer.{Answer}
 use Rattle.drm_core.specs.declared.event.Event.{Event}
 use Rattle.drm_core.specs.State.{CoreState, opened}
@@ -22,29 +23,29 @@ use Rattle.drm_script.specs.declared.script.Script.{Script}
 use Rattle.drm_engine.specs.Replaying.{AppendsPiece, AreAnswers, IsAnswered, Told, ToldFront, ToldSoFar, Written}
 
 -- whatever run of the rest follows, it makes one of the whole with the answers so far
-abbrev pub GoesOn : CoreState → List Event → List Answer → CoreState → List Event → Type 0
+abbrev pub GoesOn : CoreState → List (Event Draft) → List Answer → CoreState → List (Event Draft) → Type 0
 GoesOn start events so_far now rest = (more : List Answer) (new : CoreState) → Run now rest more new → Run start events (so_far ++ more) new
 
-pub turn : (start now next : CoreState) (events rest : List Event) (so_far : List Answer) (event : Event) (answer : Answer) → Step now event answer next
+pub turn : (start now next : CoreState) (events rest : List (Event Draft)) (so_far : List Answer) (event : Event Draft) (answer : Answer) → Step now event answer next
     → GoesOn start events so_far now (event ∷ rest) → GoesOn start events (so_far ++ answer ∷ []) next rest
 turn start now next events rest so_far event answer step goes_on more new run =
     subst (λ given. Run start events given new) (sym (append_assoc so_far (answer ∷ []) more)) (goes_on (answer ∷ more) new (next, step, run))
 
 -- the same by the first event that is left
-pub turned : (start now next : CoreState) (events rest left : List Event) (so_far : List Answer) (answer : Answer) → AnswersFirst now rest answer next left
+pub turned : (start now next : CoreState) (events rest left : List (Event Draft)) (so_far : List Answer) (answer : Answer) → AnswersFirst now rest answer next left
     → GoesOn start events so_far now rest → GoesOn start events (so_far ++ answer ∷ []) next left
 turned start now next events rest left so_far answer first goes_on =
     turn start now next events left so_far first.0 answer first.2 (subst (GoesOn start events so_far now) first.1 goes_on)
 
 -- a run of some events, and one of those behind them
-run_behind : (start mid new : CoreState) (first rest : List Event) (answers more : List Answer) → Run start first answers mid → Run mid rest more new → Run start (first ++ rest) (answers ++ more) new
+run_behind : (start mid new : CoreState) (first rest : List (Event Draft)) (answers more : List Answer) → Run start first answers mid → Run mid rest more new → Run start (first ++ rest) (answers ++ more) new
 run_behind start mid new [] rest [] more one other = subst (λ (s : CoreState). Run s rest more new) one other
 run_behind start mid new [] rest (answer ∷ answers) more one other = absurd one
 run_behind start mid new (event ∷ first) rest [] more one other = absurd one
 run_behind start mid new (event ∷ first) rest (answer ∷ answers) more one other = (one.0, one.1, run_behind one.0 mid new first rest answers more one.2 other)
 
 -- the same by all events of a chunk
-pub chunk_turned : (start now next : CoreState) (events chunk rest : List Event) (so_far answers : List Answer) → Run now chunk answers next
+pub chunk_turned : (start now next : CoreState) (events chunk rest : List (Event Draft)) (so_far answers : List Answer) → Run now chunk answers next
     → GoesOn start events so_far now (chunk ++ rest) → GoesOn start events (so_far ++ answers) next rest
 chunk_turned start now next events chunk rest so_far answers run goes_on more new behind =
     subst (λ given. Run start events given new) (sym (append_assoc so_far answers more)) (goes_on (answers ++ more) new (run_behind now next new chunk rest answers more run behind))
@@ -54,15 +55,15 @@ pub text_behind : (so_far answers : List Answer) → text_of_answers (so_far ++ 
 text_behind so_far answers = flat_map-append line_of so_far answers
 
 -- all events of a chunk name what is there, and so do those behind it
-pub names_first : (spec : DeviceSpec) (chunk rest : List Event) → AllNamesExist spec (chunk ++ rest) → AllNamesExist spec chunk
+pub names_first : (spec : DeviceSpec) (chunk rest : List (Event Draft)) → AllNamesExist spec (chunk ++ rest) → AllNamesExist spec chunk
 names_first spec [] rest names = tt
 names_first spec (event ∷ chunk) rest names = (names.0, names_first spec chunk rest names.1)
 
-pub names_behind : (old new : DeviceSpec) (chunk rest : List Event) → new ≡ old → AllNamesExist old (chunk ++ rest) → AllNamesExist new rest
+pub names_behind : (old new : DeviceSpec) (chunk rest : List (Event Draft)) → new ≡ old → AllNamesExist old (chunk ++ rest) → AllNamesExist new rest
 names_behind old new [] rest same names = subst (λ spec. AllNamesExist spec rest) (sym same) names
 names_behind old new (event ∷ chunk) rest same names = names_behind old new chunk rest same names.1
 
-pub run_ends : (start now : CoreState) (events rest : List Event) (so_far : List Answer) → rest ≡ [] → GoesOn start events so_far now rest → Run start events so_far now
+pub run_ends : (start now : CoreState) (events rest : List (Event Draft)) (so_far : List Answer) → rest ≡ [] → GoesOn start events so_far now rest → Run start events so_far now
 run_ends start now events [] so_far none goes_on = subst (λ given. Run start events given now) (append-nil so_far) (goes_on [] now refl)
 run_ends start now events (event ∷ rest) so_far none goes_on = absurd (cc)
 
@@ -95,7 +96,7 @@ front_of_more a b text more p =
     (p.0, omega (arith, some, length-append text more), subst (Appends a b) (sym (take-append-le p.0 text more (omega (arith, some)))) p.2)
 
 -- before the first event nothing is answered, and nothing told
-pub nothing_told : (a : SinkState) (start : CoreState) (events rest : List Event) (piece : List ℕ) → rest ≡ events → piece ≡ []
+pub nothing_told : (a : SinkState) (start : CoreState) (events rest : List (Event Draft)) (piece : List ℕ) → rest ≡ events → piece ≡ []
     → (given : List Answer) × GoesOn start events given start rest × ToldSoFar a a (text_of_answers given) piece
 nothing_told a start events rest piece same none =
     ([], (λ more new run. subst (λ es. Run start es more new) same run), (([], Appends-nil a.contents, sym none), refl))
@@ -179,9 +180,9 @@ pub opened_lawful : (spec : DeviceSpec) → EveryRunIsLawful → IsLawful (opene
 opened_lawful spec lawful = (lawful spec [] [] (opened spec) tt refl).0
 
 -- answers to the events of a script by a core that was opened as its device
-pub played : (script : Script) (core final : CoreState) (events : List Event) (Hold : List Answer → Type 0) → EveryRunIsLawful → Headline → core ≡ opened script.spec
+pub played : (script : Script) (core final : CoreState) (events : List (Event Draft)) (Hold : List Answer → Type 0) → EveryRunIsLawful → Headline → core ≡ opened script.spec
     → events ≡ script.lines → AllNamesExist script.spec script.lines → IsAnswered core events final Hold → (answers : List Answer) × AreAnswers script answers × Hold answers
 played script core final events Hold lawful promised core_is events_is names a =
     let run : Run (opened script.spec) script.lines a.0 final =
-    subst (λ (s : CoreState). Run s script.lines a.0 final) core_is (subst (λ (es : List Event). Run core es a.0 final) events_is a.1) in
+    subst (λ (s : CoreState). Run s script.lines a.0 final) core_is (subst (λ (es : List (Event Draft)). Run core es a.0 final) events_is a.1) in
     (a.0, (final, lawful script.spec script.lines a.0 final names run, promised script.spec script.lines a.0 final names run), a.2)

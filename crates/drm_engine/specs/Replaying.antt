@@ -1,6 +1,7 @@
 -- A replay: what is written answers the script that is read.
 use Rattle.std.specs.Prelude.{◌≡◌, ℕ, true, List, ◌++◌, Option, Result, Ok, Err, IfSome}
 use Rattle.std.specs.Io.KnownBytes.{Appends, Keeps}
+use Rattle.drm_job.specs.declared.Draft.{Draft}
 use Rattle.drm_state.specs.declared.answer.Answer.{Answer}
 use Rattle.drm_core.specs.State.{CoreState, opened}
 use Rattle.drm_core.specs.declared.event.Event.{Event}
@@ -33,7 +34,7 @@ Replays input old new ending.NoMemory = Keeps old new
 Replays input old new ending.NoOutput = Answers input (λ answers. AppendsFront old new (text_of_answers answers))
 
 -- the core gives answers to these events, one step after another, of which this holds
-abbrev pub IsAnswered : CoreState → List Event → CoreState → (List Answer → Type 0) → Type 0
+abbrev pub IsAnswered : CoreState → List (Event Draft) → CoreState → (List Answer → Type 0) → Type 0
 IsAnswered start events final Hold = (answers : List Answer) × Run start events answers final × Hold answers
 
 -- the writer gained this text but for its last piece, which is still to be written

@@ -1,5 +1,7 @@
 ghost use Rattle.std.specs.Prelude.{◌≡◌, ◌<◌, ℕ, length, Some, None, IfOk, IfErr, OnOk, MatchResult, map, option_map, slice_get, false};
 ghost use Rattle.std.specs.List.{filter};
+ghost use Rattle.std.specs.Option.{option_map_or};
+ghost use Rattle.drm_types.specs.Firsts.{first};
 ghost use Rattle.drm_types.specs.Limits.{spec_fault};
 ghost use Rattle.drm_buffer.specs.Memory.{bytes_of, sizes_of};
 ghost use Rattle.drm_buffer.specs.Stored.{is_out_of};
@@ -19,9 +21,11 @@ ghost use Rattle.drm_state.specs.Refusals.{arm_refusal, busy_fence};
 ghost use Rattle.drm_state.specs.State.{opened_device};
 ghost use Rattle.drm_sched.specs.Begun.{IsReport, HasReported, KeepsTasks, MayRun, out_or, MayComeBack};
 ghost use Rattle.drm_sched.specs.Calls.{PickIs, StepIs, FinishIs, TimeoutIs, CancelIs, ReapIs, BeginIs, ArmIs, ArmRefused, LacksFence, StatusIs, StaysLawful};
-ghost use Rattle.drm_sched.specs.Marks.{is_in_way, is_out, ring_out, unmarked, IsSteadyMarked};
+ghost use Rattle.drm_sched.specs.Marks.{is_step_blocked, is_out, ring_out, unmarked, IsSteadyMarked};
 ghost use Rattle.drm_state.specs.Steady.{IsSteady};
 ghost use Rattle.drm_state.specs.Records.{fence_state_of};
+ghost use Rattle.drm_state.specs.Choice.{choice, queue_of};
+ghost use Rattle.drm_state.specs.Ring.{current_of, free_credits, is_guilty, is_stopped, pending_of};
 ghost use Rattle.drm_state.specs.Errors.{refusal_of_arm, refusal_of_read};
 
 use crate::outside::Begun;
@@ -37,6 +41,7 @@ use drm_state::{
 use drm_table::{BuildError, Closed, Table};
 use drm_types::{BufferId, DeviceSpec, EntityId, FenceId, Moment, RingId, Sequence};
 use std::alloc::{AllocError, Global};
+use std::collections::VecDeque;
 use std::marker::Model;
 
 /// A device: its memory, its armed jobs, its rings and its entities (`drm_gpu_scheduler`, without the reservations
@@ -125,7 +130,7 @@ impl Device {
         self.parts.begin_step(ring)
     }
 
-    /// Whether the ring has a packet out, which keeps it from a finish and a timeout.
+    /// Whether the ring has a packet out, which blocks a finish and a timeout.
     pub fn has_packet_out(&self, ring: RingId) -> bool
         requires there { ring < length self.now.state.spec.rings }
         ensures { result ≡ ring_out self.now ring }
@@ -133,12 +138,12 @@ impl Device {
         self.parts.has_out(ring)
     }
 
-    /// Whether a packet that is out keeps the ring from a step: its own, or one that has a buffer of its next packet.
-    pub fn is_step_kept(&self, ring: RingId) -> bool
+    /// Whether a packet that is out blocks a step of the ring: its own, or one that has a buffer of its next packet.
+    pub fn is_step_blocked(&self, ring: RingId) -> bool
         requires there { ring < length self.now.state.spec.rings }
-        ensures { result ≡ is_in_way self.now ring }
+        ensures { result ≡ is_step_blocked self.now ring }
     {
-        self.parts.is_in_way(ring)
+        self.parts.is_step_blocked(ring)
     }
 
     /// Whether the buffer is out with a packet.
@@ -370,6 +375,78 @@ impl Device {
         ensures { result ≡ load_of self.now.state.journal ring }
     {
         self.parts.table.load(ring)
+    }
+
+    /// What is known of each armed job, by its number.
+    pub fn records(&self) -> &[JobRecord]
+        ensures { result.now ≡ self.now.state.journal }
+    {
+        self.parts.table.journal.as_slice()
+    }
+
+    /// The numbers of the ring's pending jobs, in their order (`pending_list` of `struct drm_gpu_scheduler`).
+    pub fn pending(&self, ring: RingId) -> &VecDeque<FenceId>
+        requires there { ring < length self.now.state.spec.rings }
+        ensures { result.now.items ≡ pending_of self.now.state ring }
+    {
+        &self.parts.table.rings[ring as usize].pending
+    }
+
+    /// The job that the ring takes next, whether it fits or not (`drm_sched_select_entity`). No dependency is looked at.
+    pub fn choice(&self, ring: RingId) -> Option<FenceId>
+        requires there { ring < length self.now.state.spec.rings }
+        ensures { result ≡ choice self.now.state ring }
+    {
+        let parts = &*self.parts;
+        parts.heads.choice(&parts.table, ring)
+    }
+
+    /// The first job in the queue of the entity (`drm_sched_entity_queue_peek`).
+    pub fn head(&self, entity: EntityId) -> Option<FenceId>
+        requires there { entity < length self.now.state.spec.entities }
+        ensures { result ≡ option_map (λ n. n.0) (first (queue_of entity self.now.state.journal)) }
+    {
+        self.parts.table.entities.head(entity)
+    }
+
+    /// The first pending job of the ring that has packets to run: the one that the ring runs.
+    pub fn current(&self, ring: RingId) -> Option<FenceId>
+        requires there { ring < length self.now.state.spec.rings }
+        ensures { result ≡ current_of self.now.state ring }
+    {
+        self.parts.table.current(ring)
+    }
+
+    /// The credits that the ring has left (`drm_sched_available_credits`).
+    pub fn free_credits(&self, ring: RingId) -> u32
+        requires there { ring < length self.now.state.spec.rings }
+        ensures { result ≡ free_credits self.now.state ring }
+    {
+        self.parts.table.rings[ring as usize].credits.free() as u32
+    }
+
+    /// The moment from which the age of the ring's head counts.
+    pub fn since(&self, ring: RingId) -> Moment
+        requires there { ring < length self.now.state.spec.rings }
+        ensures { result ≡ option_map_or (λ r. r.since) (slice_get self.now.state.rings ring) 0 }
+    {
+        self.parts.table.rings[ring as usize].since
+    }
+
+    /// Whether the entity takes no more jobs (`stopped` of `struct drm_sched_entity`).
+    pub fn is_stopped(&self, entity: EntityId) -> bool
+        requires there { entity < length self.now.state.spec.entities }
+        ensures { result ≡ is_stopped self.now.state entity }
+    {
+        self.parts.table.is_stopped(entity)
+    }
+
+    /// Whether the entity is guilty of a hang, so that its jobs are skipped (`guilty` of `struct drm_sched_entity`).
+    pub fn is_guilty(&self, entity: EntityId) -> bool
+        requires there { entity < length self.now.state.spec.entities }
+        ensures { result ≡ is_guilty self.now.state entity }
+    {
+        self.parts.table.entities.is_guilty(entity)
     }
 
     /// What is known of the job of this number.

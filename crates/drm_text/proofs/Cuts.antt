@@ -1,27 +1,15 @@
 -- The first part of a cut text.
-use Rattle.std.proofs.Common.{◌≡◌, ℕ, ◌+◌, ◌<◌, ◌≤◌, ◌==◌, Bool, true, false, cond, not, List, [], ◌∷◌, ◌++◌, length, take, drop, Option, Some, None, refl, sym, ap, ◌∙◌, arith, ◌-◌, inl, inr, le-leb, lt-ltb}
-use Rattle.std.specs.Prelude.{nat_lt, unwrap_or}
+use Rattle.std.proofs.Common.{◌≡◌, ℕ, ◌+◌, ◌<◌, ◌≤◌, ◌==◌, Bool, false, cond, not, List, [], ◌∷◌, ◌++◌, length, take, drop, refl, sym, ap, ◌∙◌, arith, ◌-◌, inl, inr, le-leb, lt-ltb}
+use Rattle.std.specs.Prelude.{nat_lt}
 use Rattle.std.specs.List.{position_or_len, prefix_len, slice_split, All}
 use Rattle.std.proofs.lemmas.Bool.{cases_lt, lt-leb, le-ltb, ne_eqb, eq-eqb}
 use Rattle.std.proofs.lemmas.List.{drop-drop, length-drop, length-take-le, take-append-drop}
 use Rattle.std.proofs.lemmas.List.Folds.{prefix_len-append}
 use Rattle.std.proofs.Math.Seq.{take-length}
-use Rattle.std.proofs.lemmas.List.Sums.{position_or_len_is, fails_before_first, prefix_len-le-length}
+use Rattle.std.proofs.lemmas.List.Sums.{fails_before_first, prefix_len-le-length}
 use Rattle.std.proofs.lemmas.List.Elements.{All-from_get_or}
 use Rattle.std.proofs.lemmas.List.Splits.{slice_split_first, slice_split_none}
-use Rattle.memchr.specs.Find.{IsFirstByte, is_byte}
 use Rattle.drm_text.specs.Cut.{cut_from}
-
-pub is_false : (b : Bool) → ((b ≡ true) → ⊥) → b ≡ false
-is_false true h = absurd (h refl)
-is_false false h = refl
-
--- the first place that a search found, or the length
-pub first_byte_is : (separator : ℕ) (bytes : List ℕ) (r : Option ℕ) → IsFirstByte (is_byte separator) bytes r → unwrap_or r (length bytes) ≡ position_or_len (λ b. b == separator) bytes
-first_byte_is separator bytes None nowhere =
-    sym (position_or_len_is (λ b. b == separator) bytes (length bytes) 0 (omega arith) (λ k lt. is_false _ (nowhere k (omega arith) lt)) (λ lt. absurd (omega arith)))
-first_byte_is separator bytes (Some i) found =
-    sym (position_or_len_is (λ b. b == separator) bytes i 0 (omega (arith, found.0.high)) (λ k lt. is_false _ (found.0.before k (omega arith) lt)) (λ lt. found.1))
 
 none_passes : (p : ℕ → Bool) (xs : List ℕ) → position_or_len p xs ≡ length xs → All (λ x. p x ≡ false) xs
 none_passes p xs is = All-from_get_or (λ x. p x ≡ false) xs 0 (λ i lt. fails_before_first p xs i 0 (omega arith))
@@ -82,19 +70,15 @@ none_in_front p n bytes room none =
     let whole : prefix_len q bytes ≡ length front + prefix_len q back = rw (take-append-drop n bytes) at joined in
     omega arith
 
--- bytes before the first that is sought may be left out
-pub behind_front : (p : ℕ → Bool) (n : ℕ) (bytes : List ℕ) → n ≤ length bytes → n ≤ position_or_len p bytes
-    → n + position_or_len p (drop n bytes) ≡ position_or_len p bytes
-behind_front p n bytes room before =
+-- where the first bytes have one that is sought, it is the first of all
+pub one_in_front : (p : ℕ → Bool) (n : ℕ) (bytes : List ℕ) → n ≤ length bytes → position_or_len p (take n bytes) < n
+    → position_or_len p (take n bytes) ≡ position_or_len p bytes
+one_in_front p n bytes room some =
     let q = λ (b : ℕ). not (p b) in
     let front = take n bytes in
     let len : length front ≡ n = length-take-le n bytes room in
-    elim (cases_lt (prefix_len q front) n) [
-      | inl lt ↦
-          let some = ne_eqb (prefix_len q front) (length front) (λ same. omega arith) in
-          let append : prefix_len q (front ++ drop n bytes) ≡ cond (prefix_len q front == length front) (length front + prefix_len q (drop n bytes)) (prefix_len q front) = prefix_len-append q front (drop n bytes) in
-          let joined : prefix_len q (front ++ drop n bytes) ≡ prefix_len q front = rw some at append in
-          let whole : prefix_len q bytes ≡ prefix_len q front = rw (take-append-drop n bytes) at joined in
-          absurd (omega arith)
-      | inr le ↦ none_in_front p n bytes room le
-    ]
+    let here = ne_eqb (prefix_len q front) (length front) (λ same. omega arith) in
+    let append : prefix_len q (front ++ drop n bytes) ≡ cond (prefix_len q front == length front) (length front + prefix_len q (drop n bytes)) (prefix_len q front) = prefix_len-append q front (drop n bytes) in
+    let joined : prefix_len q (front ++ drop n bytes) ≡ prefix_len q front = rw here at append in
+    let whole : prefix_len q bytes ≡ prefix_len q front = rw (take-append-drop n bytes) at joined in
+    sym whole

@@ -5,10 +5,9 @@ ghost use Rattle.std.specs.Prelude.{◌≡◌, ◌+◌, ◌<◌, ◌≤◌, ◌=
 ghost use Rattle.std.specs.Int.{w64, trailing_zeros};
 ghost use Rattle.std.specs.List.{position_or_len, join_with_byte};
 ghost use Rattle.drm_text.specs.Cut.{cut_from};
-ghost use Rattle.drm_text.specs.Number.{has_one_form, number_up_to, digit_first};
+ghost use Rattle.drm_text.specs.Number.{has_one_form, number_up_to};
 
 use crate::number::{digit_value, next_value};
-use memchr::memchr;
 use std::marker::Model;
 use std::simd::prelude::*;
 
@@ -18,19 +17,13 @@ pub const MAX_TEXT: usize = 1_048_576;
 /// How many bytes are looked at at once.
 const LANES: usize = 16;
 
-/// How many bytes are looked at at once where there are fewer than that.
-const FEW_LANES: usize = 8;
-
-/// How many bytes are looked at at once where there are still fewer.
-const LEAST_LANES: usize = 4;
-
 /// The lowest place of a byte that was found, or how many were looked at.
 #[inline(always)]
-fn first_found(found: u64, lanes: usize) -> usize
-    ensures { result ≡ if found == 0 then lanes else trailing_zeros w64 found }
+fn first_found(found: u64) -> usize
+    ensures { result ≡ if found == 0 then 16 else trailing_zeros w64 found }
 {
     if found == 0 {
-        lanes
+        LANES
     } else {
         found.trailing_zeros() as usize
     }
@@ -43,27 +36,7 @@ fn end_in_lanes(bytes: &[u8], separator: u8) -> usize
     ensures { result ≡ position_or_len (λ b. b == separator) (take 16 bytes.now) }
 {
     let found = u8x16::from_slice(bytes).simd_eq(u8x16::splat(separator));
-    first_found(found.to_bitmask(), LANES)
-}
-
-/// The place of the first such byte among the first eight, or eight.
-#[inline(always)]
-fn end_in_few_lanes(bytes: &[u8], separator: u8) -> usize
-    requires { 8 ≤ length bytes.now }
-    ensures { result ≡ position_or_len (λ b. b == separator) (take 8 bytes.now) }
-{
-    let found = u8x8::from_slice(bytes).simd_eq(u8x8::splat(separator));
-    first_found(found.to_bitmask(), FEW_LANES)
-}
-
-/// The place of the first such byte among the first four, or four.
-#[inline(always)]
-fn end_in_least_lanes(bytes: &[u8], separator: u8) -> usize
-    requires { 4 ≤ length bytes.now }
-    ensures { result ≡ position_or_len (λ b. b == separator) (take 4 bytes.now) }
-{
-    let found = u8x4::from_slice(bytes).simd_eq(u8x4::splat(separator));
-    first_found(found.to_bitmask(), LEAST_LANES)
+    first_found(found.to_bitmask())
 }
 
 /// The place of the first such byte, or the length, sought byte by byte.
@@ -78,92 +51,22 @@ fn end_by_bytes(bytes: &[u8], separator: u8) -> usize
     end
 }
 
-/// The place of the first such byte, or the length, in fewer than eight bytes. Where they are four or more, the first four are
-/// looked at at once, and then the last four.
-#[inline]
-fn end_of_least(bytes: &[u8], separator: u8) -> usize
-    requires { length bytes.now < 8 }
-    ensures { result ≡ position_or_len (λ b. b == separator) bytes.now }
-{
-    if bytes.len() < LEAST_LANES {
-        return end_by_bytes(bytes, separator);
-    }
-    let end = end_in_least_lanes(bytes, separator);
-    if end < LEAST_LANES {
-        return end;
-    }
-    let from = bytes.len() - LEAST_LANES;
-    let (_, last) = bytes.split_at(from);
-    from + end_in_least_lanes(last, separator)
-}
-
-/// The place of the first such byte, or the length, in fewer than sixteen bytes. Where they are eight or more, the first
-/// eight are looked at at once, and then the last eight.
-#[inline]
-fn end_of_few(bytes: &[u8], separator: u8) -> usize
-    requires { length bytes.now < 16 }
-    ensures { result ≡ position_or_len (λ b. b == separator) bytes.now }
-{
-    if bytes.len() < FEW_LANES {
-        return end_of_least(bytes, separator);
-    }
-    let end = end_in_few_lanes(bytes, separator);
-    if end < FEW_LANES {
-        return end;
-    }
-    let from = bytes.len() - FEW_LANES;
-    let (_, last) = bytes.split_at(from);
-    from + end_in_few_lanes(last, separator)
-}
-
-/// The place of the first such byte, or the length, where it is not near.
-#[inline]
-fn end_of_many(bytes: &[u8], separator: u8) -> usize
-    ensures { result ≡ position_or_len (λ b. b == separator) bytes.now }
-{
-    memchr(separator, bytes).unwrap_or(bytes.len())
-}
-
-/// The place of the first such byte, or the length, in sixteen bytes or more. The first sixteen are looked at at once.
-#[inline(always)]
-fn end_near_or_far(bytes: &[u8], separator: u8) -> usize
-    requires { 16 ≤ length bytes.now }
-    ensures { result ≡ position_or_len (λ b. b == separator) bytes.now }
-{
-    let near = end_in_lanes(bytes, separator);
-    if near == LANES {
-        return end_of_many(bytes, separator);
-    }
-    near
-}
-
-/// The place of the first such byte, or the length, where the first sixteen bytes have none. The next sixteen are looked at
-/// at once, where there are so many.
-#[inline(never)]
-fn end_behind_lanes(bytes: &[u8], separator: u8) -> usize
-    requires many { 16 ≤ length bytes.now }
-    requires none { 16 ≤ position_or_len (λ b. b == separator) (take 16 bytes.now) }
-    ensures { result ≡ position_or_len (λ b. b == separator) bytes.now }
-{
-    if bytes.len() < 2 * LANES {
-        return end_of_many(bytes, separator);
-    }
-    let (_, behind) = bytes.split_at(LANES);
-    LANES + end_near_or_far(behind, separator)
-}
-
-/// The place of the first such byte, or the length. Words and most lines are short.
+/// The place of the first such byte, or the length. Sixteen bytes are looked at at once, and the last few one by one.
 fn end_of(bytes: &[u8], separator: u8) -> usize
     ensures { result ≡ position_or_len (λ b. b == separator) bytes.now }
 {
-    if bytes.len() < LANES {
-        return end_of_few(bytes, separator);
+    let mut before = 0;
+    let mut rest = bytes;
+    while rest.len() >= LANES {
+        let near = end_in_lanes(rest, separator);
+        if near < LANES {
+            return before + near;
+        }
+        let (_, behind) = rest.split_at(LANES);
+        rest = behind;
+        before += LANES;
     }
-    let end = end_in_lanes(bytes, separator);
-    if end < LANES {
-        return end;
-    }
-    end_behind_lanes(bytes, separator)
+    before + end_by_bytes(rest, separator)
 }
 
 /// The number that a part spells whose digits have this value.
@@ -189,7 +92,6 @@ fn is_one_byte(bytes: &[u8], at: usize, separator: u8) -> bool
 
 /// Where the first part ends, and the number of at most `most` that it spells, if it spells one. It is read digit by
 /// digit.
-#[inline(never)]
 fn cut_digits(bytes: &[u8], separator: u8, most: u64) -> (usize, Option<u64>)
     ensures end { result.0 ≡ position_or_len (λ b. b == separator) bytes.now }
     ensures number { result.1 ≡ number_up_to most (take result.0 bytes.now) }
@@ -277,27 +179,9 @@ impl<'a, const SEPARATOR: u8> Parts<'a, SEPARATOR> {
         Some(part)
     }
 
-    /// The number of at most `most` that the next part spells, if it is one digit. It is cut then, and else nothing is.
-    #[inline(always)]
-    pub fn next_digit(&mut self, most: u64) -> Option<u64>
-        ensures value { result ≡ digit_first most self.old.parts }
-        ensures some { IfSome result (λ n. (self.old.parts ≡ ((48 + n) ∷ []) ∷ self.new.parts) × (self.new.at ≡ self.old.at + 2)) }
-        ensures number { IfSome result (λ n. number_up_to most ((48 + n) ∷ []) ≡ Some n) }
-        ensures small { IfSome result (λ n. n ≤ most) }
-        ensures none { IfNone result (self.new ≡ self.old) }
-    {
-        if !is_one_byte(self.bytes, self.at, SEPARATOR) {
-            return None;
-        }
-        let digit = digit_value(self.bytes[self.at], most)?;
-        self.at += 2;
-        Some(digit)
-    }
-
-    /// The next part, if one is left, and the number of at most `most` that it spells, if it spells one. It is cut and
-    /// read digit by digit.
-    #[inline]
-    pub fn next_by_digits(&mut self, most: u64) -> Option<(&'a [u8], Option<u64>)>
+    /// What `next_number` answers of a part of any length, which is cut and read digit by digit.
+    #[inline(never)]
+    fn next_by_digits(&mut self, most: u64) -> Option<(&'a [u8], Option<u64>)>
         ensures some { IfSome result (λ read. (self.old.parts ≡ read.0.now ∷ self.new.parts)
             × (self.new.at ≡ self.old.at + length read.0.now + 1) × (length read.0.now ≤ 1048576) × (self.new.at ≤ 1048577)
             × (read.1 ≡ number_up_to most read.0.now)) }
@@ -315,8 +199,8 @@ impl<'a, const SEPARATOR: u8> Parts<'a, SEPARATOR> {
     }
 
     /// The next part, if one is left, and the number of at most `most` that it spells, if it spells one. The part is
-    /// cut and read in one go. Most numbers have one digit.
-    #[inline]
+    /// cut and read in one go. Most numbers have one digit, which is read without a call.
+    #[inline(always)]
     pub fn next_number(&mut self, most: u64) -> Option<(&'a [u8], Option<u64>)>
         ensures some { IfSome result (λ read. (self.old.parts ≡ read.0.now ∷ self.new.parts)
             × (self.new.at ≡ self.old.at + length read.0.now + 1) × (length read.0.now ≤ 1048576) × (self.new.at ≤ 1048577)

@@ -1,107 +1,38 @@
--- What is said of commands that are none of those named.
-use Rattle.std.proofs.Common.{◌≡◌, ◌≢◌, ℕ, refl}
-use Rattle.drm_text.specs.declared.keywords.Command.{Command}
-use Rattle.drm_text.specs.declared.keywords.Command.TheVariants as command
-use Rattle.drm_words.specs.declared.subject.Subject.{Subject}
+-- What is said of events that are none of those named.
+use Rattle.std.proofs.Common.{◌≡◌, ℕ, refl}
+use Rattle.drm_core.specs.declared.event.Event.{Event}
+use Rattle.drm_core.specs.declared.event.Event.TheVariants as event
 use Rattle.drm_words.specs.Refused.{sentence_of_idle, sentence_of_stopped}
 use Rattle.drm_words.specs.Sentences.{sentence_of_armed, sentence_of_bytes, sentence_of_ok}
+use Rattle.drm_words.specs.Subjects.{buffer_of, ctx_of, entity_of, ring_of}
 
 -- of an idle ring
-pub idle_otherwise : (subject : Subject) (kind : Command) → (kind ≢ command.Pick) → (kind ≢ command.Step) → sentence_of_idle kind subject ≡ sentence_of_idle command.Submit subject
-idle_otherwise subject command.Submit no1 no2 = refl
-idle_otherwise subject command.Begin no1 no2 = refl
-idle_otherwise subject command.Try no1 no2 = refl
-idle_otherwise subject command.Done no1 no2 = refl
-idle_otherwise subject command.Drop no1 no2 = refl
-idle_otherwise subject command.End no1 no2 = refl
-idle_otherwise subject command.Plan no1 no2 = refl
-idle_otherwise subject command.Arm no1 no2 = refl
-idle_otherwise subject command.Pick no1 no2 = absurd (no1 refl)
-idle_otherwise subject command.Step no1 no2 = absurd (no2 refl)
-idle_otherwise subject command.Finish no1 no2 = refl
-idle_otherwise subject command.Timeout no1 no2 = refl
-idle_otherwise subject command.Cancel no1 no2 = refl
-idle_otherwise subject command.Reap no1 no2 = refl
-idle_otherwise subject command.Read no1 no2 = refl
-idle_otherwise subject command.Fence no1 no2 = refl
-idle_otherwise subject command.Dump no1 no2 = refl
+pub idle_otherwise : (subject : Event ℕ) → ((ring now : ℕ) → subject ≡ event.Pick ring now → ⊥) → ((ring : ℕ) → subject ≡ event.Step ring → ⊥)
+    → sentence_of_idle subject ≡ sentence_of_idle (event.Finish (ring_of subject) 0)
+idle_otherwise (event.Pick ring now) no_pick no_step = absurd (no_pick ring now refl)
+idle_otherwise (event.Step ring) no_pick no_step = absurd (no_step ring refl)
+idle_otherwise other no_pick no_step = refl
 
 -- of a stopped entity
-pub stopped_otherwise : (subject : Subject) (kind : Command) → (kind ≢ command.Arm) → sentence_of_stopped kind subject ≡ sentence_of_stopped command.Submit subject
-stopped_otherwise subject command.Submit other = refl
-stopped_otherwise subject command.Begin other = refl
-stopped_otherwise subject command.Try other = refl
-stopped_otherwise subject command.Done other = refl
-stopped_otherwise subject command.Drop other = refl
-stopped_otherwise subject command.End other = refl
-stopped_otherwise subject command.Plan other = refl
-stopped_otherwise subject command.Arm other = absurd (other refl)
-stopped_otherwise subject command.Pick other = refl
-stopped_otherwise subject command.Step other = refl
-stopped_otherwise subject command.Finish other = refl
-stopped_otherwise subject command.Timeout other = refl
-stopped_otherwise subject command.Cancel other = refl
-stopped_otherwise subject command.Reap other = refl
-stopped_otherwise subject command.Read other = refl
-stopped_otherwise subject command.Fence other = refl
-stopped_otherwise subject command.Dump other = refl
+pub stopped_otherwise : (subject : Event ℕ) → ((ctx : ℕ) → subject ≡ event.Arm ctx → ⊥) → sentence_of_stopped subject ≡ sentence_of_stopped (event.Submit (entity_of subject))
+stopped_otherwise (event.Arm ctx) no_arm = absurd (no_arm ctx refl)
+stopped_otherwise other no_arm = refl
 
 -- of a job that is armed
-pub armed_otherwise : (subject : Subject) (fence : ℕ) (kind : Command) → (kind ≢ command.Arm) → sentence_of_armed kind subject fence ≡ sentence_of_armed command.Submit subject fence
-armed_otherwise subject fence command.Submit other = refl
-armed_otherwise subject fence command.Begin other = refl
-armed_otherwise subject fence command.Try other = refl
-armed_otherwise subject fence command.Done other = refl
-armed_otherwise subject fence command.Drop other = refl
-armed_otherwise subject fence command.End other = refl
-armed_otherwise subject fence command.Plan other = refl
-armed_otherwise subject fence command.Arm other = absurd (other refl)
-armed_otherwise subject fence command.Pick other = refl
-armed_otherwise subject fence command.Step other = refl
-armed_otherwise subject fence command.Finish other = refl
-armed_otherwise subject fence command.Timeout other = refl
-armed_otherwise subject fence command.Cancel other = refl
-armed_otherwise subject fence command.Reap other = refl
-armed_otherwise subject fence command.Read other = refl
-armed_otherwise subject fence command.Fence other = refl
-armed_otherwise subject fence command.Dump other = refl
+pub armed_otherwise : (subject : Event ℕ) (fence : ℕ) → ((ctx : ℕ) → subject ≡ event.Arm ctx → ⊥)
+    → sentence_of_armed subject fence ≡ sentence_of_armed (event.Submit (entity_of subject)) fence
+armed_otherwise (event.Arm ctx) fence no_arm = absurd (no_arm ctx refl)
+armed_otherwise other fence no_arm = refl
 
 -- of bytes
-pub bytes_otherwise : (subject : Subject) (kind : Command) → (kind ≢ command.Read) → sentence_of_bytes kind subject ≡ sentence_of_bytes command.Submit subject
-bytes_otherwise subject command.Submit other = refl
-bytes_otherwise subject command.Begin other = refl
-bytes_otherwise subject command.Try other = refl
-bytes_otherwise subject command.Done other = refl
-bytes_otherwise subject command.Drop other = refl
-bytes_otherwise subject command.End other = refl
-bytes_otherwise subject command.Plan other = refl
-bytes_otherwise subject command.Arm other = refl
-bytes_otherwise subject command.Pick other = refl
-bytes_otherwise subject command.Step other = refl
-bytes_otherwise subject command.Finish other = refl
-bytes_otherwise subject command.Timeout other = refl
-bytes_otherwise subject command.Cancel other = refl
-bytes_otherwise subject command.Reap other = refl
-bytes_otherwise subject command.Read other = absurd (other refl)
-bytes_otherwise subject command.Fence other = refl
-bytes_otherwise subject command.Dump other = refl
+pub bytes_otherwise : (subject : Event ℕ) → ((ctx buffer : ℕ) → subject ≡ event.Read ctx buffer → ⊥) → sentence_of_bytes subject ≡ sentence_of_bytes (event.Dump (buffer_of subject))
+bytes_otherwise (event.Read ctx buffer) no_read = absurd (no_read ctx buffer refl)
+bytes_otherwise other no_read = refl
 
 -- of what is done
-pub ok_otherwise : (subject : Subject) (kind : Command) → (kind ≢ command.Done) → (kind ≢ command.Drop) → (kind ≢ command.Cancel) → sentence_of_ok kind subject ≡ sentence_of_ok command.Submit subject
-ok_otherwise subject command.Submit no1 no2 no3 = refl
-ok_otherwise subject command.Begin no1 no2 no3 = refl
-ok_otherwise subject command.Try no1 no2 no3 = refl
-ok_otherwise subject command.Done no1 no2 no3 = absurd (no1 refl)
-ok_otherwise subject command.Drop no1 no2 no3 = absurd (no2 refl)
-ok_otherwise subject command.End no1 no2 no3 = refl
-ok_otherwise subject command.Plan no1 no2 no3 = refl
-ok_otherwise subject command.Arm no1 no2 no3 = refl
-ok_otherwise subject command.Pick no1 no2 no3 = refl
-ok_otherwise subject command.Step no1 no2 no3 = refl
-ok_otherwise subject command.Finish no1 no2 no3 = refl
-ok_otherwise subject command.Timeout no1 no2 no3 = refl
-ok_otherwise subject command.Cancel no1 no2 no3 = absurd (no3 refl)
-ok_otherwise subject command.Reap no1 no2 no3 = refl
-ok_otherwise subject command.Read no1 no2 no3 = refl
-ok_otherwise subject command.Fence no1 no2 no3 = refl
-ok_otherwise subject command.Dump no1 no2 no3 = refl
+pub ok_otherwise : (subject : Event ℕ) → ((ctx : ℕ) → subject ≡ event.Done ctx → ⊥) → ((ctx buffer : ℕ) → subject ≡ event.Drop ctx buffer → ⊥)
+    → ((entity : ℕ) → subject ≡ event.Cancel entity → ⊥) → sentence_of_ok subject ≡ sentence_of_ok (event.End (ctx_of subject))
+ok_otherwise (event.Done ctx) no_done no_drop no_cancel = absurd (no_done ctx refl)
+ok_otherwise (event.Drop ctx buffer) no_done no_drop no_cancel = absurd (no_drop ctx buffer refl)
+ok_otherwise (event.Cancel entity) no_done no_drop no_cancel = absurd (no_cancel entity refl)
+ok_otherwise other no_done no_drop no_cancel = refl

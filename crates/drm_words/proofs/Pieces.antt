@@ -2,6 +2,7 @@
 use Rattle.std.proofs.Common.{◌≡◌, ◌+◌, ◌<◌, ◌≤◌, ℕ, List, [], ◌∷◌, ◌++◌, length, drop, take, take-append-drop, get_or, append_assoc, append-nil, Result, refl, sym, subst, ap, ◌∙◌}
 use Rattle.std.proofs.KnownBytes.{Appends-nil}
 use Rattle.std.proofs.lemmas.List.{take_all, take_more}
+use Rattle.drm_job.specs.declared.Draft.{Draft}
 use Rattle.drm_state.specs.declared.answer.Answer.{Answer}
 use Rattle.drm_core.specs.declared.event.Event.{Event}
 use Rattle.drm_core.specs.State.{CoreState}
@@ -9,39 +10,38 @@ use Rattle.drm_core.specs.Run.{Run}
 use Rattle.drm_stream.specs.Streams.{SinkState}
 use Rattle.drm_engine.specs.Replaying.{Told, ToldFront, ToldSoFar}
 use Rattle.drm_engine.proofs.Pieces.{GoesOn, front_longer, front_next, so_far_next, told_next}
-use Rattle.drm_words.specs.declared.subject.Subject.{Subject}
 use Rattle.drm_words.specs.Lines.{text_with_words, worded_line_of}
 use Rattle.drm_words.specs.Subjects.{subject_of}
 
 -- whatever answers the rest gets, the lines of the whole are those told so far and the lines of the rest
-abbrev pub LinesSoFar : List Event → List Answer → List Event → List ℕ → Type 0
+abbrev pub LinesSoFar : List (Event Draft) → List Answer → List (Event Draft) → List ℕ → Type 0
 LinesSoFar events so_far rest told = (more : List Answer) → text_with_words events (so_far ++ more) ≡ told ++ text_with_words rest more
 
 -- what was answered so far, and told of it
-abbrev pub SaidSoFar : {E : Type 0} → SinkState → SinkState → CoreState → CoreState → List Event → List Event → Result (Unit {0}) E → List ℕ → Type 0
+abbrev pub SaidSoFar : {E : Type 0} → SinkState → SinkState → CoreState → CoreState → List (Event Draft) → List (Event Draft) → Result (Unit {0}) E → List ℕ → Type 0
 SaidSoFar old new start now events rest told piece =
     (given : List Answer) × GoesOn start events given now rest × ((text : List ℕ) × LinesSoFar events given rest text × Told old new told text piece)
 
 -- before the first event nothing is answered, and nothing told
-pub nothing_said : (a : SinkState) (start : CoreState) (events rest : List Event) (piece : List ℕ) → rest ≡ events → piece ≡ []
+pub nothing_said : (a : SinkState) (start : CoreState) (events rest : List (Event Draft)) (piece : List ℕ) → rest ≡ events → piece ≡ []
     → (given : List Answer) × GoesOn start events given start rest × ((text : List ℕ) × LinesSoFar events given rest text × ToldSoFar a a text piece)
 nothing_said a start events rest piece same none =
     ([], (λ more new run. subst (λ es. Run start es more new) same run), ([], (λ more. ap (λ es. text_with_words es more) (sym same)), (([], Appends-nil a.contents, sym none), refl)))
 
 -- one line more
-pub line_more : (events rest left : List Event) (so_far : List Answer) (event : Event) (answer : Answer) (subject : Subject) (told : List ℕ) → rest ≡ event ∷ left
+pub line_more : (events rest left : List (Event Draft)) (so_far : List Answer) (event : Event Draft) (answer : Answer) (subject : Event ℕ) (told : List ℕ) → rest ≡ event ∷ left
     → subject ≡ subject_of event → LinesSoFar events so_far rest told → LinesSoFar events (so_far ++ answer ∷ []) left (told ++ worded_line_of subject answer)
 line_more events rest left so_far event answer subject told split is so more =
     ap (text_with_words events) (append_assoc so_far (answer ∷ []) more)
     ∙ so (answer ∷ more)
-    ∙ ap (λ (es : List Event). told ++ text_with_words es (answer ∷ more)) split
-    ∙ ap (λ (s : Subject). told ++ (worded_line_of s answer ++ text_with_words left more)) (sym is)
+    ∙ ap (λ (es : List (Event Draft)). told ++ text_with_words es (answer ∷ more)) split
+    ∙ ap (λ (s : Event ℕ). told ++ (worded_line_of s answer ++ text_with_words left more)) (sym is)
     ∙ sym (append_assoc told (worded_line_of subject answer) (text_with_words left more))
 
 -- the lines of all events
-pub lines_end : (events rest : List Event) (so_far : List Answer) (told : List ℕ) → rest ≡ [] → LinesSoFar events so_far rest told → told ≡ text_with_words events so_far
+pub lines_end : (events rest : List (Event Draft)) (so_far : List Answer) (told : List ℕ) → rest ≡ [] → LinesSoFar events so_far rest told → told ≡ text_with_words events so_far
 lines_end events rest so_far told none so =
-    sym (append-nil told) ∙ sym (ap (λ (es : List Event). told ++ text_with_words es []) none) ∙ sym (so []) ∙ ap (text_with_words events) (append-nil so_far)
+    sym (append-nil told) ∙ sym (ap (λ (es : List (Event Draft)). told ++ text_with_words es []) none) ∙ sym (so []) ∙ ap (text_with_words events) (append-nil so_far)
 
 -- ---- parts of a line
 

@@ -5,12 +5,12 @@ ghost use Rattle.drm_engine.specs.Replaying.{Told};
 ghost use Rattle.drm_words.specs.Refused.{sentence_of_fault, sentence_of_idle, sentence_of_list, sentence_of_refusal, sentence_of_stopped};
 
 use crate::filling::put_filled;
-use crate::subject::Subject;
-use drm_core::Refusal;
+use crate::named::{buffer_in, ctx_in, entity_in, ring_in};
+use drm_core::{Event, Refusal};
 use drm_engine::{Piece, WriteFailed};
 use drm_job::{DraftList, JobFault};
 use drm_stream::Sink;
-use drm_text::Command;
+use drm_types::EntityId;
 use std::io::Write;
 
 // What is said of some refusals, with `%` in place of each number.
@@ -74,12 +74,12 @@ fn put_list<W: Write>(
 fn put_fault<W: Write>(
     piece: &mut Piece,
     writer: &mut Sink<W>,
-    subject: Subject,
+    subject: Event<EntityId>,
     fault: JobFault,
 ) -> Result<(), WriteFailed>
     ensures { Told writer.old writer.new result (piece.old ++ sentence_of_fault subject fault) piece.new }
 {
-    let entity = u64::from(subject.entity);
+    let entity = entity_in(subject);
     match fault {
         JobFault::NoEntity => put_filled(piece, writer, b"entity % is not there", &[entity]),
         JobFault::NoCredits => put_filled(
@@ -138,15 +138,29 @@ fn put_fault<W: Write>(
 fn put_idle<W: Write>(
     piece: &mut Piece,
     writer: &mut Sink<W>,
-    subject: Subject,
+    subject: Event<EntityId>,
 ) -> Result<(), WriteFailed>
-    ensures { Told writer.old writer.new result (piece.old ++ sentence_of_idle subject.command subject) piece.new }
+    ensures { Told writer.old writer.new result (piece.old ++ sentence_of_idle subject) piece.new }
 {
-    let ring = u64::from(subject.ring);
-    match subject.command {
-        Command::Pick => put_filled(piece, writer, b"no ready job waits for ring %", &[ring]),
-        Command::Step => put_filled(piece, writer, b"ring % has no packet to run", &[ring]),
-        _ => put_filled(piece, writer, b"ring % has no job to finish", &[ring]),
+    match subject {
+        Event::Pick { ring, .. } => put_filled(
+            piece,
+            writer,
+            b"no ready job waits for ring %",
+            &[u64::from(ring)],
+        ),
+        Event::Step { ring } => put_filled(
+            piece,
+            writer,
+            b"ring % has no packet to run",
+            &[u64::from(ring)],
+        ),
+        _ => put_filled(
+            piece,
+            writer,
+            b"ring % has no job to finish",
+            &[ring_in(subject)],
+        ),
     }
 }
 
@@ -154,22 +168,22 @@ fn put_idle<W: Write>(
 fn put_stopped<W: Write>(
     piece: &mut Piece,
     writer: &mut Sink<W>,
-    subject: Subject,
+    subject: Event<EntityId>,
 ) -> Result<(), WriteFailed>
-    ensures { Told writer.old writer.new result (piece.old ++ sentence_of_stopped subject.command subject) piece.new }
+    ensures { Told writer.old writer.new result (piece.old ++ sentence_of_stopped subject) piece.new }
 {
-    match subject.command {
-        Command::Arm => put_filled(
+    match subject {
+        Event::Arm { ctx } => put_filled(
             piece,
             writer,
             b"the entity of the job that context % has planned was cancelled, and takes no more jobs",
-            &[u64::from(subject.ctx)],
+            &[u64::from(ctx)],
         ),
         _ => put_filled(
             piece,
             writer,
             b"entity % was cancelled, and takes no more jobs",
-            &[u64::from(subject.entity)],
+            &[entity_in(subject)],
         ),
     }
 }
@@ -178,15 +192,15 @@ fn put_stopped<W: Write>(
 pub(crate) fn put_refusal<W: Write>(
     piece: &mut Piece,
     writer: &mut Sink<W>,
-    subject: Subject,
+    subject: Event<EntityId>,
     refusal: Refusal,
 ) -> Result<(), WriteFailed>
     ensures { Told writer.old writer.new result (piece.old ++ sentence_of_refusal subject refusal) piece.new }
 {
-    let ctx = u64::from(subject.ctx);
-    let ring = u64::from(subject.ring);
-    let entity = u64::from(subject.entity);
-    let named = u64::from(subject.buffer);
+    let ctx = ctx_in(subject);
+    let ring = ring_in(subject);
+    let entity = entity_in(subject);
+    let named = buffer_in(subject);
     match refusal {
         Refusal::Faulty(fault) => put_fault(piece, writer, subject, fault),
         Refusal::Memory => put_filled(piece, writer, b"memory was refused to the command", &[]),

@@ -12,12 +12,13 @@ ghost use Rattle.drm_engine.specs.Replaying.{IsAnswered, Told, Written};
 ghost use Rattle.drm_words.specs.Lines.{text_with_words, worded_line_of};
 ghost use Rattle.drm_words.specs.Replaying.{PlaysWithWords, ReplaysWithWords};
 
+use crate::named::subject;
 use crate::sentences::put_worded_line;
-use crate::subject::Subject;
-use drm_core::{Answer, Core, every_run_is_lawful, headline};
+use drm_core::{Answer, Core, Event, every_run_is_lawful, headline};
 use drm_engine::{Ending, PIECE, Piece, WriteFailed};
 use drm_script::{Events, Script, read_script_from};
 use drm_stream::{Sink, Source};
+use drm_types::EntityId;
 use std::alloc::Global;
 use std::io::{Read, Write};
 
@@ -25,7 +26,7 @@ use std::io::{Read, Write};
 fn tell<W: Write>(
     writer: &mut Sink<W>,
     piece: &mut Piece,
-    subject: Subject,
+    subject: Event<EntityId>,
     answer: &Answer,
 ) -> Result<(), WriteFailed>
     requires { length piece.old + line_room answer.now ≤ 41088 }
@@ -57,7 +58,7 @@ fn tell_answers<W: Write>(
     let mut told = Ok(());
     let mut rest = events.into_left();
     while let Some(event) = rest.next() {
-        let subject = Subject::of_event(&event);
+        let subject = subject(&event);
         let answer = core.apply(alloc, event);
         if told.is_ok() {
             told = tell(writer, piece, subject, &answer);

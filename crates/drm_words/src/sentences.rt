@@ -9,39 +9,42 @@ ghost use Rattle.drm_words.specs.Lines.{worded_line_of};
 ghost use Rattle.drm_words.specs.Sentences.{sentence_of, sentence_of_armed, sentence_of_bytes, sentence_of_finished, sentence_of_ok, sentence_of_picked, sentence_of_status};
 
 use crate::filling::put_filled;
+use crate::named::{buffer_in, ctx_in, entity_in, fence_in, ring_in};
 use crate::refused::put_refusal;
-use crate::subject::Subject;
-use drm_core::Answer;
+use drm_core::{Answer, Event};
 use drm_engine::{Piece, WriteFailed};
 use drm_stream::Sink;
-use drm_text::Command;
-use drm_types::{FenceId, Outcome};
+use drm_types::{EntityId, FenceId, Outcome};
 use std::io::Write;
 
 // What was done: a context sealed, let go or ended, or an entity stopped.
 fn put_ok<W: Write>(
     piece: &mut Piece,
     writer: &mut Sink<W>,
-    subject: Subject,
+    subject: Event<EntityId>,
 ) -> Result<(), WriteFailed>
-    ensures { Told writer.old writer.new result (piece.old ++ sentence_of_ok subject.command subject) piece.new }
+    ensures { Told writer.old writer.new result (piece.old ++ sentence_of_ok subject) piece.new }
 {
-    let ctx = u64::from(subject.ctx);
-    match subject.command {
-        Command::Done => put_filled(piece, writer, b"context % takes no more locks", &[ctx]),
-        Command::Drop => put_filled(
+    match subject {
+        Event::Done { ctx } => put_filled(
+            piece,
+            writer,
+            b"context % takes no more locks",
+            &[u64::from(ctx)],
+        ),
+        Event::Drop { ctx, buffer } => put_filled(
             piece,
             writer,
             b"context % has let go of buffer %, and has no plan",
-            &[ctx, u64::from(subject.buffer)],
+            &[u64::from(ctx), u64::from(buffer.number())],
         ),
-        Command::Cancel => put_filled(
+        Event::Cancel { entity } => put_filled(
             piece,
             writer,
             b"entity % is stopped: it takes no more jobs, and its queued ones are not picked",
-            &[u64::from(subject.entity)],
+            &[u64::from(entity)],
         ),
-        _ => put_filled(piece, writer, b"context % has ended", &[ctx]),
+        _ => put_filled(piece, writer, b"context % has ended", &[ctx_in(subject)]),
     }
 }
 
@@ -49,23 +52,23 @@ fn put_ok<W: Write>(
 fn put_armed<W: Write>(
     piece: &mut Piece,
     writer: &mut Sink<W>,
-    subject: Subject,
+    subject: Event<EntityId>,
     fence: FenceId,
 ) -> Result<(), WriteFailed>
-    ensures { Told writer.old writer.new result (piece.old ++ sentence_of_armed subject.command subject fence) piece.new }
+    ensures { Told writer.old writer.new result (piece.old ++ sentence_of_armed subject fence) piece.new }
 {
-    match subject.command {
-        Command::Arm => put_filled(
+    match subject {
+        Event::Arm { ctx } => put_filled(
             piece,
             writer,
             b"the job that context % has planned has fence % and waits in the queue of its entity",
-            &[u64::from(subject.ctx), u64::from(fence)],
+            &[u64::from(ctx), u64::from(fence)],
         ),
         _ => put_filled(
             piece,
             writer,
             b"the job has fence % and waits in the queue of entity %",
-            &[u64::from(fence), u64::from(subject.entity)],
+            &[u64::from(fence), entity_in(subject)],
         ),
     }
 }
@@ -74,13 +77,13 @@ fn put_armed<W: Write>(
 fn put_picked<W: Write>(
     piece: &mut Piece,
     writer: &mut Sink<W>,
-    subject: Subject,
+    subject: Event<EntityId>,
     fence: FenceId,
     skipped: bool,
 ) -> Result<(), WriteFailed>
     ensures { Told writer.old writer.new result (piece.old ++ sentence_of_picked subject fence skipped) piece.new }
 {
-    let numbers = [u64::from(subject.ring), u64::from(fence)];
+    let numbers = [ring_in(subject), u64::from(fence)];
     if skipped {
         put_filled(
             piece,
@@ -97,13 +100,13 @@ fn put_picked<W: Write>(
 fn put_finished<W: Write>(
     piece: &mut Piece,
     writer: &mut Sink<W>,
-    subject: Subject,
+    subject: Event<EntityId>,
     fence: FenceId,
     outcome: Outcome,
 ) -> Result<(), WriteFailed>
     ensures { Told writer.old writer.new result (piece.old ++ sentence_of_finished subject fence outcome) piece.new }
 {
-    let numbers = [u64::from(fence), u64::from(subject.ring)];
+    let numbers = [u64::from(fence), ring_in(subject)];
     match outcome {
         Outcome::Good => put_filled(
             piece,
@@ -130,23 +133,22 @@ fn put_finished<W: Write>(
 fn put_read<W: Write>(
     piece: &mut Piece,
     writer: &mut Sink<W>,
-    subject: Subject,
+    subject: Event<EntityId>,
 ) -> Result<(), WriteFailed>
-    ensures { Told writer.old writer.new result (piece.old ++ sentence_of_bytes subject.command subject) piece.new }
+    ensures { Told writer.old writer.new result (piece.old ++ sentence_of_bytes subject) piece.new }
 {
-    let buffer = u64::from(subject.buffer);
-    match subject.command {
-        Command::Read => put_filled(
+    match subject {
+        Event::Read { ctx, buffer } => put_filled(
             piece,
             writer,
             b"context % reads buffer %: all that write it have ended",
-            &[u64::from(subject.ctx), buffer],
+            &[u64::from(ctx), u64::from(buffer.number())],
         ),
         _ => put_filled(
             piece,
             writer,
             b"what buffer % holds now, read with no lock",
-            &[buffer],
+            &[buffer_in(subject)],
         ),
     }
 }
@@ -170,27 +172,27 @@ fn words_of_status(status: i32) -> &'static [u8]
 fn put_status<W: Write>(
     piece: &mut Piece,
     writer: &mut Sink<W>,
-    fence: FenceId,
+    fence: u64,
     status: i32,
 ) -> Result<(), WriteFailed>
     ensures { Told writer.old writer.new result (piece.old ++ sentence_of_status fence status) piece.new }
 {
-    put_filled(piece, writer, words_of_status(status), &[u64::from(fence)])
+    put_filled(piece, writer, words_of_status(status), &[fence])
 }
 
 /// Puts what an answer means to the command that it answers, with the numbers of both. It has no line end.
 pub fn put_sentence<W: Write>(
     piece: &mut Piece,
     writer: &mut Sink<W>,
-    subject: Subject,
+    subject: Event<EntityId>,
     answer: &Answer,
 ) -> Result<(), WriteFailed>
     ensures { Told writer.old writer.new result (piece.old ++ sentence_of subject answer.now) piece.new }
 {
-    let ctx = u64::from(subject.ctx);
-    let buffer = u64::from(subject.buffer);
-    let ring = u64::from(subject.ring);
-    let entity = u64::from(subject.entity);
+    let ctx = ctx_in(subject);
+    let buffer = buffer_in(subject);
+    let ring = ring_in(subject);
+    let entity = entity_in(subject);
     match answer {
         Answer::Refused(refusal) => put_refusal(piece, writer, subject, *refusal),
         Answer::Ok => put_ok(piece, writer, subject),
@@ -275,7 +277,7 @@ pub fn put_sentence<W: Write>(
             &[u64::from(*fence), entity],
         ),
         Answer::Bytes { .. } => put_read(piece, writer, subject),
-        Answer::Status { status } => put_status(piece, writer, subject.fence, *status),
+        Answer::Status { status } => put_status(piece, writer, fence_in(subject), *status),
     }
 }
 
@@ -293,7 +295,7 @@ fn put_answer(piece: &mut Piece, answer: &Answer)
 pub(crate) fn put_worded_line<W: Write>(
     piece: &mut Piece,
     writer: &mut Sink<W>,
-    subject: Subject,
+    subject: Event<EntityId>,
     answer: &Answer,
 ) -> Result<(), WriteFailed>
     requires { length piece.old + line_room answer.now ≤ 41088 }

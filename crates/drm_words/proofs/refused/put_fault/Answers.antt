@@ -1,7 +1,7 @@
 use Rattle.drm_words.proofs.refused.put_fault.Goals as goal
 
 pub returns-in-NoEntity : goal.returns-in-NoEntity
-returns-in-NoEntity g c = rw (c.in-NoEntity.is, ← c.from-entity.ensures) c.put_filled.ensures
+returns-in-NoEntity g c = rw (c.in-NoEntity.is, ← c.entity_in-entity.ensures) c.put_filled.ensures
 
 pub returns-in-NoCredits : goal.returns-in-NoCredits
 returns-in-NoCredits g c = rw c.in-NoCredits.is c.put_filled-in-NoCredits.ensures
@@ -16,7 +16,7 @@ pub returns-in-DeclaredTwice : goal.returns-in-DeclaredTwice
 returns-in-DeclaredTwice g c = rw (c.in-DeclaredTwice.is, ← c.number-in-DeclaredTwice.ensures, ← c.from-in-DeclaredTwice.ensures) c.put_filled-in-DeclaredTwice.ensures
 
 pub returns-in-MoveNotKernel : goal.returns-in-MoveNotKernel
-returns-in-MoveNotKernel g c = rw (c.in-MoveNotKernel.is, ← c.number-in-MoveNotKernel.ensures, ← c.from-in-MoveNotKernel.ensures, ← c.from-entity.ensures) c.put_filled-in-MoveNotKernel.ensures
+returns-in-MoveNotKernel g c = rw (c.in-MoveNotKernel.is, ← c.number-in-MoveNotKernel.ensures, ← c.from-in-MoveNotKernel.ensures, ← c.entity_in-entity.ensures) c.put_filled-in-MoveNotKernel.ensures
 
 pub returns-in-PacketUndeclared : goal.returns-in-PacketUndeclared
 returns-in-PacketUndeclared g c = rw (c.in-PacketUndeclared.is, ← c.from-in-PacketUndeclared.ensures) c.put_filled-in-PacketUndeclared.ensures

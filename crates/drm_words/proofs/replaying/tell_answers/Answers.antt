@@ -29,7 +29,7 @@ loop-event-preserved g c =
     let before = c.loop-event.core in
     let after = c.apply-answer.new.self in
     let so = c.loop-event.invariant.so_far in
-    let subject = c.of_event-subject.result in
+    let subject = c.subject-subject.result in
     let line = worded_line_of subject c.apply-answer.result in
     let split : c.loop-event.rest ≡ c.in-Some.event ∷ left = c.in-Some.ensures.some in
     let named : AllNamesExist before.device.spec (c.in-Some.event ∷ left) = subst (AllNamesExist before.device.spec) split c.loop-event.invariant.names in
@@ -47,7 +47,7 @@ loop-event-preserved g c =
         turn c.args.core.now before after c.args.events left so.0 c.in-Some.event c.apply-answer.result c.apply-answer.ensures.step goes_on,
         (
           so.2.0 ++ line,
-          line_more c.args.events c.loop-event.rest left so.0 c.in-Some.event c.apply-answer.result subject so.2.0 split c.of_event-subject.ensures so.2.1,
+          line_more c.args.events c.loop-event.rest left so.0 c.in-Some.event c.apply-answer.result subject so.2.0 split c.subject-subject.ensures so.2.1,
           elim c.if-is_ok.branch [
             | then-is_ok w ↦ rw (w.told-is, w.writer-is, w.piece-is) (told_more c.args.writer.now c.loop-event.writer w.tell-told.new.writer c.loop-event.told w.tell-told.result
                 so.2.0 line c.loop-event.piece w.tell-told.new.piece (sym c.is_ok.ensures.value ∙ w.if-is_ok.true) so.2.2 w.tell-told.ensures.told)
@@ -64,7 +64,7 @@ loop-event-preserved-after-is_ok g c =
     let before = c.loop-event.core in
     let after = c.apply-answer.new.self in
     let so = c.loop-event.invariant.so_far in
-    let subject = c.of_event-subject.result in
+    let subject = c.subject-subject.result in
     let line = worded_line_of subject c.apply-answer.result in
     let split : c.loop-event.rest ≡ c.in-Some.event ∷ left = c.in-Some.ensures.some in
     let named : AllNamesExist before.device.spec (c.in-Some.event ∷ left) = subst (AllNamesExist before.device.spec) split c.loop-event.invariant.names in
@@ -82,7 +82,7 @@ loop-event-preserved-after-is_ok g c =
         turn c.args.core.now before after c.args.events left so.0 c.in-Some.event c.apply-answer.result c.apply-answer.ensures.step goes_on,
         (
           so.2.0 ++ line,
-          line_more c.args.events c.loop-event.rest left so.0 c.in-Some.event c.apply-answer.result subject so.2.0 split c.of_event-subject.ensures so.2.1,
+          line_more c.args.events c.loop-event.rest left so.0 c.in-Some.event c.apply-answer.result subject so.2.0 split c.subject-subject.ensures so.2.1,
           elim c.if-is_ok.branch [
             | then-is_ok w ↦ rw (w.told-is, w.writer-is, w.piece-is) (told_more c.args.writer.now c.loop-event.writer w.tell-told.new.writer c.loop-event.told w.tell-told.result
                 so.2.0 line c.loop-event.piece w.tell-told.new.piece (sym c.is_ok.ensures.value ∙ w.if-is_ok.true) so.2.2 w.tell-told.ensures.told)

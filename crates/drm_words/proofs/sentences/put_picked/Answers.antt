@@ -1,7 +1,7 @@
 use Rattle.drm_words.proofs.sentences.put_picked.Goals as goal
 
 pub returns-then-skipped : goal.returns-then-skipped
-returns-then-skipped g c = rw (c.if-skipped.true, ← c.from.ensures, ← c.from-2.ensures) c.put_filled.ensures
+returns-then-skipped g c = rw (c.if-skipped.true, ← c.ring_in.ensures, ← c.from.ensures) c.put_filled.ensures
 
 pub returns-else-skipped : goal.returns-else-skipped
-returns-else-skipped g c = rw (c.if-skipped.false, ← c.from.ensures, ← c.from-2.ensures) c.put_filled-else-skipped.ensures
+returns-else-skipped g c = rw (c.if-skipped.false, ← c.ring_in.ensures, ← c.from.ensures) c.put_filled-else-skipped.ensures
