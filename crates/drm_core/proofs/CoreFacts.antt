@@ -12,7 +12,7 @@ use Rattle.drm_packet.specs.Touches.{touches}
 use Rattle.drm_types.specs.Limits.{spec_fault}
 use Rattle.drm_state.specs.declared.answer.Refusal.{Refusal}
 use Rattle.drm_sched.specs.Begun.{out_or}
-use Rattle.drm_sched.specs.Marks.{Mark, MarkedDevice, buffer_out, is_in_way, is_out, out_by, ring_out}
+use Rattle.drm_sched.specs.Marks.{Mark, MarkedDevice, buffer_out, is_step_blocked, is_out, out_by, ring_out}
 use Rattle.drm_state.specs.Outcomes.{next_packet}
 use Rattle.drm_state.specs.Ring.{current_of}
 use Rattle.drm_core.specs.Laws.{DeviceLaws}
@@ -55,7 +55,7 @@ no_buffer_out d buffer none = in_marks d.marks none
     in_marks (None ∷ ms) out = in_marks ms (λ ring. out (suc ring))
     in_marks (Some m ∷ ms) out = absurd (let never : Some m ≡ None = out 0 in cc (never))
 
-pub nothing_in_way : (d : MarkedDevice) (ring : ℕ) → NothingOut d → is_in_way d ring ≡ false
+pub nothing_in_way : (d : MarkedDevice) (ring : ℕ) → NothingOut d → is_step_blocked d ring ≡ false
 nothing_in_way d ring none = ap (λ b. b || buffer_out d ring) (no_ring_out d ring none) ∙ by_current (current_of d.state ring)
   where
     none_of : (bs : List ℕ) → list_any (is_out d) bs ≡ false

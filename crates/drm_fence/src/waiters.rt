@@ -42,8 +42,8 @@ impl Waiters {
     }
 
     /// Makes the list of the next fence, where there may be one more (`cb_list` of `struct dma_fence`, which
-    /// `dma_fence_init` makes empty). Who calls it for each fence as it comes has each `watch` take the same time, since
-    /// that makes the lists that are missing. Nothing else shows it.
+    /// `dma_fence_init` makes empty). A caller that calls it for each fence in turn has each `watch` take the same
+    /// time, since `watch` makes the lists that are missing. Contracts do not see it.
     pub fn prepare_next(&mut self)
         ensures { self.new ≡ self.old }
     {

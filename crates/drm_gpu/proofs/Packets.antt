@@ -11,7 +11,7 @@ use Rattle.drm_state.specs.declared.answer.Refusal.{Refusal}
 use Rattle.drm_state.specs.declared.answer.Refusal.TheVariants.{Idle}
 use Rattle.drm_sched.specs.declared.outside.Begun.TheVariants.{Work}
 use Rattle.drm_sched.specs.Begun.{HasBegun, HasReported, IsReport, KeepsTasks, MayComeBack, MayRun, out_or}
-use Rattle.drm_sched.specs.Marks.{Mark, MarkedDevice, Task, IsBusy, buffer_out, is_in_way, is_out, mark_for, mark_of, out_by, packet_at, ring_out}
+use Rattle.drm_sched.specs.Marks.{Mark, MarkedDevice, Task, IsBusy, buffer_out, is_step_blocked, is_out, mark_for, mark_of, out_by, packet_at, ring_out}
 use Rattle.drm_state.specs.Refusals.{step_refusal}
 use Rattle.drm_state.specs.Ring.{current_of}
 use Rattle.drm_gpu.specs.declared.running.OutPacket.{OutPacket}
@@ -64,14 +64,14 @@ sent_of_job d e out (job, at, current, count, next, runs, write_is, read_is, e_i
 }
 
 -- a ring out of whose way everything is has no packet out
-pub none_out : (d : MarkedDevice) (ring : ℕ) → is_in_way d ring ≡ false → mark_of d ring ≡ None
+pub none_out : (d : MarkedDevice) (ring : ℕ) → is_step_blocked d ring ≡ false → mark_of d ring ≡ None
 none_out d ring free =
     elim (mark_of d ring) as (λ o. mark_of d ring ≡ o → o ≡ None) [
       | None ↦ λ e. refl
       | Some m ↦ λ e. absurd (let never : true ≡ false = ap (λ (o : Option Mark). not (is_none o) || buffer_out d ring) (sym e) ∙ free in cc (never))
     ] refl
 
--- a step that nothing is in the way of is refused where the ring is idle alone
+-- a step that no packet blocks is refused only where the ring is idle
 pub only_idle : (d : MarkedDevice) (ring : ℕ) (b : Bool) (r : Refusal) → b ≡ false → out_or b (step_refusal d.state ring) ≡ Some r → out_or b (step_refusal d.state ring) ≡ Some Idle
 only_idle d ring true r free is = absurd (cc (free))
 only_idle d ring false r free is =

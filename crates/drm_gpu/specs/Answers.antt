@@ -10,7 +10,7 @@ use Rattle.drm_state.specs.declared.errors.FinishError.{FinishError}
 use Rattle.drm_state.specs.declared.errors.StepError.{StepError}
 use Rattle.drm_sched.specs.Begun.{HasReported}
 use Rattle.drm_sched.specs.Calls as device
-use Rattle.drm_sched.specs.Marks.{MarkedDevice, is_in_way, ring_out}
+use Rattle.drm_sched.specs.Marks.{MarkedDevice, is_step_blocked, ring_out}
 pub use Rattle.drm_sched.specs.Calls.{PickIs, CancelIs, ReapIs}
 
 -- a packet that ran was out of the device that was found, and is back. A step that runs nothing found no packet in
@@ -18,8 +18,8 @@ pub use Rattle.drm_sched.specs.Calls.{PickIs, CancelIs, ReapIs}
 abbrev pub StepIs : ℕ → Result Stepped StepError → MarkedDevice → MarkedDevice → Type 0
 StepIs ring (Ok (Ran fence packet)) d e = HasReported d ring (fence, packet) e
 StepIs ring (Ok (Stalled fence)) d e =
-    (is_in_way d ring ≡ false) × device.StepIs ring (Ok (Stalled fence)) d e × (e ≡ d)
-StepIs ring (Err r) d e = (is_in_way d ring ≡ false) × device.StepIs ring (Err r) d e
+    (is_step_blocked d ring ≡ false) × device.StepIs ring (Ok (Stalled fence)) d e × (e ≡ d)
+StepIs ring (Err r) d e = (is_step_blocked d ring ≡ false) × device.StepIs ring (Err r) d e
 
 -- a finish and a timeout found no packet of the ring out
 abbrev pub FinishIs : ℕ → ℕ → Result Finished FinishError → MarkedDevice → MarkedDevice → Type 0

@@ -6,7 +6,7 @@ use Rattle.drm_state.specs.declared.errors.StepError.TheVariants.{Idle}
 use Rattle.drm_state.specs.declared.answer.Stepped.TheVariants.{Stalled}
 use Rattle.drm_sched.specs.declared.outside.Begun.TheVariants.{Work}
 use Rattle.drm_sched.specs.Begun.{HasBegun}
-use Rattle.drm_sched.specs.Marks.{MarkedDevice, Task, is_in_way, is_out, packet_at, ring_out}
+use Rattle.drm_sched.specs.Marks.{MarkedDevice, Task, is_step_blocked, is_out, packet_at, ring_out}
 use Rattle.drm_state.specs.Refusals.{step_refusal}
 use Rattle.ww_lock.specs.Seats.{sees}
 use Rattle.ww_lock.specs.Fences.{NotBack}
@@ -40,7 +40,7 @@ pub record Starts (ring : ℕ) (old : PassState) (new : RunningState) : Type 0 w
   pub shows : (fence word : ℕ) → In (fence, word) old.looked → NotBack word (word_shown found fence)
   pub alone : IsWhole old.part → found ≡ old.last
   pub ring_is : new.ring ≡ ring
-  pub free : is_in_way found ring ≡ false
+  pub free : is_step_blocked found ring ≡ false
   pub taken : step_refusal found.state ring ≡ None
   pub out : OutPacket
   pub begun : HasBegun found ring (Work new.fence new.packet out.copy out.write out.read) new.pass.last
@@ -52,11 +52,11 @@ abbrev pub RunsNothing : ℕ → PassState → StartError → Type 0
 RunsNothing ring old (start.Stalled pass fence) = Calls (StepIs ring (Ok (Stalled fence))) old pass
 RunsNothing ring old (start.Idle pass) = Calls (StepIs ring (Err Idle)) old pass
 
--- a packet that is out keeps the caller from what it needs
-abbrev pub is_kept : Needs → MarkedDevice → Bool
-is_kept (Ring ring) d = ring_out d ring
-is_kept (Step ring) d = is_in_way d ring
-is_kept (Buffer buffer) d = is_out d buffer
+-- a packet that is out blocks the caller
+abbrev pub is_blocked : Needs → MarkedDevice → Bool
+is_blocked (Ring ring) d = ring_out d ring
+is_blocked (Step ring) d = is_step_blocked d ring
+is_blocked (Buffer buffer) d = is_out d buffer
 
 abbrev pub IsThere : Needs → DeviceSpec → Type 0
 IsThere (Ring ring) spec = ring < length spec.rings
@@ -96,7 +96,7 @@ pub record GoesOut (gpu : GpuState) (ring : ℕ) (out : OutPacket) (v : Seeing) 
   pub is_found : IsFound found v
   pub same : IsSameBut v (sees s)
   pub ring_is : out.ring ≡ ring
-  pub free : is_in_way found ring ≡ false
+  pub free : is_step_blocked found ring ≡ false
   pub taken : step_refusal found.state ring ≡ None
   pub begun : HasBegun found ring (Work out.fence out.packet out.copy out.write out.read) (last_of (sees s))
   pub has : SeatHasOut gpu out s

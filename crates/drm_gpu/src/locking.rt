@@ -89,7 +89,7 @@ impl<'g> Model for Locked<'g> {
     ghost invariant = { λ l. Holding l.gpu.now l.acquire × (l.acquire.sealed ≡ true) × IsJob l.gpu.now.spec l.job × HoldsAll l.job (kept_of l.acquire.seat.held.items) };
 }
 
-// Gives back everything that is held.
+// Releases all that is held.
 pub(crate) fn release_all(gpu: &Gpu, acquire: &mut DeviceAcquire)
     requires { Holding gpu.now acquire.old }
     ensures holding { Holding gpu.now acquire.new × (acquire.new.seat.held.items ≡ []) }
@@ -102,8 +102,8 @@ pub(crate) fn release_all(gpu: &Gpu, acquire: &mut DeviceAcquire)
     }
 }
 
-// Gives everything back that is held, and the ticket up.
-pub(crate) fn give_up(gpu: &Gpu, acquire: DeviceAcquire) -> Pass
+// Releases all that is held, and ends the context (`ww_acquire_fini`).
+pub(crate) fn release_and_end(gpu: &Gpu, acquire: DeviceAcquire) -> Pass
     requires { Holding gpu.now acquire }
     ensures { result ≡ pass_of gpu.now.home (view acquire) }
 {
@@ -438,7 +438,7 @@ impl<'g> Locking<'g> {
         ensures { (result.0 ≡ self.entry.pass) × (result.1 ≡ self.entry.job) }
     {
         let Locking { gpu, acquire, job } = self;
-        (give_up(gpu, acquire), job)
+        (release_and_end(gpu, acquire), job)
     }
 }
 
@@ -469,6 +469,6 @@ impl<'g> Locked<'g> {
         ensures { (result.0 ≡ self.entry.pass) × (result.1 ≡ self.entry.job) }
     {
         let Locked { gpu, acquire, job } = self;
-        (give_up(gpu, acquire), job)
+        (release_and_end(gpu, acquire), job)
     }
 }

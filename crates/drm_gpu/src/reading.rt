@@ -6,7 +6,7 @@ ghost use Rattle.drm_gpu.specs.Reading.{ReadIs, ReadbacksAgree};
 ghost use Rattle.drm_gpu.specs.Status.{AnswersStatus};
 
 use crate::gpu::Gpu;
-use crate::locking::{DeviceAcquire, give_up};
+use crate::locking::{DeviceAcquire, release_and_end};
 use crate::pass::Pass;
 use crate::waiting::Needs;
 use drm_fence::NoFence;
@@ -85,7 +85,7 @@ impl<'g> Reading<'g> {
             acquire,
             buffer: _,
         } = self;
-        give_up(gpu, acquire)
+        release_and_end(gpu, acquire)
     }
 }
 

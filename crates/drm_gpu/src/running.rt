@@ -109,8 +109,8 @@ impl OutPacket {
 }
 
 impl Gpu {
-    // Sends the ring's next packet out.
-    fn send_out<R: Wait>(&self, seat: &mut DeviceSeat, ring: RingId, rt: &R) -> Sent
+    // Starts the ring's next packet: the caller gets it with its buffers.
+    fn start_packet<R: Wait>(&self, seat: &mut DeviceSeat, ring: RingId, rt: &R) -> Sent
         requires seat { IsPassSeat self.now seat.old }
         requires ring { ring < length self.now.spec.rings }
         ensures { IsSent self.now ring result (sees seat.old) seat.new }
@@ -149,8 +149,8 @@ impl Gpu {
         }
     }
 
-    // Takes a packet back that was out and has run.
-    fn take_back<R: Wait>(&self, seat: &mut DeviceSeat, ran: RanPacket, rt: &R) -> Stepped
+    // Reports a packet that has run, and puts its buffers back.
+    fn finish_packet<R: Wait>(&self, seat: &mut DeviceSeat, ran: RanPacket, rt: &R) -> Stepped
         requires { SeatHasRun self.now ran seat.old }
         ensures ran { result ≡ Ran ran.out.fence ran.out.packet }
         ensures seat { IsPassSeat self.now seat.new }
@@ -173,7 +173,7 @@ impl Gpu {
     }
 
     /// Sends the ring's next packet out of the device, to be run outside its lock (`drm_sched_run_job_work` calls the
-    /// `run_job` callback so). It waits while a packet that is out is in the way.
+    /// `run_job` callback so). It waits while a packet that is out blocks the step.
     ///
     /// # Errors
     ///
@@ -190,7 +190,7 @@ impl Gpu {
         ensures nothing { IfErr result (RunsNothing ring pass) }
     {
         let Pass { mut seat } = pass;
-        match self.send_out(&mut seat, ring, rt) {
+        match self.start_packet(&mut seat, ring, rt) {
             Sent::Out(out) => Ok(Running {
                 gpu: self,
                 seat,
@@ -202,7 +202,7 @@ impl Gpu {
     }
 
     /// Runs one packet of the first pending job of the ring that has some left: `start` and `run` in one. It waits while a
-    /// packet that is out is in the way.
+    /// packet that is out blocks the step.
     ///
     /// # Errors
     ///
@@ -212,8 +212,8 @@ impl Gpu {
         requires ring { ring < length self.now.spec.rings }
         ensures call { Calls (StepIs ring result) pass.old pass.new }
     {
-        match self.send_out(&mut pass.seat, ring, rt) {
-            Sent::Out(out) => Ok(self.take_back(&mut pass.seat, out.run(), rt)),
+        match self.start_packet(&mut pass.seat, ring, rt) {
+            Sent::Out(out) => Ok(self.finish_packet(&mut pass.seat, out.run(), rt)),
             Sent::Stalled(fence) => Ok(Stepped::Stalled { fence }),
             Sent::Idle => Err(StepError::Idle),
         }
@@ -235,7 +235,7 @@ impl<'g> Running<'g> {
         ensures call { Calls (StepIs self.entry.ring (Ok result.1)) self.entry.pass result.0 }
     {
         let Running { gpu, mut seat, out } = self;
-        let ran = gpu.take_back(&mut seat, out.run(), rt);
+        let ran = gpu.finish_packet(&mut seat, out.run(), rt);
         (Pass { seat }, ran)
     }
 }

@@ -9,7 +9,7 @@ ghost use Rattle.drm_gpu.specs.Submissions.{ArmIs, ArmRefused};
 
 use crate::fence_word::FenceWord;
 use crate::gpu::Gpu;
-use crate::locking::{DeviceAcquire, Locked, give_up};
+use crate::locking::{DeviceAcquire, Locked, release_and_end};
 use crate::pass::Pass;
 use drm_fence::NoFence;
 use drm_job::Job;
@@ -77,7 +77,7 @@ fn take_rooms(held: &mut [(BufferId, Resv)]) -> Result<(), AllocError>
     Ok(())
 }
 
-// The same of a list of them.
+// Takes room for one more fence in each reservation of a list.
 fn take_all_rooms(held: &mut Held) -> Result<(), AllocError>
     ensures kept { kept_of held.new.items ≡ kept_of held.old.items }
     ensures room { (job : _) → OnOk result (HaveRoom job held.new.items) }
@@ -179,7 +179,7 @@ impl<'g> Planned<'g> {
     {
         let Planned { gpu, acquire, plan } = self;
         let Plan { job, deps: _ } = plan;
-        (give_up(gpu, acquire), job)
+        (release_and_end(gpu, acquire), job)
     }
 }
 
@@ -214,6 +214,6 @@ impl<'g> Armed<'g> {
             acquire,
             fence: _,
         } = self;
-        give_up(gpu, acquire)
+        release_and_end(gpu, acquire)
     }
 }

@@ -14,7 +14,7 @@ use Rattle.drm_state.specs.declared.journal.JobRecord.{JobRecord}
 use Rattle.drm_sched.specs.declared.parts.OutMark.{OutMark}
 use Rattle.drm_sched.specs.declared.parts.Parts.{Parts}
 use Rattle.drm_table.specs.declared.table.Table.{Table}
-use Rattle.drm_sched.specs.Marks.{Mark, mark_of, mark_for, ring_out, buffer_out, is_in_way, begun_device, IsSteadyMarked}
+use Rattle.drm_sched.specs.Marks.{Mark, mark_of, mark_for, ring_out, buffer_out, is_step_blocked, begun_device, IsSteadyMarked}
 use Rattle.drm_sched.specs.Parts.{mark_of_row, marked_of, IsWholeMarked, HasOut}
 use Rattle.drm_state.specs.Outcomes.{must_stall}
 use Rattle.drm_state.specs.Ring.{current_of}
@@ -27,7 +27,7 @@ use Rattle.drm_table.proofs.TableFacts.{neither}
 -- the ring's next packet, which may go out
 pub record MayGo (d : Parts) (ring f : ℕ) (r : JobRecord) (p : Packet) : Type 0 where
   pub there : ring < length d.table.spec.rings
-  pub free : is_in_way (marked_of d) ring ≡ false
+  pub free : is_step_blocked (marked_of d) ring ≡ false
   pub current : current_of (state_of d.table) ring ≡ Some f
   pub at : slice_get d.table.journal.items f ≡ Some r
   pub next : slice_get r.job.packets r.ran ≡ Some p

@@ -26,7 +26,7 @@ use Rattle.drm_table.specs.Tables.{state_of, IsWhole}
 use Rattle.drm_sched.specs.declared.heads.Heads.{Heads}
 use Rattle.drm_sched.specs.declared.parts.Parts.{Parts}
 use Rattle.drm_sched.specs.Calls.{IsAnswered, PickIs, StepIs, FinishIs, TimeoutIs, CancelIs, ReapIs}
-use Rattle.drm_sched.specs.Marks.{ring_out, is_in_way}
+use Rattle.drm_sched.specs.Marks.{ring_out, is_step_blocked}
 use Rattle.drm_sched.specs.Parts.{marked_of, IsWholeMarked}
 use Rattle.drm_sched.proofs.Calls.{after_call, none_out}
 use Rattle.drm_sched.proofs.MarksOther.{LeavesMarks, marks_stay, pick_leaves_marks, finish_leaves_marks, timeout_leaves_marks, cancel_leaves_marks, reap_leaves_marks, arm_leaves_marks}
@@ -92,7 +92,7 @@ pub step_marked : (d : Parts) (n : Table) (h : Heads) (ring : ℕ) (r : Result S
     → n.memory.out ≡ d.table.memory.out → StepIs ring r (marked_of d) (marked_of (with_tables d n h)) → IsWholeMarked (with_tables d n h)
 step_marked d n h ring r w there whole out is =
     call_marked d n h r w whole out is
-    (λ may. step_leaves_marks (marked_of d) ring w.steady there (none_out (is_in_way (marked_of d) ring) (step_refusal (state_of d.table) ring) may).0)
+    (λ may. step_leaves_marks (marked_of d) ring w.steady there (none_out (is_step_blocked (marked_of d) ring) (step_refusal (state_of d.table) ring) may).0)
 
 pub finish_marked : (d : Parts) (n : Table) (h : Heads) (ring now : ℕ) (r : Result Finished FinishError) → IsWholeMarked d → ring < length d.table.spec.rings → IsWhole n
     → n.memory.out ≡ d.table.memory.out → FinishIs ring now r (marked_of d) (marked_of (with_tables d n h)) → IsWholeMarked (with_tables d n h)

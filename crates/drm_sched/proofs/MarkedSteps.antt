@@ -11,7 +11,7 @@ use Rattle.drm_state.specs.Journal.{is_at}
 use Rattle.drm_state.specs.Outcomes.{must_stall, at_record, stepped_by, ran_device, step_outcome}
 use Rattle.drm_state.specs.Ring.{current_of}
 use Rattle.drm_state.specs.State.{DeviceState}
-use Rattle.drm_sched.specs.Marks.{Mark, MarkedDevice, mark_of, packet_at, out_by, ring_out, buffer_out, is_in_way, IsOut, IsSteadyMarked}
+use Rattle.drm_sched.specs.Marks.{Mark, MarkedDevice, mark_of, packet_at, out_by, ring_out, buffer_out, is_step_blocked, IsOut, IsSteadyMarked}
 use Rattle.drm_state.proofs.Records.{changed_is}
 use Rattle.drm_state.proofs.RanLawful.{current_is, one_more_ran}
 use Rattle.drm_state.proofs.DeviceSteps.{at_record_is, step_kept}
@@ -20,8 +20,8 @@ use Rattle.drm_sched.proofs.Marks.{ran_leaves_out}
 use Rattle.drm_sched.proofs.MarksKept.{is_out_at, next_is_free, touches_out, same_packet}
 use Rattle.drm_sched.proofs.MarksOther.{Stays, LeavesMarks, ring_is_there, apart_from}
 
--- each mark stays over a step that nothing is in the way of
-step_stays : (d : MarkedDevice) (ring k : ℕ) (m : Mark) → IsSteadyMarked d → ring < length d.state.spec.rings → is_in_way d ring ≡ false
+-- each mark stays over a step that no packet blocks
+step_stays : (d : MarkedDevice) (ring k : ℕ) (m : Mark) → IsSteadyMarked d → ring < length d.state.spec.rings → is_step_blocked d ring ≡ false
     → mark_of d k ≡ Some m → Stays d.state (step_outcome d.state ring).1 k m
 step_stays d ring k m steady there free is = by_current (current_of device ring) refl
   where
@@ -63,7 +63,7 @@ step_stays d ring k m steady there free is = by_current (current_of device ring)
         at_record_is (λ q. Stays device q.1 k m) device (λ number r. option_map_or (stepped_by device number) (slice_get r.job.packets r.ran) (answer.Ok, device)) (answer.Ok, device) f c.0 c.1.at
         (by_packet f c.0 c.1.at now (slice_get c.0.job.packets c.0.ran) refl)
 
-pub step_leaves_marks : (d : MarkedDevice) (ring : ℕ) → IsSteadyMarked d → ring < length d.state.spec.rings → is_in_way d ring ≡ false → LeavesMarks d (step_outcome d.state ring).1
+pub step_leaves_marks : (d : MarkedDevice) (ring : ℕ) → IsSteadyMarked d → ring < length d.state.spec.rings → is_step_blocked d ring ≡ false → LeavesMarks d (step_outcome d.state ring).1
 step_leaves_marks d ring steady there free = record {
   spec = (step_kept d.state ring steady.state there).grows.spec;
   stays = λ k m is. step_stays d ring k m steady there free is;

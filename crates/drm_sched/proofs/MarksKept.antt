@@ -32,7 +32,7 @@ is_out_at d ring b m is inside =
     any_from (λ o. list_any (λ x. x == b) (out_by d.state.journal o)) d.marks (Some m) (contains_at d.marks ring (Some m) (mark_at d.marks ring m is))
     (any_from (λ x. x == b) (out_by d.state.journal (Some m)) b inside (eq-eqb b b refl))
 
--- what a ring's next packet touches is not out, where nothing of it is in the way
+-- a ring's next packet touches nothing that is out, where no packet blocks the step
 pub next_is_free : (d : MarkedDevice) (ring f b : ℕ) (r : JobRecord) (p : Packet) → buffer_out d ring ≡ false → current_of d.state ring ≡ Some f
     → slice_get d.state.journal f ≡ Some r → slice_get r.job.packets r.ran ≡ Some p → Contains (touches p) b → is_out d b ≡ true → ⊥
 next_is_free d ring f b r p free current at next touched out =

@@ -27,7 +27,7 @@ use Rattle.drm_state.specs.Refusals.{arm_refusal, pick_refusal, step_refusal, fi
 use Rattle.drm_state.specs.State.{DeviceState}
 use Rattle.drm_sched.specs.declared.outside.Begun.{Begun}
 use Rattle.drm_sched.specs.Begun.{HasBegun, out_or}
-use Rattle.drm_sched.specs.Marks.{MarkedDevice, is_in_way, ring_out}
+use Rattle.drm_sched.specs.Marks.{MarkedDevice, is_step_blocked, ring_out}
 
 -- the call was not refused and led to its outcome, or it was refused and changed nothing. What was out stays out
 pub record IsAnswered {X E : Type 0} (refusal : Option Refusal) (outcome : Answer × DeviceState)
@@ -44,7 +44,7 @@ PickIs ring now result d e =
 -- a packet in its way keeps a ring from a step, and one of its own from a finish and a timeout
 abbrev pub StepIs : ℕ → Result Stepped StepError → MarkedDevice → MarkedDevice → Type 0
 StepIs ring result d e =
-    IsAnswered (out_or (is_in_way d ring) (step_refusal d.state ring)) (step_outcome d.state ring)
+    IsAnswered (out_or (is_step_blocked d ring) (step_refusal d.state ring)) (step_outcome d.state ring)
     refusal_of_step stepped result d e
 
 abbrev pub FinishIs : ℕ → ℕ → Result Finished FinishError → MarkedDevice → MarkedDevice → Type 0
@@ -70,9 +70,9 @@ ReapIs entity result d e =
 -- the ring's next packet went out or waits, or the step is refused and changes nothing
 abbrev pub BeginIs : ℕ → Result Begun StepError → MarkedDevice → MarkedDevice → Type 0
 BeginIs ring (Ok begun) d e =
-    (out_or (is_in_way d ring) (step_refusal d.state ring) ≡ None) × HasBegun d ring begun e
+    (out_or (is_step_blocked d ring) (step_refusal d.state ring) ≡ None) × HasBegun d ring begun e
 BeginIs ring (Err r) d e =
-    (out_or (is_in_way d ring) (step_refusal d.state ring) ≡ Some (refusal_of_step r)) × (e ≡ d)
+    (out_or (is_step_blocked d ring) (step_refusal d.state ring) ≡ Some (refusal_of_step r)) × (e ≡ d)
 
 -- the job is armed, under this number
 pub record ArmIs (job : Draft) (fence : ℕ) (d e : MarkedDevice) : Type 0 where

@@ -57,9 +57,9 @@ buffer_out d ring =
     (current_of d.state ring)
     false
 
--- a packet that is out keeps the ring from a step, and from beginning one
-abbrev pub is_in_way : MarkedDevice → ℕ → Bool
-is_in_way d ring = ring_out d ring || buffer_out d ring
+-- a packet that is out blocks a step of the ring, and the beginning of one
+abbrev pub is_step_blocked : MarkedDevice → ℕ → Bool
+is_step_blocked d ring = ring_out d ring || buffer_out d ring
 
 -- the mark of a packet that goes out now
 abbrev pub mark_for : DeviceState → ℕ → JobRecord → Packet → Mark

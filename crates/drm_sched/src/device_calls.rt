@@ -19,7 +19,7 @@ ghost use Rattle.drm_state.specs.Refusals.{arm_refusal, busy_fence};
 ghost use Rattle.drm_state.specs.State.{opened_device};
 ghost use Rattle.drm_sched.specs.Begun.{IsReport, HasReported, KeepsTasks, MayRun, out_or, MayComeBack};
 ghost use Rattle.drm_sched.specs.Calls.{PickIs, StepIs, FinishIs, TimeoutIs, CancelIs, ReapIs, BeginIs, ArmIs, ArmRefused, LacksFence, StatusIs, StaysLawful};
-ghost use Rattle.drm_sched.specs.Marks.{is_in_way, is_out, ring_out, unmarked, IsSteadyMarked};
+ghost use Rattle.drm_sched.specs.Marks.{is_step_blocked, is_out, ring_out, unmarked, IsSteadyMarked};
 ghost use Rattle.drm_state.specs.Steady.{IsSteady};
 ghost use Rattle.drm_state.specs.Records.{fence_state_of};
 ghost use Rattle.drm_state.specs.Errors.{refusal_of_arm, refusal_of_read};
@@ -125,7 +125,7 @@ impl Device {
         self.parts.begin_step(ring)
     }
 
-    /// Whether the ring has a packet out, which keeps it from a finish and a timeout.
+    /// Whether the ring has a packet out, which blocks a finish and a timeout.
     pub fn has_packet_out(&self, ring: RingId) -> bool
         requires there { ring < length self.now.state.spec.rings }
         ensures { result ≡ ring_out self.now ring }
@@ -133,12 +133,12 @@ impl Device {
         self.parts.has_out(ring)
     }
 
-    /// Whether a packet that is out keeps the ring from a step: its own, or one that has a buffer of its next packet.
-    pub fn is_step_kept(&self, ring: RingId) -> bool
+    /// Whether a packet that is out blocks a step of the ring: its own, or one that has a buffer of its next packet.
+    pub fn is_step_blocked(&self, ring: RingId) -> bool
         requires there { ring < length self.now.state.spec.rings }
-        ensures { result ≡ is_in_way self.now ring }
+        ensures { result ≡ is_step_blocked self.now ring }
     {
-        self.parts.is_in_way(ring)
+        self.parts.is_step_blocked(ring)
     }
 
     /// Whether the buffer is out with a packet.

@@ -106,8 +106,8 @@ impl Heads {
         table.entities.head(entity)
     }
 
-    /// A job is about to be armed: what is kept of the fence that it gets is set now, so that who waits for it later
-    /// need not. Nothing else shows it.
+    /// Prepares the list of waiters of the fence that the next job gets, so that no later wait has to. Contracts do not
+    /// see it.
     pub(crate) fn prepare_next(&mut self)
         ensures { self.new ≡ self.old }
     {

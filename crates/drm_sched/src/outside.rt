@@ -40,7 +40,7 @@ impl Parts {
         ensures whole { IsWholeMarked self.new }
         ensures heads { HasHeads self.new }
     {
-        if self.is_in_way(ring) {
+        if self.is_step_blocked(ring) {
             return Err(StepError::PacketOut);
         }
         let Some(number) = self.table.current(ring) else {
@@ -80,7 +80,7 @@ impl Parts {
     {
         match mem::replace(&mut self.marks[ring as usize], None) {
             Some(mark) => {
-                self.table.take_back(ring, mark.fence, write, read);
+                self.table.put_back(ring, mark.fence, write, read);
                 (mark.fence, mark.packet)
             }
             None => unreachable!(),

@@ -6,7 +6,7 @@ ghost use Rattle.drm_state.specs.Plans.{DepsCover, all_named};
 ghost use Rattle.drm_state.specs.Refusals.{arm_refusal};
 ghost use Rattle.drm_state.specs.State.{opened_device};
 ghost use Rattle.drm_sched.specs.Calls.{PickIs, StepIs, FinishIs, TimeoutIs, CancelIs, ReapIs, ArmIs};
-ghost use Rattle.drm_sched.specs.Marks.{ring_out, is_in_way, unmarked};
+ghost use Rattle.drm_sched.specs.Marks.{ring_out, is_step_blocked, unmarked};
 ghost use Rattle.drm_sched.specs.Parts.{mark_of_row, marked_of, IsWholeMarked, HasHeads};
 ghost use Rattle.drm_table.specs.Tables.{state_of};
 
@@ -100,11 +100,11 @@ impl Parts {
         self.marks[ring as usize].is_some()
     }
 
-    /// Whether a packet that is out keeps the ring from a step.
-    pub(crate) fn is_in_way(&self, ring: RingId) -> bool
+    /// Whether a packet that is out blocks a step of the ring.
+    pub(crate) fn is_step_blocked(&self, ring: RingId) -> bool
         requires there { ring < length self.now.table.spec.rings }
         requires whole { IsWholeMarked self.now }
-        ensures { result ≡ is_in_way (marked_of self.now) ring }
+        ensures { result ≡ is_step_blocked (marked_of self.now) ring }
     {
         if self.has_out(ring) {
             return true;
@@ -139,7 +139,7 @@ impl Parts {
         ensures whole { IsWholeMarked self.new }
         ensures heads { HasHeads self.new }
     {
-        if self.is_in_way(ring) {
+        if self.is_step_blocked(ring) {
             return Err(StepError::PacketOut);
         }
         self.table.step(ring)

@@ -21,8 +21,8 @@ impl Table {
         record.job.packet(record.ran).asks_out(&self.memory)
     }
 
-    /// The ring's packet, of this job, has come back: its buffers are in, and the job has run one packet more.
-    pub fn take_back(
+    /// Puts the buffers of the ring's packet back, which is of this job: the job has run one packet more.
+    pub fn put_back(
         &mut self,
         ring: RingId,
         number: FenceId,

@@ -8,8 +8,8 @@ use Rattle.drm_sched.proofs.MarkedReport.{row_mark, report_back, report_leaves, 
 use Rattle.drm_sched.proofs.MarkedReported.{report_marked}
 use Rattle.drm_sched.proofs.parts.Parts.report.Goals as goal
 
-pub take_back-requires-clause-back : goal.take_back-requires-clause-back
-take_back-requires-clause-back c =
+pub put_back-requires-clause-back : goal.put_back-requires-clause-back
+put_back-requires-clause-back c =
     let d = c.args.self.now in
     let at = mark_found d c.args.ring c.index_mut.result.now c.args.write c.args.read c.index_mut.ensures.value c.requires.busy ∙ ap (λ o. Some o) (sym c.replace.ensures.value ∙ c.in-Some.is) in
     let is = row_mark d c.args.ring (Some c.in-Some.mark) at in
@@ -26,16 +26,16 @@ returns-clause-call c =
     let d = c.args.self.now in
     let at = mark_found d c.args.ring c.index_mut.result.now c.args.write c.args.read c.index_mut.ensures.value c.requires.busy ∙ ap (λ o. Some o) (sym c.replace.ensures.value ∙ c.in-Some.is) in
     let is = row_mark d c.args.ring (Some c.in-Some.mark) at in
-    let new : Parts = record { table = c.take_back.new.self; marks = with_item d.marks c.args.ring c.replace.new.dest; heads = d.heads } in
-    report_leaves d c.args.ring c.in-Some.mark c.take_back.new.self new c.requires.whole is c.take_back.ensures.ran refl (ap (set d.marks.items c.args.ring) c.replace.ensures.after)
+    let new : Parts = record { table = c.put_back.new.self; marks = with_item d.marks c.args.ring c.replace.new.dest; heads = d.heads } in
+    report_leaves d c.args.ring c.in-Some.mark c.put_back.new.self new c.requires.whole is c.put_back.ensures.ran refl (ap (set d.marks.items c.args.ring) c.replace.ensures.after)
 
 pub returns-clause-whole : goal.returns-clause-whole
 returns-clause-whole c =
     let d = c.args.self.now in
     let at = mark_found d c.args.ring c.index_mut.result.now c.args.write c.args.read c.index_mut.ensures.value c.requires.busy ∙ ap (λ o. Some o) (sym c.replace.ensures.value ∙ c.in-Some.is) in
     let is = row_mark d c.args.ring (Some c.in-Some.mark) at in
-    let new : Parts = record { table = c.take_back.new.self; marks = with_item d.marks c.args.ring c.replace.new.dest; heads = d.heads } in
-    report_marked d c.args.ring c.in-Some.mark c.take_back.new.self new c.requires.whole is c.take_back.ensures.ran c.take_back.ensures.whole refl
+    let new : Parts = record { table = c.put_back.new.self; marks = with_item d.marks c.args.ring c.replace.new.dest; heads = d.heads } in
+    report_marked d c.args.ring c.in-Some.mark c.put_back.new.self new c.requires.whole is c.put_back.ensures.ran c.put_back.ensures.whole refl
     (ap (set d.marks.items c.args.ring) c.replace.ensures.after)
 
 pub returns-clause-heads : goal.returns-clause-heads
@@ -43,7 +43,7 @@ returns-clause-heads c =
     let d = c.args.self.now in
     let at = mark_found d c.args.ring c.index_mut.result.now c.args.write c.args.read c.index_mut.ensures.value c.requires.busy ∙ ap (λ o. Some o) (sym c.replace.ensures.value ∙ c.in-Some.is) in
     let is = row_mark d c.args.ring (Some c.in-Some.mark) at in
-    let new : Parts = record { table = c.take_back.new.self; marks = with_item d.marks c.args.ring c.replace.new.dest; heads = d.heads } in
+    let new : Parts = record { table = c.put_back.new.self; marks = with_item d.marks c.args.ring c.replace.new.dest; heads = d.heads } in
     report_beside d new d.heads c.args.ring (c.in-Some.mark.fence, c.in-Some.mark.packet) c.requires.whole
-    (report_leaves d c.args.ring c.in-Some.mark c.take_back.new.self new c.requires.whole is c.take_back.ensures.ran refl (ap (set d.marks.items c.args.ring) c.replace.ensures.after))
-    c.take_back.ensures.waits c.requires.heads
+    (report_leaves d c.args.ring c.in-Some.mark c.put_back.new.self new c.requires.whole is c.put_back.ensures.ran refl (ap (set d.marks.items c.args.ring) c.replace.ensures.after))
+    c.put_back.ensures.waits c.requires.heads

@@ -3,7 +3,7 @@ use Rattle.std.specs.Prelude.{◌||◌}
 use Rattle.drm_sched.specs.Marks.{buffer_out}
 use Rattle.drm_sched.specs.Parts.{marked_of}
 use Rattle.drm_sched.proofs.MarkedOut.{asks_is}
-use Rattle.drm_sched.proofs.parts.Parts.is_in_way.Goals as goal
+use Rattle.drm_sched.proofs.parts.Parts.is_step_blocked.Goals as goal
 
 pub returns : goal.returns
 returns c =

@@ -8,7 +8,7 @@ use Rattle.drm_gpu.specs.Answers.{StepIs}
 use Rattle.drm_gpu.specs.Passes.{last_of}
 use Rattle.drm_gpu.proofs.Called.{calls_as}
 use Rattle.drm_gpu.proofs.Packets.{job_later, may_report, reported_is}
-use Rattle.drm_gpu.proofs.gpu.Gpu.take_back.Goals as goal
+use Rattle.drm_gpu.proofs.gpu.Gpu.finish_packet.Goals as goal
 
 pub report-requires : goal.report-requires
 report-requires g c =

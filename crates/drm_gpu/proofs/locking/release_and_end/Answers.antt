@@ -4,7 +4,7 @@ use Rattle.ww_lock.specs.Seats.{sees}
 use Rattle.drm_gpu.specs.Passes.{pass_of}
 use Rattle.drm_gpu.proofs.Chains.{pass_here}
 use Rattle.drm_gpu.proofs.Holders.{ended}
-use Rattle.drm_gpu.proofs.locking.give_up.Goals as goal
+use Rattle.drm_gpu.proofs.locking.release_and_end.Goals as goal
 
 pub end-requires : goal.end-requires
 end-requires c = (c.release_all.ensures.holding.1, c.release_all.ensures.holding.0.seat.sits.inside)

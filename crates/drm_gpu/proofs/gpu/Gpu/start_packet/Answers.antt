@@ -17,7 +17,7 @@ use Rattle.drm_gpu.proofs.Called.{calls_as}
 use Rattle.drm_gpu.proofs.Chains.{holds_trans, pass_on}
 use Rattle.drm_gpu.proofs.Grown.{grows_itself}
 use Rattle.drm_gpu.proofs.Packets.{none_out, only_idle, waits_for}
-use Rattle.drm_gpu.proofs.gpu.Gpu.send_out.Goals as goal
+use Rattle.drm_gpu.proofs.gpu.Gpu.start_packet.Goals as goal
 
 pub leave_sent-requires-clause-free : goal.leave_sent-requires-clause-free
 leave_sent-requires-clause-free g c =

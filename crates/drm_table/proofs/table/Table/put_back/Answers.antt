@@ -12,7 +12,7 @@ use Rattle.drm_state.proofs.Records.{at_index}
 use Rattle.drm_table.proofs.TableFacts.{running_found, next_in_range, few_packets, vec_holds, row_found}
 use Rattle.drm_table.proofs.StepDone.{step_done, ran_passes}
 use Rattle.drm_table.proofs.ComingBack.{packet_back, runs_back, back_state}
-use Rattle.drm_table.proofs.table.Table.take_back.Goals as goal
+use Rattle.drm_table.proofs.table.Table.put_back.Goals as goal
 use Rattle.drm_state.specs.Rows.{is_open, passed_of, ring_state_of}
 use Rattle.drm_table.proofs.RowsKept.{passed_row}
 
