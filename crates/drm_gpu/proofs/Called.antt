@@ -131,7 +131,7 @@ calls_are does gpu old home after v t view belongs at c = record {
 
 -- the same where a packet of a ring went out
 pub started_of : (gpu : GpuState) (old : PassState) (home : TableId) (ring : ℕ) (out : OutPacket) (v : Seeing) (s : DeviceSeat) → pass_of home v ≡ old → old.gpu ≡ gpu → GoesOut gpu ring out v s
-    → Starts ring old (record { pass = pass_of gpu.home (sees s); ring = out.ring; fence = out.fence; packet = out.packet })
+    → Starts ring old (record { pass = pass_of gpu.home (sees s); ring = out.ring; fence = out.fence; packet = out.packet; is_last = out.is_last })
 started_of gpu old home ring out v s view belongs o =
     let at : gpu_of gpu.home (sees s) ≡ gpu = of_gpu gpu (sees s) o.has.seated.knows in
     let new = pass_of gpu.home (sees s) in
@@ -147,6 +147,7 @@ started_of gpu old home ring out v s view belongs o =
       taken = o.taken;
       out = out;
       begun = o.begun;
+      last = o.last;
       gpu = at ∙ sym belongs;
       pass = λ i. record {
         gpu = (at ∙ sym belongs) i;

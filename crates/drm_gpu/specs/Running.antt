@@ -1,5 +1,6 @@
 -- Packets that run outside the lock of the device.
-use Rattle.std.specs.Prelude.{◌≡◌, ◌<◌, ℕ, Bool, IsTrue, false, List, [], Option, Some, None, Ok, Err, option_map, length}
+use Rattle.std.specs.Prelude.{◌≡◌, ◌<◌, ◌+◌, ◌==◌, ℕ, Bool, IsTrue, false, List, [], Option, Some, None, Ok, Err, option_map, length, slice_get}
+use Rattle.std.specs.Option.{option_map_or}
 use Rattle.drm_packet.specs.Parts.{part_effect, fits_parts}
 use Rattle.drm_types.specs.declared.spec.DeviceSpec.{DeviceSpec}
 use Rattle.drm_state.specs.declared.errors.StepError.TheVariants.{Idle}
@@ -23,12 +24,17 @@ use Rattle.drm_gpu.specs.declared.waiting.Needs.TheVariants.{Ring, Step, Buffer}
 use Rattle.drm_gpu.specs.Answers.{StepIs}
 use Rattle.drm_gpu.specs.Passes.{Calls, CallsAs, DeviceSeat, GpuState, GrowsTo, IsFound, IsGood, IsPassSeat, IsSameBut, PassState, Seated, Seeing, last_of, word_shown}
 
--- a pass that has a packet out: of this ring, of this job, the packet of this number
+-- the packet of this number is the last one of the job with this fence
+abbrev pub is_last_packet : MarkedDevice → ℕ → ℕ → Bool
+is_last_packet d fence packet = option_map_or (λ r. length r.job.packets == packet + 1) (slice_get d.state.journal fence) false
+
+-- a pass that has a packet out: of this ring, of this job, the packet of this number, the last one of the job or not
 pub record RunningState : Type 0 where
   pub pass : PassState
   pub ring : ℕ
   pub fence : ℕ
   pub packet : ℕ
+  pub is_last : Bool
 
 -- the ring's next packet went out of a lawful device, which came of what the pass saw last and had nothing in the packet's way; a pass
 -- that has taken in all others found the very device that it saw last. The pass sees that device with the packet out, and has made no
@@ -44,6 +50,7 @@ pub record Starts (ring : ℕ) (old : PassState) (new : RunningState) : Type 0 w
   pub taken : step_refusal found.state ring ≡ None
   pub out : OutPacket
   pub begun : HasBegun found ring (Work new.fence new.packet out.copy out.write out.read) new.pass.last
+  pub last : new.is_last ≡ is_last_packet new.pass.last new.fence new.packet
   pub gpu : new.pass.gpu ≡ old.gpu
   pub pass : new.pass ≡ record old { last = new.pass.last }
 
@@ -99,6 +106,7 @@ pub record GoesOut (gpu : GpuState) (ring : ℕ) (out : OutPacket) (v : Seeing) 
   pub free : is_step_blocked found ring ≡ false
   pub taken : step_refusal found.state ring ≡ None
   pub begun : HasBegun found ring (Work out.fence out.packet out.copy out.write out.read) (last_of (sees s))
+  pub last : out.is_last ≡ is_last_packet (last_of (sees s)) out.fence out.packet
   pub has : SeatHasOut gpu out s
 
 -- what came of a step that a seat began

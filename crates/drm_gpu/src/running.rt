@@ -5,7 +5,7 @@ ghost use Rattle.ww_lock.specs.Seats.{sees};
 ghost use Rattle.drm_state.specs.declared.answer.Stepped.TheVariants.{Ran};
 ghost use Rattle.drm_gpu.specs.Answers.{StepIs};
 ghost use Rattle.drm_gpu.specs.Passes.{Calls, CallsAs, IsPassSeat};
-ghost use Rattle.drm_gpu.specs.Running.{SeatHasOut, SeatHasRun, IsSent, RunsNothing, Starts, task_of, written};
+ghost use Rattle.drm_gpu.specs.Running.{SeatHasOut, SeatHasRun, IsSent, RunsNothing, Starts, is_last_packet, task_of, written};
 
 use crate::driver::Task;
 use crate::gpu::Gpu;
@@ -13,7 +13,7 @@ use crate::pass::{DeviceSeat, Pass};
 use crate::waiting::Needs;
 use drm_buffer::Buffer;
 use drm_packet::Packet;
-use drm_sched::{Begun, StepError, Stepped};
+use drm_sched::{Begun, Device, StepError, Stepped};
 use drm_types::{FenceId, RingId};
 use std::marker::Model;
 use std::snapshot::Snapshot;
@@ -25,6 +25,7 @@ pub(crate) struct OutPacket {
     pub(crate) ring: RingId,
     pub(crate) fence: FenceId,
     pub(crate) packet: u32,
+    pub(crate) is_last: bool,
     pub(crate) copy: Packet,
     pub(crate) write: Option<Buffer>,
     pub(crate) read: Option<Buffer>,
@@ -73,7 +74,7 @@ impl<'g> Model for Running<'g> {
 
     ghost Value = { RunningState };
 
-    ghost view = { λ r. record { pass = pass_of r.gpu.now.home (sees r.seat); ring = r.out.ring; fence = r.out.fence; packet = r.out.packet } };
+    ghost view = { λ r. record { pass = pass_of r.gpu.now.home (sees r.seat); ring = r.out.ring; fence = r.out.fence; packet = r.out.packet; is_last = r.out.is_last } };
 
     ghost invariant = { λ r. SeatHasOut r.gpu.now r.out r.seat };
 }
@@ -108,6 +109,16 @@ impl OutPacket {
     }
 }
 
+// Tells whether no packet of the job with this fence comes behind the packet of this number.
+fn is_last(device: &Device, fence: FenceId, packet: u32) -> bool
+    ensures { result ≡ is_last_packet device.now fence packet }
+{
+    match device.record(fence) {
+        Ok(record) => record.job.packets().len() == packet as usize + 1,
+        Err(_) => false,
+    }
+}
+
 impl Gpu {
     // Starts the ring's next packet: the caller gets it with its buffers.
     fn start_packet<R: Wait>(&self, seat: &mut DeviceSeat, ring: RingId, rt: &R) -> Sent
@@ -131,6 +142,7 @@ impl Gpu {
                     ring,
                     fence,
                     packet,
+                    is_last: is_last(&device, fence, packet),
                     copy,
                     write,
                     read,
@@ -226,6 +238,13 @@ impl<'g> Running<'g> {
         ensures { result ≡ self.now.fence }
     {
         self.out.fence
+    }
+
+    /// Tells whether no packet of its job comes behind it: once it has run, the job is complete.
+    pub fn is_last(&self) -> bool
+        ensures { result ≡ self.now.is_last }
+    {
+        self.out.is_last
     }
 
     /// Runs the packet on its own buffers, with no lock held, and then reports it to the device (`drm_sched_job_done`

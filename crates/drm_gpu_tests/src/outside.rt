@@ -2,7 +2,7 @@
 ghost use Rattle.std.specs.Prelude.{◌≡◌, ◌<◌};
 ghost use Rattle.drm_gpu_tests.specs.Pairs.{IsPair};
 
-use crate::calls::{finishes, made, picks, reads, steps, submitted};
+use crate::calls::{finishes, made, picks, reads, submitted};
 use crate::{add, fill, opened};
 use drm_gpu::{CloseError, Gpu, Pass, Running, StartError};
 use drm_packet::Packet;
@@ -81,6 +81,7 @@ fn packets_of_two_rings_are_out_at_once(rt: HostRuntime) -> Result<(), Fail> {
     let (one, other) = gpu.split(pass);
     let running = started(&gpu, one, 0, 0, &rt);
     let beside = started(&gpu, other, 1, 1, &rt);
+    assert!(rt; beside.is_last());
     let other = reported(beside, 1, 0, &rt);
     let one = reported(running, 0, 0, &rt);
     both_end(&gpu, gpu.join(one, other), &rt, alloc);
@@ -176,7 +177,9 @@ fn starts_nothing<R: Wait + Abort>(gpu: &Gpu, pass: Pass, rt: &R) -> Pass
     };
     let mut pass = pass;
     picks(gpu, &mut pass, 0, 0, 0, rt);
-    steps(gpu, &mut pass, 0, 0, 0, rt);
+    let running = started(gpu, pass, 0, 0, rt);
+    assert!(rt; !running.is_last());
+    let pass = reported(running, 0, 0, rt);
     let Err(StartError::Stalled(pass, 0)) = gpu.start(pass, 0, rt) else {
         panic!(rt; "not stalled")
     };

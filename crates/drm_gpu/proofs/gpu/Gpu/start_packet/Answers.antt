@@ -1,22 +1,25 @@
-use Rattle.std.proofs.Common.{◌≡◌, ap, sym, subst, Err, None, Ok}
+use Rattle.std.proofs.Common.{◌≡◌, ◌∙◌, ap, sym, subst, refl, Err, None, Ok, Some}
 use Rattle.ww_lock.specs.Seats.{sees}
 use Rattle.drm_state.specs.Grows.{Grows}
 use Rattle.drm_state.specs.State.{DeviceState}
 use Rattle.drm_state.specs.declared.answer.Answer.TheVariants as answer
 use Rattle.drm_state.specs.declared.errors.StepError.TheVariants.{Idle}
 use Rattle.drm_state.specs.declared.answer.Stepped.TheVariants.{Stalled}
-use Rattle.drm_sched.specs.Begun.{HasBegun, MayComeBack}
+use Rattle.drm_sched.specs.Begun.{HasBegun, MayComeBack, MayRun}
+use Rattle.drm_sched.specs.declared.outside.Begun.TheVariants.{Work}
 use Rattle.drm_state.specs.Errors.{refusal_of_step}
 use Rattle.drm_sched.specs.Calls as device
 use Rattle.drm_sched.specs.Marks.{IsBusy, MarkedDevice, Task, mark_of}
+use Rattle.drm_state.specs.Refusals.{step_refusal}
 use Rattle.drm_state.specs.Outcomes.{step_outcome}
 use Rattle.drm_gpu.specs.Answers.{StepIs}
 use Rattle.drm_gpu.specs.declared.running.OutPacket.{OutPacket}
 use Rattle.drm_gpu.specs.Passes.{GrowsTo}
-use Rattle.drm_gpu.proofs.Called.{calls_as}
+use Rattle.drm_gpu.specs.Running.{IsPacketOfItsJob, is_last_packet}
+use Rattle.drm_gpu.proofs.Called.{calls_as, same_trans}
 use Rattle.drm_gpu.proofs.Chains.{holds_trans, pass_on}
 use Rattle.drm_gpu.proofs.Grown.{grows_itself}
-use Rattle.drm_gpu.proofs.Packets.{none_out, only_idle, waits_for}
+use Rattle.drm_gpu.proofs.Packets.{none_out, not_out, only_idle, sent_of_job, waits_for}
 use Rattle.drm_gpu.proofs.gpu.Gpu.start_packet.Goals as goal
 
 pub leave_sent-requires-clause-free : goal.leave_sent-requires-clause-free
@@ -27,11 +30,37 @@ leave_sent-requires-clause-free g c =
 pub leave_sent-requires-clause-busy : goal.leave_sent-requires-clause-busy
 leave_sent-requires-clause-busy g c =
     let w = c.in-Ok-Work in
-    let out : OutPacket = record { ring = c.args.ring; fence = w.fence; packet = w.packet; copy = w.copy; write = w.write; read = w.read } in
+    let out : OutPacket = record { ring = c.args.ring; fence = w.fence; packet = w.packet; is_last = c.is_last.result; copy = w.copy; write = w.write; read = w.read } in
     subst (IsBusy c.begin_step.new.self) (sym c.task.ensures)
     (waits_for c.enter_for-device.result c.begin_step.new.self out
     (subst (λ b. HasBegun c.enter_for-device.result c.args.ring b c.begin_step.new.self) w.field-0-is w.ensures.call.1)
     (subst (MayComeBack c.begin_step.new.self c.args.ring) w.field-0-is w.ensures.back))
+
+pub returns-in-Ok-Work : goal.returns-in-Ok-Work
+returns-in-Ok-Work g c =
+    let w = c.in-Ok-Work in
+    let d = c.enter_for-device.result in
+    let e = c.begin_step.new.self in
+    let s = c.leave_sent.new.seat in
+    let out : OutPacket = record { ring = c.args.ring; fence = w.fence; packet = w.packet; is_last = c.is_last.result; copy = w.copy; write = w.write; read = w.read } in
+    let begun = subst (λ b. HasBegun d c.args.ring b e) w.field-0-is w.ensures.call.1 in
+    let last = sym c.leave_sent.ensures.seat.1 in
+    record {
+      found = d;
+      is_found = c.enter_for-device.ensures.found;
+      same = same_trans (sees c.args.seat.now) (sees c.enter_for-device.new.seat) (sees s) c.enter_for-device.ensures.same c.leave_sent.ensures.same;
+      ring_is = refl;
+      free = c.enter_for-device.ensures.free;
+      taken = not_out _ (step_refusal d.state c.args.ring) None c.enter_for-device.ensures.free w.ensures.call.0;
+      begun = subst (HasBegun d c.args.ring (Work w.fence w.packet w.copy w.write w.read)) last begun;
+      last = subst (λ x. c.is_last.result ≡ is_last_packet x w.fence w.packet) last c.is_last.ensures;
+      has = record {
+        seated = c.leave_sent.ensures.seat.0;
+        none = ap (λ h. h.items) c.leave_sent.ensures.holds.0.1 ∙ (ap (λ h. h.items) c.enter_for-device.ensures.holds.0.1 ∙ c.requires.seat.none);
+        waits = c.leave_sent.ensures.holds.1 ∙ ap Some c.task.ensures;
+        job = subst (λ x. IsPacketOfItsJob x out) last (sent_of_job d e out begun (subst MayRun w.field-0-is w.ensures.runs));
+      };
+    }
 
 pub leave-requires-clause-onward : goal.leave-requires-clause-onward
 leave-requires-clause-onward g c =
