@@ -11,7 +11,7 @@ use Rattle.drm_state.specs.declared.answer.Stepped.{Stepped}
 use Rattle.drm_state.specs.declared.answer.Finished.{Finished}
 use Rattle.drm_state.specs.declared.answer.Expired.{Expired}
 use Rattle.drm_sched.specs.Marks.{MarkedDevice}
-use Rattle.drm_gpu.specs.Answers.{CountsAre, FinishIs, PickIs, StepIs, TimeoutIs}
+use Rattle.drm_gpu.specs.Answers.{FinishIs, PickIs, StepIs, TimeoutIs}
 use Rattle.drm_gpu.specs.Laws.{reflexive, transitive}
 use Rattle.drm_gpu.specs.Passes.{Calls, GrowsTo, PassState}
 use Rattle.drm_gpu.specs.Running.{RunningState, Starts}
@@ -32,9 +32,6 @@ finish_arms law ring now x old new c = (c.gpu, law.finish ring now x old new c, 
 
 pub timeout_arms : OnlyArmingsArm → (ring now : ℕ) (x : Expired) (old new : PassState) → Calls (TimeoutIs ring now x) old new → ArmsNoMore old new
 timeout_arms law ring now x old new c = (c.gpu, law.timeout ring now x old new c, ap (λ (p : PassState). p.part) c.pass)
-
-pub counts_arm : OnlyArmingsArm → (n : ℕ × ℕ) (old new : PassState) → Calls (CountsAre n) old new → ArmsNoMore old new
-counts_arm law n old new c = (c.gpu, law.counts n old new c, ap (λ (p : PassState). p.part) c.pass)
 
 onward : (does : MarkedDevice → MarkedDevice → Type 0) (old new : PassState) → Calls does old new → GrowsTo old.last new.last
 onward does old new c = transitive old.last c.found new.last c.later c.onward

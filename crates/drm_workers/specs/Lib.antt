@@ -1,4 +1,5 @@
 pub mod Armings
+pub mod Counting
 pub mod Works
 pub mod Charges
 pub mod Gathers

@@ -4,8 +4,9 @@
 //! `run_all` runs a list of jobs on a new device and gives a report (`drm_report`): each job was armed once, has its outcome,
 //! and the buffers are those of the machine that runs the jobs one after another. Below it `hire_all` makes the workers, each
 //! with a pass of its own, `run_workers` runs each `Worker` in a thread (`specs/Works`), and `gather` joins their passes
-//! (`specs/Gathers`). A worker that tries in vain costs a turn, and one that has none left gives back all that it holds, runs
-//! the packet that it has out, and stops. That workers get on is not promised: they wait for one another.
+//! (`specs/Gathers`). A worker that tries in vain costs a turn and yields, and one that has none left gives back all that it
+//! holds, runs the packet that it has out, and stops. That workers get on is not promised: they wait for one another. How many
+//! jobs have ended is counted beside the device (`specs/Counting`).
 #![tactic(auto)]
 
 mod drive;
@@ -13,6 +14,7 @@ mod gather;
 mod hire;
 mod rings;
 mod run;
+mod run_state;
 mod submit;
 mod turns;
 mod work;

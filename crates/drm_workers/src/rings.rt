@@ -1,6 +1,7 @@
 //! The workers of the rings, and the watchdog.
 ghost use Rattle.std.specs.Prelude.{◌≡◌, ◌<◌, length};
 ghost use Rattle.drm_workers.specs.Armings.{ArmsNoMore};
+ghost use Rattle.drm_workers.specs.Counting.{counted};
 
 use crate::turns::{Turns, passes};
 use crate::{Clock, Gate, Point};
@@ -25,14 +26,13 @@ enum Next {
     GiveUp,
 }
 
-// How many jobs have ended.
-fn ended_jobs<R: Wait>(gpu: &Gpu, pass: &mut Pass, rt: &R) -> u32
-    requires { pass.old.gpu ≡ gpu.now }
-    ensures { ArmsNoMore pass.old pass.new }
-{
-    only_armings_arm();
-    let (_, ended) = gpu.counts(pass, rt);
-    ended
+/// What a ring worker has run.
+#[derive(Clone, Copy)]
+struct Ran {
+    /// A packet.
+    has_run: bool,
+    /// The last one of its job.
+    is_last: bool,
 }
 
 // Where so many jobs of all have ended, after so many calls that changed nothing: whether that is all, and else whether a
@@ -45,22 +45,6 @@ fn follow(ended: u32, jobs: u32, turns: &mut Turns, vain: u32) -> Next {
         return Next::GiveUp;
     }
     Next::Again
-}
-
-// What follows so many calls that changed nothing.
-fn rest<R: Wait>(
-    gpu: &Gpu,
-    pass: &mut Pass,
-    jobs: u32,
-    turns: &mut Turns,
-    vain: u32,
-    rt: &R,
-) -> Next
-    requires { pass.old.gpu ≡ gpu.now }
-    ensures { ArmsNoMore pass.old pass.new }
-{
-    let ended = ended_jobs(gpu, pass, rt);
-    follow(ended, jobs, turns, vain)
 }
 
 /// Gives the ring its jobs, until all jobs have ended. It counts the picks.
@@ -82,10 +66,9 @@ pub(crate) fn schedule<R: Wait, C: Clock>(
     for _ in rt.forever() {
         if gpu.pick(pass, ring, clock.now(), rt).is_ok() {
             count = count.saturating_add(1);
-            turns.reset();
             continue;
         }
-        match rest(gpu, pass, jobs, turns, 1, rt) {
+        match follow(turns.all_ended(), jobs, turns, 1) {
             Next::Again => {}
             Next::Done => return Tally {
                 count,
@@ -110,24 +93,55 @@ fn run_packet<R: Wait, G: Gate>(
     gate: &G,
     turns: &mut Turns,
     rt: &R,
-) -> (Pass, bool)
+) -> (Pass, Ran)
     requires pass { pass.gpu ≡ gpu.now }
     requires ring { ring < length gpu.now.spec.rings }
     ensures { ArmsNoMore pass result.0 }
 {
     only_armings_arm();
+    let nothing = Ran {
+        has_run: false,
+        is_last: false,
+    };
     match gpu.start(pass, ring, rt) {
         Ok(running) => {
+            let ran = Ran {
+                has_run: true,
+                is_last: running.is_last(),
+            };
             let _is_open = passes(gate, worker, Point::Packet, turns, rt);
             let (same, _ran) = running.run(rt);
-            (same, true)
+            (same, ran)
         }
-        Err(StartError::Stalled(same, _fence)) => (same, false),
-        Err(StartError::Idle(same)) => (same, false),
+        Err(StartError::Stalled(same, _fence)) => (same, nothing),
+        Err(StartError::Idle(same)) => (same, nothing),
     }
 }
 
-/// Runs the packets of the ring and finishes its jobs, until all jobs have ended. It counts the finishes.
+// Ends the head of the ring, if it is complete, and counts it once. It answers whether it did.
+fn finish_head<R: Wait, C: Clock>(
+    gpu: &Gpu,
+    pass: &mut Pass,
+    ring: RingId,
+    turns: &mut Turns,
+    clock: &C,
+    rt: &R,
+) -> bool
+    requires pass { pass.old.gpu ≡ gpu.now }
+    requires ring { ring < length gpu.now.spec.rings }
+    ensures arms { ArmsNoMore pass.old pass.new }
+    ensures counts { turns.new.ended ≡ counted result turns.old.ended }
+{
+    only_armings_arm();
+    if gpu.finish(pass, ring, clock.now(), rt).is_err() {
+        return false;
+    }
+    turns.end_job();
+    true
+}
+
+/// Runs the packets of the ring and finishes its jobs, each right behind its last packet, until all jobs have ended. It
+/// counts the finishes.
 pub(crate) fn run_ring<R: Wait, C: Clock, G: Gate>(
     gpu: &Gpu,
     pass: Pass,
@@ -143,34 +157,31 @@ pub(crate) fn run_ring<R: Wait, C: Clock, G: Gate>(
     requires ring { ring < length gpu.now.spec.rings }
     ensures { ArmsNoMore pass result.0 }
 {
-    only_armings_arm();
     let mut pass = pass;
-    let mut count = 0u32;
     for _ in rt.forever() {
-        let (same, has_run) = run_packet(gpu, pass, ring, worker, gate, turns, rt);
+        let (same, ran) = run_packet(gpu, pass, ring, worker, gate, turns, rt);
         pass = same;
-        if has_run && turns.are_left() {
-            turns.reset();
+        let goes_on = ran.has_run && turns.are_left();
+        if goes_on && !ran.is_last {
             continue;
         }
-        if gpu.finish(&mut pass, ring, clock.now(), rt).is_ok() {
-            count = count.saturating_add(1);
-            turns.reset();
+        let has_ended = finish_head(gpu, &mut pass, ring, turns, clock, rt);
+        if has_ended || goes_on {
             continue;
         }
-        match rest(gpu, &mut pass, jobs, turns, 2, rt) {
+        match follow(turns.all_ended(), jobs, turns, 2) {
             Next::Again => {}
             Next::Done => return (
                 pass,
                 Tally {
-                    count,
+                    count: turns.ended,
                     is_done: true,
                 },
             ),
             Next::GiveUp => return (
                 pass,
                 Tally {
-                    count,
+                    count: turns.ended,
                     is_done: false,
                 },
             ),
@@ -197,7 +208,8 @@ fn look<R: Wait, C: Clock>(gpu: &Gpu, pass: &mut Pass, rings: u32, clock: &C, rt
     count
 }
 
-/// Looks for hangs, until all jobs have ended. It counts them, and tells the gate how many jobs have ended.
+/// Looks for hangs, until all jobs have ended. It counts them, and tells the gate how many jobs have ended. While jobs end it
+/// sleeps between two looks.
 pub(crate) fn watch<R: Wait, C: Clock, G: Gate>(
     gpu: &Gpu,
     pass: &mut Pass,
@@ -213,17 +225,17 @@ pub(crate) fn watch<R: Wait, C: Clock, G: Gate>(
     ensures { ArmsNoMore pass.old pass.new }
 {
     let mut count = 0u32;
+    let mut before = 0u32;
     for _ in rt.forever() {
         let hangs = look(gpu, pass, rings, clock, rt);
         count = count.saturating_add(hangs);
         if hangs > 0 {
-            turns.reset();
             continue;
         }
-        let ended = ended_jobs(gpu, pass, rt);
+        let ended = turns.all_ended();
         gate.ended(ended);
         match follow(ended, jobs, turns, rings) {
-            Next::Again => {}
+            Next::Again => turns.rest(before, ended, rt),
             Next::Done => return Tally {
                 count,
                 is_done: true,
@@ -233,6 +245,7 @@ pub(crate) fn watch<R: Wait, C: Clock, G: Gate>(
                 is_done: false,
             },
         }
+        before = ended;
     }
     unreachable!()
 }

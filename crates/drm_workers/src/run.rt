@@ -4,13 +4,13 @@ ghost use denote.Param.Send.{IsSync};
 ghost use Rattle.drm_workers.specs.Works.{AllWorked, MayWork, Worked, jobs_of};
 ghost use Rattle.drm_workers.specs.Charges.{AreKept};
 
+use crate::run_state::RunState;
 use crate::work::{Charge, Done, Limits, Worker, work};
 use crate::{Clock, Gate};
 use drm_gpu::Gpu;
 use std::alloc::Global;
 use std::snapshot::Snapshot;
 use std::sync::Wait;
-use std::sync::atomic::{AtomicBool, Ordering};
 use std::thread;
 use std::thread::{PromisedHandle, Threads};
 use thiserror::Error;
@@ -57,8 +57,8 @@ pub fn run_workers<R: Threads + Wait + Sync, C: Clock + Sync, G: Gate + Sync>(
     requires rings { limits.rings ≡ length gpu.now.spec.rings }
     ensures worked { IfOk result (λ dones. AllWorked gpu.now workers.items dones.items) }
 {
-    let is_off = AtomicBool::new(false);
-    let off = &is_off;
+    let run_state = RunState::new();
+    let state = &run_state;
     thread::scope(
         thread::scope_env(),
         rt,
@@ -86,7 +86,7 @@ pub fn run_workers<R: Threads + Wait + Sync, C: Clock + Sync, G: Gate + Sync>(
                     move || -> Done
                         requires { MayWork gpu.now worker × (limits.rings ≡ length gpu.now.spec.rings) }
                         ensures { Worked gpu.entry.now worker.pass.part (jobs_of worker.duty) result }
-                    { work(gpu, alloc, worker, limits, off, clock, gate, rt) },
+                    { work(gpu, alloc, worker, limits, state, clock, gate, rt) },
                 );
                 match started {
                     Ok(handle) => handles.push_reserved(handle),
@@ -97,7 +97,7 @@ pub fn run_workers<R: Threads + Wait + Sync, C: Clock + Sync, G: Gate + Sync>(
                 }
             }
             if is_short {
-                off.store(true, Ordering::SeqCst);
+                state.switch_off();
             }
             join_all(handles, &mut dones, rt);
             if is_short {

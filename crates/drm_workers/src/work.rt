@@ -3,6 +3,7 @@ ghost use Rattle.std.specs.Prelude.{◌≡◌, length};
 ghost use Rattle.drm_workers.specs.Works.{MayWork, Worked, jobs_of};
 
 use crate::rings::{run_ring, schedule, watch};
+use crate::run_state::RunState;
 use crate::submit::submit_all;
 use crate::turns::Turns;
 use crate::{Clock, Gate};
@@ -12,7 +13,6 @@ use drm_types::{FenceId, RingId};
 use std::alloc::Global;
 use std::snapshot::Snapshot;
 use std::sync::Wait;
-use std::sync::atomic::AtomicBool;
 use std::thread::Promise;
 
 /// What a worker is for.
@@ -53,7 +53,7 @@ pub struct Worker {
 /// How many jobs, rings and turns there are.
 #[derive(Clone, Copy)]
 pub struct Limits {
-    /// How many jobs have to end before the workers of the rings and the watchdog stop.
+    /// How many jobs the ring workers have to end before they, the schedulers and the watchdog stop.
     pub jobs: u32,
     /// How many rings the device has.
     pub rings: u32,
@@ -93,7 +93,7 @@ pub(crate) fn work<R: Wait, C: Clock, G: Gate>(
     alloc: Global,
     worker: Worker,
     limits: Limits,
-    is_off: &AtomicBool,
+    state: &RunState,
     clock: &C,
     gate: &G,
     rt: &R,
@@ -104,7 +104,7 @@ pub(crate) fn work<R: Wait, C: Clock, G: Gate>(
 {
     let Worker { number, pass, duty } = worker;
     let mut pass = pass;
-    let mut turns = Turns::new(limits.turns, is_off);
+    let mut turns = Turns::new(limits.turns, state);
     let Limits {
         jobs,
         rings,

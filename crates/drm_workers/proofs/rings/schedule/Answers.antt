@@ -8,12 +8,12 @@ loop-preserved-then-is_ok g c =
 
 pub loop-preserved : goal.loop-preserved
 loop-preserved g c =
-    let h = pick_arms c.only_armings_arm.ensures c.args.ring c.now.result c.pick.result _ _ c.pick.ensures.call in (c.rest.ensures.0 ∙ (h.0 ∙ c.loop.invariant.0), c.rest.ensures.1 ∙ (h.1 ∙ c.loop.invariant.1), c.rest.ensures.2 ∙ (h.2 ∙ c.loop.invariant.2))
+    let h = pick_arms c.only_armings_arm.ensures c.args.ring c.now.result c.pick.result _ _ c.pick.ensures.call in (h.0 ∙ c.loop.invariant.0, h.1 ∙ c.loop.invariant.1, h.2 ∙ c.loop.invariant.2)
 
 pub returns-in-Done : goal.returns-in-Done
 returns-in-Done g c =
-    let h = pick_arms c.only_armings_arm.ensures c.args.ring c.now.result c.pick.result _ _ c.pick.ensures.call in (c.rest.ensures.0 ∙ (h.0 ∙ c.loop.invariant.0), c.rest.ensures.1 ∙ (h.1 ∙ c.loop.invariant.1), c.rest.ensures.2 ∙ (h.2 ∙ c.loop.invariant.2))
+    let h = pick_arms c.only_armings_arm.ensures c.args.ring c.now.result c.pick.result _ _ c.pick.ensures.call in (h.0 ∙ c.loop.invariant.0, h.1 ∙ c.loop.invariant.1, h.2 ∙ c.loop.invariant.2)
 
 pub returns-in-GiveUp : goal.returns-in-GiveUp
 returns-in-GiveUp g c =
-    let h = pick_arms c.only_armings_arm.ensures c.args.ring c.now.result c.pick.result _ _ c.pick.ensures.call in (c.rest.ensures.0 ∙ (h.0 ∙ c.loop.invariant.0), c.rest.ensures.1 ∙ (h.1 ∙ c.loop.invariant.1), c.rest.ensures.2 ∙ (h.2 ∙ c.loop.invariant.2))
+    let h = pick_arms c.only_armings_arm.ensures c.args.ring c.now.result c.pick.result _ _ c.pick.ensures.call in (h.0 ∙ c.loop.invariant.0, h.1 ∙ c.loop.invariant.1, h.2 ∙ c.loop.invariant.2)

@@ -7,10 +7,11 @@ use denote.Param.{param}
 use denote.Param.Send.{IsSend, IsSync, sendable}
 use Rattle.std.proofs.Crossing.{crosses}
 use Rattle.std.proofs.alloc.Global.TheSendSync as handle
-use Rattle.std.proofs.sync.atomic.AtomicBool.TheSendSync as flag
+use Rattle.std.proofs.sync.atomic.AtomicU64.TheSendSync as atomic
 use Rattle.drm_gpu.specs.contracts.gpu.Gpu as Gpu
 use Rattle.drm_gpu.specs.contracts.pass.Pass as Pass
 use Rattle.drm_workers.proofs.work.Limits.TheSendSync as limits
+use Rattle.drm_workers.specs.contracts.run_state.RunState as RunState
 use Rattle.drm_workers.specs.contracts.run.fn.run_workers.scope.{R-row, C-row, G-row}
 use Rattle.drm_workers.proofs.run.fn.run_workers.scope.Given.{Over}
 use Rattle.drm_workers.proofs.run.fn.run_workers.scope.Lts.{arg-15-2}
@@ -39,7 +40,10 @@ loop-worker-init g c =
 
 crossing : (g : Over) → IsSend (Pass.the_field).row → IsSync (Gpu.the_field).row → IsSync (R-row g.row.R g.row.C g.row.G) → IsSync (C-row g.row.R g.row.C g.row.G) → IsSync (G-row g.row.R g.row.C g.row.G) → (κs : Lfts 11)
     → IsSend (param 2 (arg-15-2 g.row.R g.row.C g.row.G g.R.laws g.C.laws g.G.laws g.R.Threads-dict g.R.Wait-dict g.C.Clock-dict g.G.Gate-dict κs))
-crossing g p q r c h κs = let w = worker_send p in let s = gpu_row_sync q in let f = flag.the_sync in let l = limits.the_field_send in let a = handle.the_field_send in search (sendable, crosses) depth 20
+crossing g p q r c h κs =
+    let u = atomic.the_sync in
+    let f : IsSync RunState.the_row = search sendable depth 20 in
+    let w = worker_send p in let s = gpu_row_sync q in let l = limits.the_field_send in let a = handle.the_field_send in search (sendable, crosses) depth 20
 
 pub spawn_with-started-requires-send-F : goal.spawn_with-started-requires-send-F
 spawn_with-started-requires-send-F g c κs within =
