@@ -60,8 +60,9 @@ impl Gpu {
         None
     }
 
-    // Waits until no packet blocks the caller, and takes the device. What the caller holds fits it.
-    pub(crate) fn enter_for<R: Wait>(&self, seat: &mut DeviceSeat, needs: &Needs, rt: &R) -> Device
+    // Takes the device once no packet blocks the caller any more. What the caller holds fits it.
+    #[inline(never)]
+    fn wait_for<R: Wait>(&self, seat: &mut DeviceSeat, needs: &Needs, rt: &R) -> Device
         requires seat { Seated self.now seat.old }
         requires there { IsThere needs.now self.now.spec }
         ensures entered { Entered self.now result seat.new }
@@ -80,5 +81,22 @@ impl Gpu {
             self.packets.sleep(&mut entry, rt);
         }
         unreachable!()
+    }
+
+    // Waits until no packet blocks the caller, and takes the device. What the caller holds fits it.
+    pub(crate) fn enter_for<R: Wait>(&self, seat: &mut DeviceSeat, needs: &Needs, rt: &R) -> Device
+        requires seat { Seated self.now seat.old }
+        requires there { IsThere needs.now self.now.spec }
+        ensures entered { Entered self.now result seat.new }
+        ensures found { IsFound result (sees seat.old) }
+        ensures fit { Fitting result (kept_of seat.new.held.items) }
+        ensures free { is_blocked needs.now result ≡ false }
+        ensures holds { HoldsOn seat.old seat.new }
+        ensures same { IsSameBut (sees seat.old) (sees seat.new) }
+    {
+        match self.try_enter(seat, needs, rt) {
+            Some(device) => device,
+            None => self.wait_for(seat, needs, rt),
+        }
     }
 }

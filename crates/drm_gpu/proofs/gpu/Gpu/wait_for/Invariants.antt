@@ -1,6 +1,6 @@
 use Rattle.ww_lock.specs.Seats.{sees}
 use Rattle.drm_gpu.specs.Passes.{HasWaited, HoldsOn, IsSameBut, Seated}
-use Rattle.drm_gpu.proofs.gpu.Gpu.enter_for.Given as goal
+use Rattle.drm_gpu.proofs.gpu.Gpu.wait_for.Given as goal
 
 -- the seat is outside still, and has only waited
 abbrev pub invariant-loop : goal.invariant-loop
