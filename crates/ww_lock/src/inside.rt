@@ -105,7 +105,9 @@ fn bring_home<W: Ward>(
     ensures left { (p : W.Pivot) × (place.old.me.0.pivot.seen ≡ p ∷ []) × (place.new.me ≡ (with_exit is_call change.now p pivot held.now.items place.old.me.0, rest place.old.me.1)) }
 {
     let told = Snapshot::of(&pivot);
-    shared.exchange(place, 0, Slot::Pivot(pivot));
+    let Slot::Gone = shared.exchange(place, 0, Slot::Pivot(pivot)) else {
+        unreachable!()
+    };
     leave(shared, place, told, held, change, is_call);
 }
 

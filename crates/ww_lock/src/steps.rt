@@ -80,7 +80,9 @@ pub(crate) fn release<W: Ward>(
     ensures released { place.new.me ≡ (with_release buffer place.old.me.0, rest place.old.me.1) }
 {
     let number = buffer.number() as usize;
-    shared.exchange(place, number + 1, Slot::Value(value));
+    let Slot::Gone = shared.exchange(place, number + 1, Slot::Value(value)) else {
+        unreachable!()
+    };
     shared.store::<Release>(place, number + 2, 0);
 }
 
