@@ -111,7 +111,7 @@ impl Gpu {
                     board,
                     packets: WaitQueue::new(),
                 },
-                Pass { seat },
+                Pass { seat, spare: None },
             )),
             Err(AllocError) => Err(BuildError::Memory),
         }
@@ -123,9 +123,15 @@ impl Gpu {
         ensures first { result.0 ≡ record pass { part = halved pass.part } }
         ensures second { result.1 ≡ record pass { calls = []; had = []; met = []; drew = []; tickets_out = false; part = halved pass.part } }
     {
-        let Pass { seat } = pass;
+        let Pass { seat, spare } = pass;
         let (one, other) = self.board.split(seat);
-        (Pass { seat: one }, Pass { seat: other })
+        (
+            Pass { seat: one, spare },
+            Pass {
+                seat: other,
+                spare: None,
+            },
+        )
     }
 
     /// Makes one pass of two. The calls of both stand in one order, in which each was left before the next was found.
@@ -133,10 +139,14 @@ impl Gpu {
         requires { (one.gpu ≡ self.now) × (other.gpu ≡ self.now) }
         ensures { IsJoinedOf one other result }
     {
-        let Pass { seat } = one;
-        let Pass { seat: second } = other;
+        let Pass { seat, spare } = one;
+        let Pass {
+            seat: second,
+            spare: _,
+        } = other;
         Pass {
             seat: self.board.join(seat, second),
+            spare,
         }
     }
 
@@ -155,7 +165,7 @@ impl Gpu {
             return Err(CloseError::Memory(self, pass));
         };
         let Gpu { board, packets: _ } = self;
-        let Pass { seat } = pass;
+        let Pass { seat, spare: _ } = pass;
         let device = match board.close(seat, &mut resvs) {
             Ok(device) => device,
             Err(Inside) => return Err(CloseError::Inside),

@@ -62,6 +62,7 @@
 //! ```
 #![tactic(auto)]
 
+mod boxed_plan;
 mod crossing;
 mod device_calls;
 mod driver;

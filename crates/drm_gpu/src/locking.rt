@@ -14,6 +14,7 @@ ghost use Rattle.drm_gpu.specs.Submissions.{BacksOff, Claims, HasTaken, Holding,
 ghost use Rattle.drm_gpu.specs.Status.{AnswersStatus};
 ghost use Rattle.drm_gpu.specs.Begun.{IsBack, IsBackFromRead};
 
+use crate::boxed_plan::{BoxedPlan, JobBox, box_of};
 use crate::driver::Task;
 use crate::gpu::Gpu;
 use crate::pass::Pass;
@@ -53,7 +54,7 @@ pub enum BeginReadError {
 pub struct Locking<'g> {
     gpu: &'g Gpu,
     acquire: DeviceAcquire,
-    job: Job,
+    plan: BoxedPlan,
 }
 
 impl<'g> Model for Locking<'g> {
@@ -63,9 +64,9 @@ impl<'g> Model for Locking<'g> {
 
     ghost Value = { Submission };
 
-    ghost view = { λ l. submission_of l.gpu.now.home l.job l.acquire };
+    ghost view = { λ l. submission_of l.gpu.now.home l.plan.job l.acquire };
 
-    ghost invariant = { λ l. Holding l.gpu.now l.acquire × (l.acquire.sealed ≡ false) × IsJob l.gpu.now.spec l.job };
+    ghost invariant = { λ l. Holding l.gpu.now l.acquire × (l.acquire.sealed ≡ false) × IsJob l.gpu.now.spec l.plan.job };
 }
 
 /// A submission that holds every buffer which its job declares.
@@ -73,7 +74,7 @@ impl<'g> Model for Locking<'g> {
 pub struct Locked<'g> {
     pub(crate) gpu: &'g Gpu,
     pub(crate) acquire: DeviceAcquire,
-    pub(crate) job: Job,
+    pub(crate) plan: BoxedPlan,
 }
 
 impl<'g> Model for Locked<'g> {
@@ -84,9 +85,9 @@ impl<'g> Model for Locked<'g> {
 
     ghost Value = { Submission };
 
-    ghost view = { λ l. submission_of l.gpu.now.home l.job l.acquire };
+    ghost view = { λ l. submission_of l.gpu.now.home l.plan.job l.acquire };
 
-    ghost invariant = { λ l. Holding l.gpu.now l.acquire × (l.acquire.sealed ≡ true) × IsJob l.gpu.now.spec l.job × HoldsAll l.job (kept_of l.acquire.seat.held.items) };
+    ghost invariant = { λ l. Holding l.gpu.now l.acquire × (l.acquire.sealed ≡ true) × IsJob l.gpu.now.spec l.plan.job × HoldsAll l.plan.job (kept_of l.acquire.seat.held.items) };
 }
 
 // Releases all that is held.
@@ -102,8 +103,8 @@ pub(crate) fn release_all(gpu: &Gpu, acquire: &mut DeviceAcquire)
     }
 }
 
-// Releases all that is held, and ends the context (`ww_acquire_fini`).
-pub(crate) fn release_and_end(gpu: &Gpu, acquire: DeviceAcquire) -> Pass
+// Releases all that is held, and ends the context (`ww_acquire_fini`). The pass keeps the box.
+pub(crate) fn release_and_end(gpu: &Gpu, acquire: DeviceAcquire, spare: Option<JobBox>) -> Pass
     requires { Holding gpu.now acquire }
     ensures { result ≡ pass_of gpu.now.home (view acquire) }
 {
@@ -111,6 +112,7 @@ pub(crate) fn release_and_end(gpu: &Gpu, acquire: DeviceAcquire) -> Pass
     release_all(gpu, &mut acquire);
     Pass {
         seat: acquire.end(),
+        spare,
     }
 }
 
@@ -209,25 +211,28 @@ fn hold_all<R: Wait>(gpu: &Gpu, acquire: &mut DeviceAcquire, job: &Job, rt: &R)
 }
 
 impl Gpu {
-    // Draws the one ticket of a submission or a readback.
+    // Draws the one ticket of a submission or a readback. The box that the pass keeps comes back beside it.
     fn draw<R: Wait>(
         &self,
         alloc: Global,
         pass: Pass,
         rt: &R,
-    ) -> Result<DeviceAcquire, BeginReadError>
+    ) -> Result<(DeviceAcquire, Option<JobBox>), BeginReadError>
         requires { pass.gpu ≡ self.now }
-        ensures holding { IfOk result (λ a. Holding self.now a × (a.sealed ≡ false) × (a.seat.held.items ≡ [])) }
-        ensures pass { IfOk result (λ a. pass_of self.now.home (view a) ≡ draws a.ticket pass) }
-        ensures ticket { IfOk result (λ a. IsNewTicket pass a.ticket) }
+        ensures holding { IfOk result (λ t. Holding self.now t.0 × (t.0.sealed ≡ false) × (t.0.seat.held.items ≡ [])) }
+        ensures pass { IfOk result (λ t. pass_of self.now.home (view t.0) ≡ draws t.0.ticket pass) }
+        ensures ticket { IfOk result (λ t. IsNewTicket pass t.0.ticket) }
         ensures tickets_left { IfOk result (λ _. pass.tickets_out ≡ false) }
         ensures refused { IfErr result (IsBackFromRead pass) }
     {
-        let Pass { seat } = pass;
+        let Pass { seat, spare } = pass;
         match self.board.begin(seat, rt, alloc) {
-            Ok(acquire) => Ok(acquire),
-            Err(TicketError::Memory(seat)) => Err(BeginReadError::Memory(Pass { seat })),
-            Err(TicketError::TicketsOut(seat)) => Err(BeginReadError::TicketsOut(Pass { seat })),
+            Ok(acquire) => Ok((acquire, spare)),
+            Err(TicketError::Memory(seat)) => Err(BeginReadError::Memory(Pass { seat, spare })),
+            Err(TicketError::TicketsOut(seat)) => Err(BeginReadError::TicketsOut(Pass {
+                seat,
+                spare,
+            })),
         }
     }
 
@@ -251,12 +256,19 @@ impl Gpu {
         ensures tickets_left { IfOk result (λ _. pass.tickets_out ≡ false) }
         ensures refused { IfErr result (λ e. IsBack pass job e) }
     {
+        let mut pass = pass;
+        let Ok(boxed) = box_of(alloc, pass.take_box()) else {
+            return Err(BeginError::Memory(pass, job));
+        };
         match self.draw(alloc, pass, rt) {
-            Ok(acquire) => Ok(Locking {
-                gpu: self,
-                acquire,
-                job,
-            }),
+            Ok((acquire, _none)) => {
+                let plan = BoxedPlan::of(boxed, job);
+                Ok(Locking {
+                    gpu: self,
+                    acquire,
+                    plan,
+                })
+            }
             Err(BeginReadError::Memory(pass)) => Err(BeginError::Memory(pass, job)),
             Err(BeginReadError::TicketsOut(pass)) => Err(BeginError::TicketsOut(pass, job)),
         }
@@ -282,12 +294,16 @@ impl Gpu {
         ensures tickets_left { IfOk result (λ _. pass.tickets_out ≡ false) }
         ensures refused { IfErr result (IsBackFromRead pass) }
     {
-        let mut acquire = self.draw(alloc, pass, rt)?;
+        let (mut acquire, spare) = match self.draw(alloc, pass, rt) {
+            Ok(drawn) => drawn,
+            Err(error) => return Err(error),
+        };
         lock_first(self, &mut acquire, buffer, rt);
         Ok(Reading {
             gpu: self,
             acquire,
             buffer,
+            spare,
         })
     }
 }
@@ -304,7 +320,7 @@ impl<'g> Locking<'g> {
     pub fn job(&self) -> &Job
         ensures { result.now ≡ self.now.job }
     {
-        &self.job
+        self.plan.job()
     }
 
     /// The status of a job's finished fence, while the caller takes its locks (`dma_fence_get_status` within a
@@ -405,11 +421,11 @@ impl<'g> Locking<'g> {
         let Locking {
             gpu,
             mut acquire,
-            job,
+            plan,
         } = self;
-        hold_all(gpu, &mut acquire, &job, rt);
+        hold_all(gpu, &mut acquire, plan.job(), rt);
         acquire.done();
-        Locked { gpu, acquire, job }
+        Locked { gpu, acquire, plan }
     }
 
     /// Locks no more (`ww_acquire_done`), where every buffer that the job declares is held.
@@ -421,24 +437,25 @@ impl<'g> Locking<'g> {
         ensures ready { IfOk result (λ l. (l ≡ self.entry) × HoldsAll l.job l.held) }
         ensures not_all { IfErr result (λ l. (l ≡ self.entry) × (HoldsAll l.job l.held → ⊥)) }
     {
-        if !holds_all(self.acquire.held(), &self.job) {
+        if !holds_all(self.acquire.held(), self.plan.job()) {
             return Err(self);
         }
         let Locking {
             gpu,
             mut acquire,
-            job,
+            plan,
         } = self;
         acquire.done();
-        Ok(Locked { gpu, acquire, job })
+        Ok(Locked { gpu, acquire, plan })
     }
 
     /// Gives everything back, and the job unchanged.
     pub fn abandon(self) -> (Pass, Job)
         ensures { (result.0 ≡ self.entry.pass) × (result.1 ≡ self.entry.job) }
     {
-        let Locking { gpu, acquire, job } = self;
-        (release_and_end(gpu, acquire), job)
+        let Locking { gpu, acquire, plan } = self;
+        let (boxed, job) = plan.unbox();
+        (release_and_end(gpu, acquire, Some(boxed)), job)
     }
 }
 
@@ -447,7 +464,7 @@ impl<'g> Locked<'g> {
     pub fn job(&self) -> &Job
         ensures { result.now ≡ self.now.job }
     {
-        &self.job
+        self.plan.job()
     }
 
     /// The status of a job's finished fence, while every declared buffer is held (`dma_fence_get_status` within a
@@ -468,7 +485,8 @@ impl<'g> Locked<'g> {
     pub fn abandon(self) -> (Pass, Job)
         ensures { (result.0 ≡ self.entry.pass) × (result.1 ≡ self.entry.job) }
     {
-        let Locked { gpu, acquire, job } = self;
-        (release_and_end(gpu, acquire), job)
+        let Locked { gpu, acquire, plan } = self;
+        let (boxed, job) = plan.unbox();
+        (release_and_end(gpu, acquire, Some(boxed)), job)
     }
 }

@@ -5,6 +5,7 @@ ghost use Rattle.drm_gpu.specs.Passes.{Calls};
 ghost use Rattle.drm_gpu.specs.Reading.{ReadIs, ReadbacksAgree};
 ghost use Rattle.drm_gpu.specs.Status.{AnswersStatus};
 
+use crate::boxed_plan::JobBox;
 use crate::gpu::Gpu;
 use crate::locking::{DeviceAcquire, release_and_end};
 use crate::pass::Pass;
@@ -22,6 +23,7 @@ pub struct Reading<'g> {
     pub(crate) gpu: &'g Gpu,
     pub(crate) acquire: DeviceAcquire,
     pub(crate) buffer: BufferId,
+    pub(crate) spare: Option<JobBox>,
 }
 
 impl<'g> Model for Reading<'g> {
@@ -84,8 +86,9 @@ impl<'g> Reading<'g> {
             gpu,
             acquire,
             buffer: _,
+            spare,
         } = self;
-        release_and_end(gpu, acquire)
+        release_and_end(gpu, acquire, spare)
     }
 }
 

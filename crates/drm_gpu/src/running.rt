@@ -7,6 +7,7 @@ ghost use Rattle.drm_gpu.specs.Answers.{StepIs};
 ghost use Rattle.drm_gpu.specs.Passes.{Calls, CallsAs, IsPassSeat};
 ghost use Rattle.drm_gpu.specs.Running.{SeatHasOut, SeatHasRun, IsSent, RunsNothing, Starts, is_last_packet, task_of, written};
 
+use crate::boxed_plan::JobBox;
 use crate::driver::Task;
 use crate::gpu::Gpu;
 use crate::pass::{DeviceSeat, Pass};
@@ -64,6 +65,7 @@ pub enum StartError {
 pub struct Running<'g> {
     gpu: &'g Gpu,
     seat: DeviceSeat,
+    spare: Option<JobBox>,
     out: OutPacket,
 }
 
@@ -201,15 +203,16 @@ impl Gpu {
         ensures started { IfOk result (Starts ring pass) }
         ensures nothing { IfErr result (RunsNothing ring pass) }
     {
-        let Pass { mut seat } = pass;
+        let Pass { mut seat, spare } = pass;
         match self.start_packet(&mut seat, ring, rt) {
             Sent::Out(out) => Ok(Running {
                 gpu: self,
                 seat,
+                spare,
                 out,
             }),
-            Sent::Stalled(fence) => Err(StartError::Stalled(Pass { seat }, fence)),
-            Sent::Idle => Err(StartError::Idle(Pass { seat })),
+            Sent::Stalled(fence) => Err(StartError::Stalled(Pass { seat, spare }, fence)),
+            Sent::Idle => Err(StartError::Idle(Pass { seat, spare })),
         }
     }
 
@@ -253,8 +256,13 @@ impl<'g> Running<'g> {
         ensures ran { result.1 ≡ Ran self.entry.fence self.entry.packet }
         ensures call { Calls (StepIs self.entry.ring (Ok result.1)) self.entry.pass result.0 }
     {
-        let Running { gpu, mut seat, out } = self;
+        let Running {
+            gpu,
+            mut seat,
+            spare,
+            out,
+        } = self;
         let ran = gpu.finish_packet(&mut seat, out.run(), rt);
-        (Pass { seat }, ran)
+        (Pass { seat, spare }, ran)
     }
 }

@@ -7,6 +7,7 @@ ghost use Rattle.drm_gpu.specs.Passes.{Calls};
 ghost use Rattle.drm_gpu.specs.Status.{AnswersStatus};
 ghost use Rattle.drm_gpu.specs.Submissions.{ArmIs, ArmRefused};
 
+use crate::boxed_plan::{BoxedPlan, JobBox};
 use crate::fence_word::FenceWord;
 use crate::gpu::Gpu;
 use crate::locking::{DeviceAcquire, Locked, release_and_end};
@@ -14,7 +15,7 @@ use crate::pass::Pass;
 use drm_fence::NoFence;
 use drm_job::Job;
 use drm_resv::Resv;
-use drm_sched::{ArmError, Held, Plan};
+use drm_sched::{ArmError, Held};
 use drm_types::{BufferId, FenceId};
 use std::alloc::{AllocError, Global};
 use std::marker::Model;
@@ -26,7 +27,7 @@ use std::sync::Wait;
 pub struct Planned<'g> {
     gpu: &'g Gpu,
     acquire: DeviceAcquire,
-    plan: Plan,
+    plan: BoxedPlan,
 }
 
 impl<'g> Model for Planned<'g> {
@@ -50,6 +51,7 @@ pub struct Armed<'g> {
     gpu: &'g Gpu,
     acquire: DeviceAcquire,
     fence: FenceId,
+    spare: JobBox,
 }
 
 impl<'g> Model for Armed<'g> {
@@ -99,17 +101,17 @@ impl<'g> Locked<'g> {
         let Locked {
             gpu,
             mut acquire,
-            job,
+            mut plan,
         } = self;
         let mut held: Held = acquire.take_values();
         let room = take_all_rooms(&mut held);
         acquire.put_values(held);
         match room {
             Ok(()) => {
-                let plan = Plan::collect(job, acquire.held());
+                plan.collect(acquire.held());
                 Ok(Planned { gpu, acquire, plan })
             }
-            Err(AllocError) => Err(Locked { gpu, acquire, job }),
+            Err(AllocError) => Err(Locked { gpu, acquire, plan }),
         }
     }
 }
@@ -133,16 +135,17 @@ impl<'g> Planned<'g> {
         let mut device = gpu.enter(&mut acquire.seat, rt);
         let found = Snapshot::of(&device);
         let mut held: Held = acquire.take_values();
-        let answer = device.arm(plan, &mut held);
+        let answer = plan.arm(&mut device, &mut held);
         acquire.put_values(held);
         match answer {
-            Ok(fence) => {
+            Ok((fence, spare)) => {
                 let word = FenceWord::Active;
                 gpu.show_and_leave(&mut acquire.seat, device, &found, fence, word);
                 Ok(Armed {
                     gpu,
                     acquire,
                     fence,
+                    spare,
                 })
             }
             Err((plan, error)) => {
@@ -156,7 +159,7 @@ impl<'g> Planned<'g> {
     pub fn job(&self) -> &Job
         ensures { result.now ≡ self.now.submission.job }
     {
-        &self.plan.job
+        self.plan.job()
     }
 
     /// The status of a job's finished fence, before the job is armed (`dma_fence_get_status` within a `drm_exec`
@@ -178,8 +181,8 @@ impl<'g> Planned<'g> {
         ensures { (result.0 ≡ self.entry.submission.pass) × (result.1 ≡ self.entry.submission.job) }
     {
         let Planned { gpu, acquire, plan } = self;
-        let Plan { job, deps: _ } = plan;
-        (release_and_end(gpu, acquire), job)
+        let (boxed, job) = plan.unbox();
+        (release_and_end(gpu, acquire, Some(boxed)), job)
     }
 }
 
@@ -213,7 +216,8 @@ impl<'g> Armed<'g> {
             gpu,
             acquire,
             fence: _,
+            spare,
         } = self;
-        release_and_end(gpu, acquire)
+        release_and_end(gpu, acquire, Some(spare))
     }
 }

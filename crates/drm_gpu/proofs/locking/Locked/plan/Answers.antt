@@ -17,29 +17,29 @@ put_values-requires c =
 pub invariant_of-result : goal.invariant_of-result
 invariant_of-result c =
     let gpu = c.self.inside.gpu.now in
-    let job = c.self.inside.job in
+    let job = c.self.inside.plan.job in
     let a = c.self.inside.acquire in
     let b = c.put_values.new.self in
-    let deps = c.collect-plan.result.deps in
-    let same = c.collect-plan.ensures.job in
+    let deps = c.collect.new.self.deps in
+    let same = c.collect.ensures.job in
     let seen = ap (λ (z : DeviceAcquire). view z) c.put_values.ensures.values ∙ ap (λ (z : DeviceAcquire). view z) c.take_values-held.ensures.left in
     let kept = ap (λ (z : DeviceAcquire). kept_of z.seat.held.items) c.put_values.ensures.values ∙ (c.take_all_rooms-room.ensures.kept ∙ ap (λ h. kept_of h.items) c.take_values-held.ensures.values) in
     let sealed : b.sealed ≡ true = ap (λ (z : DeviceAcquire). z.sealed) c.put_values.ensures.values ∙ (ap (λ (z : DeviceAcquire). z.sealed) c.take_values-held.ensures.left ∙ c.self.invariant.1) in
     let all : HoldsAll job (kept_of b.seat.held.items) = subst (HoldsAll job) (sym kept) c.self.invariant.3 in
     let covers : CoverWhereFit job (kept_of b.seat.held.items) deps =
-    subst (λ hs. CoverWhereFit job (kept_of hs) deps) c.held.ensures (c.collect-plan.ensures.covers (subst (λ hs. HoldsAll job (kept_of hs)) (sym c.held.ensures) all)) in (
+    subst (λ hs. CoverWhereFit job (kept_of hs) deps) c.held.ensures (c.collect.ensures.covers (subst (λ hs. HoldsAll job (kept_of hs)) (sym c.held.ensures) all)) in (
       room_taken gpu a b c.self.invariant.0 (c.put_values.ensures.holds false gpu.home (c.take_values-held.ensures.lent false gpu.home (holds gpu c.self.inside.acquire c.self.invariant.0)).0) seen kept,
       sealed,
       subst (IsJob gpu.spec) (sym same) c.self.invariant.2,
       subst (λ j. HoldsAll j (kept_of b.seat.held.items)) (sym same) all,
       subst (λ j. CoverWhereFit j (kept_of b.seat.held.items) deps) (sym same) covers,
-      subst (λ (z : DeviceAcquire). HaveRoom c.collect-plan.result.job z.seat.held.items) (sym c.put_values.ensures.values) ((c.in-Ok.ensures {u = tt}).room c.collect-plan.result.job),
+      subst (λ (z : DeviceAcquire). HaveRoom c.collect.new.self.job z.seat.held.items) (sym c.put_values.ensures.values) ((c.in-Ok.ensures {u = tt}).room c.collect.new.self.job),
     )
 
 pub invariant_of-result-in-Err : goal.invariant_of-result-in-Err
 invariant_of-result-in-Err c =
     let gpu = c.self.inside.gpu.now in
-    let job = c.self.inside.job in
+    let job = c.self.inside.plan.job in
     let b = c.put_values.new.self in
     let seen = ap (λ (z : DeviceAcquire). view z) c.put_values.ensures.values ∙ ap (λ (z : DeviceAcquire). view z) c.take_values-held.ensures.left in
     let kept = ap (λ (z : DeviceAcquire). kept_of z.seat.held.items) c.put_values.ensures.values ∙ (c.take_all_rooms-room.ensures.kept ∙ ap (λ h. kept_of h.items) c.take_values-held.ensures.values) in
@@ -53,15 +53,15 @@ invariant_of-result-in-Err c =
 pub returns-in-Ok-clause-planned : goal.returns-in-Ok-clause-planned
 returns-in-Ok-clause-planned c =
     let gpu = c.self.inside.gpu.now in
-    let job = c.self.inside.job in
+    let job = c.self.inside.plan.job in
     let a = c.self.inside.acquire in
     let b = c.put_values.new.self in
-    let same = c.collect-plan.ensures.job in
+    let same = c.collect.ensures.job in
     let seen = ap (λ (z : DeviceAcquire). view z) c.put_values.ensures.values ∙ ap (λ (z : DeviceAcquire). view z) c.take_values-held.ensures.left in
     let kept = ap (λ (z : DeviceAcquire). kept_of z.seat.held.items) c.put_values.ensures.values ∙ (c.take_all_rooms-room.ensures.kept ∙ ap (λ h. kept_of h.items) c.take_values-held.ensures.values) in
     let ticket = ap (λ (z : DeviceAcquire). z.ticket) c.put_values.ensures.values ∙ ap (λ (z : DeviceAcquire). z.ticket) c.take_values-held.ensures.left in (
       ap (λ j. submission_of gpu.home j b) same
           ∙ (parts job (pass_of gpu.home (view b)) (pass_of gpu.home (view a)) b.ticket a.ticket (kept_of b.seat.held.items) (kept_of a.seat.held.items) (ap (λ (v : Seeing). pass_of gpu.home v) seen) ticket kept ∙ c.self.view_is),
-      subst (λ j. IsCollected j (kept_of b.seat.held.items) c.collect-plan.result.deps) (sym same)
-          (subst (λ hs. IsCollected job (kept_of hs) c.collect-plan.result.deps) c.held.ensures c.collect-plan.ensures.collected),
+      subst (λ j. IsCollected j (kept_of b.seat.held.items) c.collect.new.self.deps) (sym same)
+          (subst (λ hs. IsCollected job (kept_of hs) c.collect.new.self.deps) c.held.ensures c.collect.ensures.collected),
     )

@@ -15,6 +15,6 @@ invariant_of-self g c =
 pub returns : goal.returns
 returns g c =
     let gpu = c.self.inside.gpu.now in
-    let job = c.self.inside.job in
+    let job = c.self.inside.plan.job in
     subst (λ (s : Submission). Locks c.args.buffer s (submission_of gpu.home job c.lock.new.acquire) c.lock.result) c.self.view_is
     (shows_locked gpu job c.args.buffer c.self.inside.acquire c.lock.new.acquire c.self.invariant.0 c.self.invariant.1 c.lock.result c.lock.ensures.answers)

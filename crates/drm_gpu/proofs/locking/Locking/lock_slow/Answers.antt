@@ -26,6 +26,6 @@ invariant_of-self g c =
 pub returns : goal.returns
 returns g c =
     let gpu = c.self.inside.gpu.now in
-    let job = c.self.inside.job in
+    let job = c.self.inside.plan.job in
     subst (λ (s : Submission). Claims c.args.buffer s (submission_of gpu.home job c.lock_slow.new.acquire)) c.self.view_is
     (shows_claimed gpu job c.args.buffer c.self.inside.acquire c.lock_slow.new.acquire c.self.invariant.0 c.self.invariant.1 (c.in-Ok.ensures {u = tt}).answers)

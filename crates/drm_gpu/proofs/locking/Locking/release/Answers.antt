@@ -28,7 +28,7 @@ invariant_of-self c =
 pub returns : goal.returns
 returns c =
     let home = c.self.inside.gpu.now.home in
-    let job = c.self.inside.job in
+    let job = c.self.inside.plan.job in
     let a = c.self.inside.acquire in
     let b = c.release.new.acquire in
     let e = c.release.ensures in

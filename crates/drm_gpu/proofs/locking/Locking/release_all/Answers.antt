@@ -12,7 +12,7 @@ invariant_of-self c = (c.release_all.ensures.holding.0, c.release_all.ensures.sa
 pub returns : goal.returns
 returns c =
     let home = c.self.inside.gpu.now.home in
-    let job = c.self.inside.job in
+    let job = c.self.inside.plan.job in
     let a = c.self.inside.acquire in
     let b = c.release_all.new.acquire in
     let e = c.release_all.ensures in

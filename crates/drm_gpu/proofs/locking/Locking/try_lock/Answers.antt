@@ -15,6 +15,6 @@ invariant_of-self c =
 pub returns : goal.returns
 returns c =
     let gpu = c.self.inside.gpu.now in
-    let job = c.self.inside.job in
+    let job = c.self.inside.plan.job in
     subst (λ (s : Submission). TriesLock c.args.buffer s (submission_of gpu.home job c.try_lock.new.acquire) c.try_lock.result) c.self.view_is
     (shows_tried gpu job c.args.buffer c.self.inside.acquire c.try_lock.new.acquire c.self.invariant.0 c.self.invariant.1 c.try_lock.result c.try_lock.ensures.answers)

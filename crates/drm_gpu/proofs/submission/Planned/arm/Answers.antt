@@ -53,7 +53,7 @@ show_and_leave-requires-clause-entered g c =
 pub show_and_leave-requires-clause-shown : goal.show_and_leave-requires-clause-shown
 show_and_leave-requires-clause-shown g c =
     let d = c.enter-device.result in
-    let e = c.arm-answer.new.self in
+    let e = c.arm-answer.new.device in
     let job = c.self.inside.plan.job in
     let held = c.self.inside.acquire.seat.held in
     let new = c.put_values.new.self.seat.held in
@@ -64,7 +64,7 @@ show_and_leave-requires-clause-shown g c =
 pub show_and_leave-requires-clause-fit : goal.show_and_leave-requires-clause-fit
 show_and_leave-requires-clause-fit g c =
     let d = c.enter-device.result in
-    let e = c.arm-answer.new.self in
+    let e = c.arm-answer.new.device in
     subst (λ (a : DeviceAcquire). Fitting e (kept_of a.seat.held.items)) (sym c.put_values.ensures.values)
     (fit_after d e (kept_of c.take_values-held.result.items) (kept_of c.arm-answer.new.held.items) c.in-Ok.ensures.fit (subst (λ h. Fitting d (kept_of h.items)) (sym c.take_values-held.ensures.values) c.enter-device.ensures.fit))
 
@@ -83,7 +83,7 @@ pub returns-in-Ok-clause-armed : goal.returns-in-Ok-clause-armed
 returns-in-Ok-clause-armed g c =
     let gpu = c.self.inside.gpu.now in
     let d = c.enter-device.result in
-    let e = c.arm-answer.new.self in
+    let e = c.arm-answer.new.device in
     let job = c.self.inside.plan.job in
     let held = c.self.inside.acquire.seat.held in
     let last = c.show_and_leave.new.seat in
@@ -124,7 +124,7 @@ leave-requires-clause-fit g c =
 pub leave-requires-clause-keeps : goal.leave-requires-clause-keeps
 leave-requires-clause-keeps g c =
     let d = c.enter-device.result in
-    subst (λ (x : MarkedDevice). Keeps x.state c.arm-answer.new.self.state) (sym c.of-found.ensures)
+    subst (λ (x : MarkedDevice). Keeps x.state c.arm-answer.new.device.state) (sym c.of-found.ensures)
     (subst (λ (x : MarkedDevice). Keeps d.state x.state) (sym c.in-Err.ensures.refused.0.1) (keeps_itself d))
 
 pub invariant_of-result-in-Err : goal.invariant_of-result-in-Err
@@ -151,7 +151,7 @@ pub returns-clause-refused : goal.returns-clause-refused
 returns-clause-refused g c =
     let gpu = c.self.inside.gpu.now in
     let d = c.enter-device.result in
-    let e = c.arm-answer.new.self in
+    let e = c.arm-answer.new.device in
     let last = c.leave.new.seat in
     let refused = c.in-Err.ensures.refused in
     let taken = c.take_values-held.ensures.values ∙ c.enter-device.ensures.holds.0.1 in
