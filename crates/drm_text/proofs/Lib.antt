@@ -2,7 +2,6 @@ pub mod CutNumbers
 pub mod Cuts
 pub mod Digits
 pub mod Filled
-pub mod Guessing
 pub mod NumberLaws
 pub mod Pairs
 pub mod Printed

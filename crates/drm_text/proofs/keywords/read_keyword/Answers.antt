@@ -1,9 +1,11 @@
-use Rattle.std.proofs.Common.{◌∙◌}
-use Rattle.drm_text.proofs.Guessing.{short_word, guess_is}
+use Rattle.std.proofs.Common.{rules}
+use Rattle.drm_text.specs.Keywords.{keyword_of}
 use Rattle.drm_text.proofs.keywords.read_keyword.Goals as goal
 
-pub returns-then-word-lt2 : goal.returns-then-word-lt2
-returns-then-word-lt2 c = short_word c.args.word.now c.if-word-lt2.true
+pub returns-then-is_word-23 : goal.returns-then-is_word-23
+unfolding keyword_of
+returns-then-is_word-23 c = search rules
 
-pub returns : goal.returns
-returns c = c.read_guessed.ensures ∙ guess_is c.args.word.now
+pub returns-then-is_word-25 : goal.returns-then-is_word-25
+unfolding keyword_of
+returns-then-is_word-25 c = search rules
