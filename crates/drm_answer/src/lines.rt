@@ -1,11 +1,11 @@
 //! The lines of answers in room that is known to be enough. Where the next byte goes is handed on from call to call, so no
 //! part of a line asks whether there is room for it.
 
-ghost use Rattle.std.specs.Prelude.{◌≡◌, ◌<◌, ◌≤◌, ◌+◌, ◌*◌, ◌++◌, ◌∷◌, [], length, take, codes, decimal, IsTrue};
+ghost use Rattle.std.specs.Prelude.{◌≡◌, ◌<◌, ◌≤◌, ◌+◌, ◌*◌, ◌++◌, ◌∷◌, [], length, take, codes, decimal};
 ghost use Rattle.std.specs.Fmt.{signed_decimal};
 ghost use Rattle.drm_text.specs.Hexadecimal.{digit_of, text_of_bytes};
 ghost use Rattle.drm_answer.specs.Answers.{numbers, number_of_list, numbers_of_fault, numbers_of_refusal, text_of_pick, text_of_outcome, words_of, line_of};
-ghost use Rattle.drm_answer.specs.Lines.{line_room, tells_progress, tells_other};
+ghost use Rattle.drm_answer.specs.Lines.{line_room};
 
 use drm_job::{DraftList, JobFault};
 use drm_state::{Answer, Refusal};
@@ -313,40 +313,25 @@ fn place_bytes(room: &mut [u8], at: usize, bytes: &[u8]) -> usize
     end
 }
 
-/// The words of an answer that tells of a job on its way: it was armed, it was picked, a packet of it ran. These come most often,
-/// and are so few that none is looked up in a table.
-#[inline(never)]
-fn place_progress(room: &mut [u8], at: usize, answer: &Answer) -> usize
-    requires room { at + line_room answer.now ≤ length room.old }
-    requires progress { IsTrue (tells_progress answer.now) }
+/// The words of an answer.
+fn place_words(room: &mut [u8], at: usize, answer: &Answer) -> usize
+    requires { at + line_room answer.now ≤ length room.old }
     ensures text { take result room.new ≡ take at room.old ++ words_of answer.now }
     ensures most { result < at + line_room answer.now }
 {
     match answer {
-        Answer::Armed { fence } => place_numbers(room, at, b"armed", &[u64::from(*fence)]),
-        Answer::Picked { fence, skipped } => place_picked(room, at, *fence, *skipped),
-        Answer::Ran { fence, packet } => {
-            place_numbers(room, at, b"ran", &[u64::from(*fence), u64::from(*packet)])
-        }
-        _ => unreachable!(),
-    }
-}
-
-/// The words of any other answer but a refusal.
-#[inline(never)]
-fn place_other(room: &mut [u8], at: usize, answer: &Answer) -> usize
-    requires room { at + line_room answer.now ≤ length room.old }
-    requires other { IsTrue (tells_other answer.now) }
-    ensures text { take result room.new ≡ take at room.old ++ words_of answer.now }
-    ensures most { result < at + line_room answer.now }
-{
-    match answer {
+        Answer::Refused(refusal) => place_refusal(room, at, *refusal),
         Answer::Ok => place_word(room, at, b"ok"),
+        Answer::Armed { fence } => place_numbers(room, at, b"armed", &[u64::from(*fence)]),
         Answer::Ticket { ticket } => place_numbers(room, at, b"ticket", &[*ticket]),
         Answer::Held => place_word(room, at, b"held"),
         Answer::Older { holder } => place_numbers(room, at, b"older", &[*holder]),
         Answer::Younger { holder } => place_numbers(room, at, b"younger", &[*holder]),
         Answer::Planned => place_word(room, at, b"planned"),
+        Answer::Picked { fence, skipped } => place_picked(room, at, *fence, *skipped),
+        Answer::Ran { fence, packet } => {
+            place_numbers(room, at, b"ran", &[u64::from(*fence), u64::from(*packet)])
+        }
         Answer::Stalled { fence } => place_numbers(room, at, b"stalled", &[u64::from(*fence)]),
         Answer::Finished { fence, outcome } => place_finished(room, at, *fence, *outcome),
         Answer::Empty => place_word(room, at, b"empty"),
@@ -357,11 +342,14 @@ fn place_other(room: &mut [u8], at: usize, answer: &Answer) -> usize
         Answer::Reaped { fence } => place_numbers(room, at, b"reaped", &[u64::from(*fence)]),
         Answer::Bytes { bytes } => place_bytes(room, at, bytes.as_slice()),
         Answer::Status { status } => place_status(room, at, *status),
-        _ => unreachable!(),
     }
 }
 
 /// Puts the line of an answer at this place of the room, and answers the place behind it. What stands before it stays.
+///
+/// A refusal is asked for before the other answers. `place_words` makes room for each of them, which takes 8 in a
+/// hundred more instructions of `short_commands`, and 5 of `idle_picks`, whose commands are refused
+/// (`bench/replay/estimate`).
 #[inline(always)]
 #[tactic(auto, unfolding(crate::specs::Answers::line_of))]
 pub fn place_line(room: &mut [u8], at: usize, answer: &Answer) -> usize
@@ -371,10 +359,7 @@ pub fn place_line(room: &mut [u8], at: usize, answer: &Answer) -> usize
 {
     let end = match answer {
         Answer::Refused(refusal) => place_refusal(room, at, *refusal),
-        Answer::Armed { .. } | Answer::Picked { .. } | Answer::Ran { .. } => {
-            place_progress(room, at, answer)
-        }
-        _ => place_other(room, at, answer),
+        _ => place_words(room, at, answer),
     };
     place_word(room, end, b"\n")
 }
