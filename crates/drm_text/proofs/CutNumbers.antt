@@ -1,11 +1,9 @@
 -- A number that is read as it is cut.
-use Rattle.std.proofs.Common.{◌≡◌, ◌≢◌, ℕ, suc, ◌+◌, ◌<◌, ◌==◌, true, false, List, [], ◌∷◌, length, take, drop, Option, Some, None, refl, sym, ap, ◌∙◌, arith, inl, inr}
+use Rattle.std.proofs.Common.{◌≡◌, ◌≢◌, ℕ, suc, ◌+◌, ◌<◌, ◌==◌, false, List, [], ◌∷◌, length, take, drop, Option, Some, None, refl, arith}
 use Rattle.std.specs.List.{position_or_len, slice_index}
-use Rattle.std.proofs.lemmas.Bool.{cases_lt, ne_eqb, eqb-true, eqb-false}
+use Rattle.std.proofs.lemmas.Bool.{ne_eqb}
 use Rattle.std.proofs.lemmas.List.{drop_more}
-use Rattle.drm_text.specs.Cut.{cut_from}
-use Rattle.drm_text.specs.Number.{with_digit, with_digits, number_up_to, digit_first}
-use Rattle.drm_text.proofs.Cuts.{parts_left, use_none}
+use Rattle.drm_text.specs.Number.{with_digit, with_digits, number_up_to}
 
 -- the bytes before the separator
 abbrev pub first_of : ℕ → List ℕ → List ℕ
@@ -36,28 +34,3 @@ pub one_digit : (most : ℕ) (part : List ℕ) → length part ≡ 1 → with_di
 one_digit most [] one = absurd (omega (arith, one))
 one_digit most (byte ∷ []) one = no_more_digits most (with_digit most 0 byte)
 one_digit most (first ∷ second ∷ rest) one = absurd (omega (arith, one))
-
--- a first part of one byte, and what is left
-pub one_byte : (separator : ℕ) (bytes : List ℕ) (at : ℕ) → at < length bytes → (position_or_len (λ b. b == separator) (drop at bytes) == 1) ≡ true
-    → (cut_from separator bytes at).parts ≡ (slice_index bytes at ∷ []) ∷ (cut_from separator bytes (at + 2)).parts
-one_byte separator bytes at lt one =
-    let part : take 1 (drop at bytes) ≡ slice_index bytes at ∷ [] = ap (λ (rest : List ℕ). take 1 rest) (drop_more bytes at 0 lt) in
-    let cut = (parts_left separator bytes at 1 (take 1 (drop at bytes)) (omega arith) (sym (eqb-true _ 1 one)) refl).0 in
-    rw (← part) cut
-
-no_digit : (most : ℕ) (part : List ℕ) (more : List (List ℕ)) → length part ≢ 1 → digit_first most (part ∷ more) ≡ None
-no_digit most [] more other = refl
-no_digit most (byte ∷ []) more other = absurd (other refl)
-no_digit most (first ∷ second ∷ rest) more other = refl
-
--- a first part that is not one byte is no digit
-pub no_digit_first : (separator most : ℕ) (bytes : List ℕ) (at : ℕ) → (position_or_len (λ b. b == separator) (drop at bytes) == 1) ≡ false
-    → digit_first most (cut_from separator bytes at).parts ≡ None
-no_digit_first separator most bytes at other =
-    elim (cases_lt (length bytes) at) [
-      | inl past ↦ ap (λ (parts : List (List ℕ)). digit_first most parts) (use_none separator bytes at past)
-      | inr le ↦
-          let end = position_or_len (λ b. b == separator) (drop at bytes) in
-          let cut = parts_left separator bytes at end (take end (drop at bytes)) le refl refl in
-          rw cut.0 (no_digit most (take end (drop at bytes)) (cut_from separator bytes (at + (end + 1))).parts (λ same. eqb-false end 1 other (sym cut.1 ∙ same)))
-    ]

@@ -5,7 +5,7 @@ ghost use Rattle.std.specs.Prelude.{◌≡◌, ◌+◌, ◌<◌, ◌≤◌, ◌=
 ghost use Rattle.std.specs.Int.{w64, trailing_zeros};
 ghost use Rattle.std.specs.List.{position_or_len, join_with_byte};
 ghost use Rattle.drm_text.specs.Cut.{cut_from};
-ghost use Rattle.drm_text.specs.Number.{has_one_form, number_up_to, digit_first};
+ghost use Rattle.drm_text.specs.Number.{has_one_form, number_up_to};
 
 use crate::number::{digit_value, next_value};
 use memchr::memchr;
@@ -251,27 +251,9 @@ impl<'a, const SEPARATOR: u8> Parts<'a, SEPARATOR> {
         Some(part)
     }
 
-    /// The number of at most `most` that the next part spells, if it is one digit. It is cut then, and else nothing is.
-    #[inline(always)]
-    pub fn next_digit(&mut self, most: u64) -> Option<u64>
-        ensures value { result ≡ digit_first most self.old.parts }
-        ensures some { IfSome result (λ n. (self.old.parts ≡ ((48 + n) ∷ []) ∷ self.new.parts) × (self.new.at ≡ self.old.at + 2)) }
-        ensures number { IfSome result (λ n. number_up_to most ((48 + n) ∷ []) ≡ Some n) }
-        ensures small { IfSome result (λ n. n ≤ most) }
-        ensures none { IfNone result (self.new ≡ self.old) }
-    {
-        if !is_one_byte(self.bytes, self.at, SEPARATOR) {
-            return None;
-        }
-        let digit = digit_value(self.bytes[self.at], most)?;
-        self.at += 2;
-        Some(digit)
-    }
-
-    /// The next part, if one is left, and the number of at most `most` that it spells, if it spells one. It is cut and
-    /// read digit by digit.
+    /// What `next_number` answers of a part of any length, which is cut and read digit by digit.
     #[inline]
-    pub fn next_by_digits(&mut self, most: u64) -> Option<(&'a [u8], Option<u64>)>
+    fn next_by_digits(&mut self, most: u64) -> Option<(&'a [u8], Option<u64>)>
         ensures some { IfSome result (λ read. (self.old.parts ≡ read.0.now ∷ self.new.parts)
             × (self.new.at ≡ self.old.at + length read.0.now + 1) × (length read.0.now ≤ 1048576) × (self.new.at ≤ 1048577)
             × (read.1 ≡ number_up_to most read.0.now)) }
@@ -289,8 +271,8 @@ impl<'a, const SEPARATOR: u8> Parts<'a, SEPARATOR> {
     }
 
     /// The next part, if one is left, and the number of at most `most` that it spells, if it spells one. The part is
-    /// cut and read in one go. Most numbers have one digit.
-    #[inline]
+    /// cut and read in one go. Most numbers have one digit, which is read without a call.
+    #[inline(always)]
     pub fn next_number(&mut self, most: u64) -> Option<(&'a [u8], Option<u64>)>
         ensures some { IfSome result (λ read. (self.old.parts ≡ read.0.now ∷ self.new.parts)
             × (self.new.at ≡ self.old.at + length read.0.now + 1) × (length read.0.now ≤ 1048576) × (self.new.at ≤ 1048577)

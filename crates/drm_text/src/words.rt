@@ -115,24 +115,7 @@ impl<'a> Words<'a> {
         }
     }
 
-    /// A number of at most `most`, however many digits it has.
-    #[inline(never)]
-    #[tactic(auto, unfolding(crate::specs::Words::number_at, crate::specs::Words::word_at))]
-    fn any_number(&mut self, most: u64) -> Result<u64, Fault>
-        ensures value { Reads (λ n. (n, self.new)) result (number_at most self.old) }
-        ensures line { self.new.line ≡ self.old.line }
-        ensures small { IfOk result (λ n. n ≤ most) }
-    {
-        let here = self.position();
-        match self.rest.next_by_digits(most) {
-            Some((_, Some(number))) => Ok(number),
-            Some(([], None)) => Err(here.fault(TextFault::Word)),
-            Some((_, None)) => Err(here.fault(TextFault::Number)),
-            None => Err(self.missing()),
-        }
-    }
-
-    /// A number of at most `most`. Most numbers have one digit, which is read without a call.
+    /// A number of at most `most`.
     #[inline(always)]
     #[tactic(auto, unfolding(crate::specs::Words::number_at, crate::specs::Words::word_at))]
     pub fn number(&mut self, most: u64) -> Result<u64, Fault>
@@ -140,9 +123,12 @@ impl<'a> Words<'a> {
         ensures line { self.new.line ≡ self.old.line }
         ensures small { IfOk result (λ n. n ≤ most) }
     {
-        match self.rest.next_digit(most) {
-            Some(digit) => Ok(digit),
-            None => self.any_number(most),
+        let here = self.position();
+        match self.rest.next_number(most) {
+            Some((_, Some(number))) => Ok(number),
+            Some(([], None)) => Err(here.fault(TextFault::Word)),
+            Some((_, None)) => Err(here.fault(TextFault::Number)),
+            None => Err(self.missing()),
         }
     }
 
