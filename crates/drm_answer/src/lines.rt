@@ -3,12 +3,13 @@
 
 ghost use Rattle.std.specs.Prelude.{◌≡◌, ◌<◌, ◌≤◌, ◌+◌, ◌*◌, ◌++◌, ◌∷◌, [], length, take, codes, decimal};
 ghost use Rattle.std.specs.Fmt.{signed_decimal};
-ghost use Rattle.drm_text.specs.Hexadecimal.{digit_of, text_of_bytes};
+ghost use Rattle.drm_text.specs.Hexadecimal.{text_of_bytes};
 ghost use Rattle.drm_answer.specs.Answers.{numbers, number_of_list, numbers_of_fault, numbers_of_refusal, text_of_pick, text_of_outcome, words_of, line_of};
 ghost use Rattle.drm_answer.specs.Lines.{line_room};
 
 use drm_job::{DraftList, JobFault};
 use drm_state::{Answer, Refusal};
+use drm_text::fill_digits;
 use drm_types::Outcome;
 use itoa::write_digits;
 
@@ -277,29 +278,6 @@ fn place_status(room: &mut [u8], at: usize, status: i32) -> usize
         return place_error(room, at, status);
     }
     place_numbers(room, at, b"fence", &[u64::from(status.unsigned_abs())])
-}
-
-fn digit_for(half: u8) -> u8
-    requires { half < 16 }
-    ensures { result ≡ digit_of half }
-{
-    if half < 10 {
-        b'0' + half
-    } else {
-        b'a' + (half - 10)
-    }
-}
-
-/// Each byte as two digits, into room for them. `put_bytes` of `drm_text` does so for text that grows; here nothing grows.
-fn fill_digits(room: &mut [u8], bytes: &[u8])
-    requires { length room.old ≡ 2 * length bytes.now }
-    ensures { room.new ≡ text_of_bytes bytes.now }
-{
-    'bytes: for i in 0..bytes.len() {
-        let byte = bytes[i];
-        room[2 * i] = digit_for(byte / 16);
-        room[2 * i + 1] = digit_for(byte % 16);
-    }
 }
 
 fn place_bytes(room: &mut [u8], at: usize, bytes: &[u8]) -> usize

@@ -116,7 +116,7 @@ fn digit_for(value: u8) -> u8
 }
 
 /// Each byte as two digits, into room for them.
-fn fill_digits(room: &mut [u8], bytes: &[u8])
+pub fn fill_digits(room: &mut [u8], bytes: &[u8])
     requires { length room.old ≡ 2 * length bytes.now }
     ensures { room.new ≡ text_of_bytes bytes.now }
 {

@@ -16,7 +16,7 @@ mod parts;
 mod words;
 
 pub use fault::{Fault, Position, ReadError, TextFault};
-pub use hexadecimal::{put_bytes, read_byte, read_bytes_word, read_last_bytes};
+pub use hexadecimal::{fill_digits, put_bytes, read_byte, read_bytes_word, read_last_bytes};
 pub use keywords::{Command, Keyword, is_word, read_keyword};
 pub use laws::{
     bytes_are_spelled_in_one_way, keywords_are_spelled_in_one_way, numbers_are_spelled_in_one_way,
