@@ -518,79 +518,73 @@ fn run_queue() -> u64 {
     sum
 }
 
-#[derive(Clone, Copy)]
-struct Pending {
-    fence: u32,
-    is_complete: bool,
-}
-
 struct PendingList {
-    jobs: VecDeque<Pending>,
+    pending: VecDeque<u32>,
     passed: usize,
+    credits: Credits,
     since: u64,
-    places: u32,
 }
 
 impl PendingList {
-    fn count_passed(&mut self, known: usize) {
-        self.passed = known;
-        while self.passed < self.jobs.len() && self.jobs[self.passed].is_complete {
+    fn put(&mut self, job: u32, credits: u16, now: u64) {
+        if self.pending.is_empty() {
+            self.since = now;
+        }
+        self.pending.push_back(job);
+        self.credits.count += self.credits.need(credits);
+    }
+
+    fn pop(&mut self, credits: u16, now: u64) {
+        if self.pending.len() != 1 {
+            self.since = now;
+        }
+        self.pending.pop_front();
+        self.passed = self.passed.saturating_sub(1);
+        self.credits.count -= self.credits.need(credits);
+    }
+
+    fn mark_skip(&mut self, is_open: impl Fn(u32) -> bool) {
+        while self.passed < self.pending.len() && !is_open(self.pending[self.passed]) {
             self.passed += 1;
         }
     }
+}
 
-    fn put(&mut self, job: Pending, now: u64) {
-        if self.jobs.is_empty() {
-            self.since = now;
-        }
-        if job.is_complete && self.passed == self.jobs.len() {
-            self.passed += 1;
-        }
-        self.jobs.push_back(job);
-    }
-
-    fn pop(&mut self, now: u64) -> Option<Pending> {
-        let head = self.jobs.pop_front()?;
-        if !self.jobs.is_empty() {
-            self.since = now;
-        }
-        self.count_passed(self.passed.saturating_sub(1));
-        Some(head)
-    }
-
-    fn mark_run(&mut self) {
-        if self.passed < self.jobs.len() {
-            self.jobs[self.passed].is_complete = true;
-            self.count_passed(self.passed + 1);
-        }
-    }
+fn shown(list: &PendingList) -> u64 {
+    let head = list.pending.front().copied().unwrap_or(0) as u64;
+    let current = list.pending.get(list.passed).copied().unwrap_or(0) as u64;
+    head.wrapping_add(current).wrapping_add(list.since)
 }
 
 fn rings() -> u64 {
     let mut rings: Vec<PendingList> = (0..2)
-        .map(|_| PendingList { jobs: VecDeque::with_capacity(JOBS as usize), passed: 0, since: 0, places: JOBS })
+        .map(|_| PendingList {
+            pending: VecDeque::with_capacity(JOBS as usize),
+            passed: 0,
+            credits: Credits { limit: 65_535, count: 0 },
+            since: 0,
+        })
         .collect();
     let mut sum = 0u64;
     for job in 0..JOBS {
         let ring = (job % 2) as usize;
-        if ring < rings.len() && rings[ring].jobs.len() < rings[ring].places as usize {
-            rings[ring].put(Pending { fence: job, is_complete: job % 7 == 0 }, job as u64);
-        }
-        if ring < rings.len() {
-            if let Some(current) = rings[ring].jobs.get(rings[ring].passed) {
-                sum = sum.wrapping_add(current.fence as u64);
+        if ring < rings.len() && rings[ring].pending.len() < rings[ring].credits.limit as usize {
+            let credits = &rings[ring].credits;
+            if credits.need(1) <= credits.limit - credits.count {
+                rings[ring].put(job, 1, job as u64);
             }
         }
         if ring < rings.len() {
-            rings[ring].mark_run();
+            rings[ring].mark_skip(|number| number == job && job % 7 != 0);
         }
         if job >= 1000 && ring < rings.len() {
-            if let Some(head) = rings[ring].pop(job as u64) {
-                sum = sum.wrapping_add(head.fence as u64);
+            let credits = &rings[ring].credits;
+            if credits.need(1) <= credits.count {
+                rings[ring].pop(1, job as u64);
             }
         }
         if ring < rings.len() {
-            sum = sum.wrapping_add(rings[ring].since);
+            sum = sum.wrapping_add(shown(&rings[ring]));
         }
     }
     sum

@@ -1,38 +1,58 @@
 use crate::fences::device;
 use drm_reset::Karma;
-use drm_ring::{Credits, Pending, Rings};
-use drm_types::Priority;
+use drm_ring::{Credits, Rings};
+use drm_types::{FenceId, Moment, Priority, RingId};
 use std::alloc::{AllocError, Global};
 
-/// Each job goes to the end of a ring, runs its last packet, and leaves a thousand jobs later.
+// The job goes to the end of the ring, where it fits.
+fn put(rings: &mut Rings, ring: RingId, job: FenceId) {
+    if (ring as usize) < rings.len() && rings.has_room(ring) {
+        let credits = rings.credits(ring);
+        if credits.need(1) <= credits.free() {
+            rings.put(ring, job, 1, job as Moment);
+        }
+    }
+}
+
+// The ring passes over all jobs but this one, and over it too where its number is a multiple of seven.
+fn pass_over(rings: &mut Rings, ring: RingId, job: FenceId) {
+    if (ring as usize) < rings.len() {
+        rings.mark_skip(ring, |number| number == job && job % 7 != 0);
+    }
+}
+
+// The head of the ring leaves.
+fn pop(rings: &mut Rings, ring: RingId, now: Moment) {
+    if (ring as usize) < rings.len() {
+        let credits = rings.credits(ring);
+        if credits.need(1) <= credits.count() {
+            rings.pop(ring, 1, now);
+        }
+    }
+}
+
+// The numbers that the ring shows.
+fn shown(rings: &Rings, ring: RingId) -> u64 {
+    if (ring as usize) >= rings.len() {
+        return 0;
+    }
+    let head = rings.head(ring).unwrap_or(0) as u64;
+    let current = rings.current(ring).unwrap_or(0) as u64;
+    head.wrapping_add(current).wrapping_add(rings.since(ring))
+}
+
+/// Each job goes to the end of a ring, is passed over, and leaves a thousand jobs later.
 pub(crate) fn rings(alloc: Global) -> Result<u64, AllocError> {
     let mut rings = Rings::new(alloc, &device(alloc, 65_535)?)?;
     let mut sum = 0u64;
     for job in 0..65_535u32 {
         let ring = job % 2;
-        if (ring as usize) < rings.len() && rings.has_room(ring) {
-            let pending = Pending {
-                fence: job,
-                is_complete: job % 7 == 0,
-            };
-            rings.put(ring, pending, job as u64);
+        put(&mut rings, ring, job);
+        pass_over(&mut rings, ring, job);
+        if job >= 1000 {
+            pop(&mut rings, ring, job as Moment);
         }
-        if (ring as usize) < rings.len() {
-            if let Some(current) = rings.current(ring) {
-                sum = sum.wrapping_add(current.fence as u64);
-            }
-        }
-        if (ring as usize) < rings.len() {
-            rings.mark_run(ring);
-        }
-        if job >= 1000 && (ring as usize) < rings.len() {
-            if let Some(head) = rings.pop(ring, job as u64) {
-                sum = sum.wrapping_add(head.fence as u64);
-            }
-        }
-        if (ring as usize) < rings.len() {
-            sum = sum.wrapping_add(rings.since(ring));
-        }
+        sum = sum.wrapping_add(shown(&rings, ring));
     }
     Ok(sum)
 }

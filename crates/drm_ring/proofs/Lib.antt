@@ -1,2 +1,1 @@
-pub mod PassedIs
-pub mod RowsAre
+pub mod Passing

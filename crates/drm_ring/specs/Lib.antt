@@ -1,3 +1,2 @@
 pub mod Counted
 pub mod RingRows
-pub mod Passed

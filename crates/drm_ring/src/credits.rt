@@ -1,5 +1,5 @@
-ghost use Rattle.std.specs.Prelude.{◌≡◌, ◌+◌, ◌-◌, ◌≤◌, min};
-ghost use Rattle.drm_ring.specs.Counted.{need_of, free_of};
+ghost use Rattle.std.specs.Prelude.{◌≡◌, ◌≤◌};
+ghost use Rattle.drm_ring.specs.Counted.{need_of, free_of, taken, given_back};
 
 use std::marker::Model;
 
@@ -30,6 +30,13 @@ impl Credits {
         Credits { limit, count: 0 }
     }
 
+    /// How many credits there are.
+    pub fn limit(&self) -> u16
+        ensures { result ≡ self.now.limit }
+    {
+        self.limit
+    }
+
     /// How many credits the pending jobs count.
     pub fn count(&self) -> u16
         ensures count { result ≡ self.now.count }
@@ -55,7 +62,7 @@ impl Credits {
     /// One job more is pending, which fits.
     pub fn take(&mut self, credits: u16)
         requires { need_of self.old credits ≤ free_of self.old }
-        ensures { self.new ≡ record self.old { count = self.old.count + need_of self.old credits } }
+        ensures { self.new ≡ taken credits self.old }
     {
         self.count += credits.min(self.limit);
     }
@@ -63,7 +70,7 @@ impl Credits {
     /// A pending job has finished, which counted so much.
     pub fn give_back(&mut self, credits: u16)
         requires { need_of self.old credits ≤ self.old.count }
-        ensures { self.new ≡ record self.old { count = self.old.count - need_of self.old credits } }
+        ensures { self.new ≡ given_back credits self.old }
     {
         self.count -= credits.min(self.limit);
     }

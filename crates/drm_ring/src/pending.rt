@@ -1,80 +1,77 @@
-ghost use Rattle.std.specs.Prelude.{◌≡◌, ◌<◌, ◌≤◌, [], ◌∷◌, ◌++◌, Some, None, IfOk, IfSome, IfNone, find, not, nat_lt, length};
-ghost use Rattle.std.specs.VecDeque.{deque_capacity};
+ghost use Rattle.std.specs.Prelude.{◌≡◌, ◌<◌, ◌≤◌, [], IfOk, nat_lt, length, slice_get};
 ghost use Rattle.drm_types.specs.Firsts.{first};
-ghost use Rattle.drm_ring.specs.RingRows.{put_row, popped_row, run_row, since_row, AreMarked};
-ghost use Rattle.drm_ring.specs.Passed.{passed_of};
+ghost use Rattle.drm_ring.specs.Counted.{need_of, free_of};
+ghost use Rattle.drm_ring.specs.RingRows.{put_row, popped_row, since_row, PassesTo};
 
+use crate::credits::Credits;
 use drm_types::{FenceId, Moment};
 use std::alloc::{AllocError, Global};
 use std::collections::VecDeque;
 use std::marker::Model;
 
-/// A job on a ring.
-#[derive(Clone, Copy, Debug, PartialEq, Eq)]
-pub struct Pending {
-    /// The number of the job.
-    pub fence: FenceId,
-    /// Whether the ring is done with it: all its packets ran, or it is skipped. It stays pending until it is the
-    /// head and finishes.
-    pub is_complete: bool,
-}
-
-/// The jobs that one ring has begun and not finished, in order (`pending_list` of `struct drm_gpu_scheduler`), and
-/// the moment from which the age of the head counts.
-///
-/// It keeps how many jobs at its front are complete, so that the current one is found in constant time: each job is
-/// passed over once.
+/// The jobs that one ring has begun and not finished, by their numbers in order (`pending_list` of
+/// `struct drm_gpu_scheduler`), and the credits that they count.
 #[derive(Drop)]
 pub struct PendingList {
-    jobs: VecDeque<Pending>,
+    pending: VecDeque<FenceId>,
+    /// How many jobs at the front the ring is done with. It runs the one behind them, which is so found in constant
+    /// time: each job is passed over once.
     passed: usize,
+    credits: Credits,
+    /// The moment from which the head's age counts.
     since: Moment,
-    places: u32,
 }
 
 impl Model for PendingList {
-    ghost use Rattle.std.specs.Prelude.{◌≡◌, ◌≤◌};
+    ghost use Rattle.std.specs.Prelude.{◌≤◌, length};
     ghost use Rattle.std.specs.VecDeque.{deque_capacity};
     ghost use Rattle.drm_ring.specs.RingRows.{RingRow};
-    ghost use Rattle.drm_ring.specs.Passed.{passed_of};
 
     ghost Value = { RingRow };
 
-    ghost view = { λ l. record { pending = l.jobs.items; since = l.since; places = l.places } };
+    ghost view = { λ l. record { state = record { pending = l.pending.items; since = l.since }; passed = l.passed; credits = l.credits } };
 
-    ghost invariant = { λ l. (l.places ≤ deque_capacity l.jobs) × (l.passed ≡ passed_of l.jobs.items) };
+    ghost invariant = { λ l. (l.credits.limit ≤ deque_capacity l.pending) × (l.passed ≤ length l.pending.items) };
 }
 
 impl PendingList {
-    /// Nothing pending, with room for this many jobs, which is taken at once. The head's age counts from 0.
-    pub fn new(alloc: Global, places: u32) -> Result<PendingList, AllocError>
-        ensures { IfOk result (λ r. r ≡ record { pending = []; since = 0; places = places }) }
+    /// Nothing pending, with room for as many jobs as there are credits, since each counts one at least. The room is
+    /// taken at once.
+    pub fn new(alloc: Global, credit_limit: u16) -> Result<PendingList, AllocError>
+        ensures { IfOk result (λ r. r ≡ record { state = record { pending = []; since = 0 }; passed = 0; credits = record { limit = credit_limit; count = 0 } }) }
     {
         Ok(PendingList {
-            jobs: VecDeque::with_capacity(alloc, places as usize)?,
+            pending: VecDeque::with_capacity(alloc, credit_limit as usize)?,
             passed: 0,
+            credits: Credits::of(credit_limit),
             since: 0,
-            places,
         })
     }
 
-    /// The first pending job.
-    pub fn head(&self) -> Option<Pending>
-        ensures { result ≡ first self.now.pending }
+    /// The numbers of the pending jobs.
+    pub fn pending(&self) -> &VecDeque<FenceId>
+        ensures { result.now.items ≡ self.now.state.pending }
     {
-        self.jobs.front().copied()
+        &self.pending
     }
 
-    /// The first pending job that is not complete: the one whose packets the ring runs.
-    pub fn current(&self) -> Option<Pending>
-        ensures { result ≡ find (λ p. not p.is_complete) self.now.pending }
+    /// The first pending job.
+    pub fn head(&self) -> Option<FenceId>
+        ensures { result ≡ first self.now.state.pending }
     {
-        self.jobs.get(self.passed).copied()
+        self.pending.front().copied()
+    }
+
+    /// The first job behind those that the ring is done with: the one whose packets it runs.
+    pub fn current(&self) -> Option<FenceId>
+        ensures { result ≡ slice_get self.now.state.pending self.now.passed }
+    {
+        self.pending.get(self.passed).copied()
     }
 
     /// The moment from which the head's age counts.
     pub fn since(&self) -> Moment
-        ensures { result ≡ self.now.since }
+        ensures { result ≡ self.now.state.since }
     {
         self.since
     }
@@ -86,91 +83,70 @@ impl PendingList {
         self.since = now;
     }
 
+    /// The credits that the pending jobs count.
+    pub fn credits(&self) -> &Credits
+        ensures { result.now ≡ self.now.credits }
+    {
+        &self.credits
+    }
+
     /// Whether there is room for one more job.
     pub fn has_room(&self) -> bool
-        ensures { result ≡ nat_lt (length self.now.pending) self.now.places }
+        ensures { result ≡ nat_lt (length self.now.state.pending) self.now.credits.limit }
     {
-        self.jobs.len() < self.places as usize
+        self.pending.len() < self.credits.limit() as usize
     }
 
-    /// One more job at the end, for which there is room. Where nothing was pending it is the head, and its age counts
-    /// from now.
-    pub fn put(&mut self, job: Pending, now: Moment)
-        requires { length self.old.pending < self.old.places }
-        ensures { self.new ≡ put_row job now self.old }
+    /// One job more, for which there is room, and which fits with its credits. The age of the first one counts from
+    /// now.
+    pub fn put(&mut self, number: FenceId, credits: u16, now: Moment)
+        requires room { length self.old.state.pending < self.old.credits.limit }
+        requires fits { need_of self.old.credits credits ≤ free_of self.old.credits }
+        ensures { self.new ≡ put_row number credits now self.old }
     {
-        if self.jobs.is_empty() {
+        if self.pending.is_empty() {
             self.since = now;
         }
-        pass_last(&mut self.passed, &self.jobs, job);
-        self.jobs.push_back_reserved(job);
+        self.pending.push_back_reserved(number);
+        self.credits.take(credits);
     }
 
-    /// Takes the first job out. Where another one becomes the head, its age counts from now.
-    pub fn pop(&mut self, now: Moment) -> Option<Pending>
-        ensures some { IfSome result (λ p. (first self.old.pending ≡ Some p) × (self.new ≡ popped_row now self.old)) }
-        ensures none { IfNone result ((first self.old.pending ≡ None) × (self.new ≡ self.old)) }
+    /// The head leaves, and gives its credits back. The age of the next one counts from now.
+    pub fn pop(&mut self, credits: u16, now: Moment)
+        requires { need_of self.old.credits credits ≤ self.old.credits.count }
+        ensures { self.new ≡ popped_row credits now self.old }
     {
-        let head = self.jobs.pop_front()?;
-        if !self.jobs.is_empty() {
+        if self.pending.len() != 1 {
             self.since = now;
         }
-        self.passed = count_passed(&self.jobs, self.passed.saturating_sub(1));
-        Some(head)
+        self.pending.pop_front();
+        self.passed = self.passed.saturating_sub(1);
+        self.credits.give_back(credits);
     }
 
-    /// The last packet of the current job ran: it is complete.
-    pub fn mark_run(&mut self)
-        ensures { self.new ≡ run_row self.old }
+    /// The jobs that the ring is done with by now are passed over: those before the first one that is open.
+    pub fn mark_skip<F: Fn(FenceId) -> bool>(&mut self, is_open: F)
+        requires { F.IsAlwaysCallable is_open }
+        ensures passes { PassesTo (F.post is_open) self.old.state.pending self.old.passed self.new.passed }
+        ensures rest { self.new ≡ record self.old { passed = self.new.passed } }
     {
-        if self.passed < self.jobs.len() {
-            let job = &mut self.jobs[self.passed];
-            job.is_complete = true;
-            self.passed = count_passed(&self.jobs, self.passed + 1);
-        }
-    }
-
-    /// Every job that the closure names is skipped, and so complete.
-    pub fn mark_skip<F: Fn(FenceId) -> bool>(&mut self, skips: F)
-        requires { F.IsAlwaysCallable skips }
-        ensures marked { AreMarked (F.post skips) self.old.pending self.new.pending }
-        ensures rest { self.new ≡ record self.old { pending = self.new.pending } }
-    {
-        mark(&mut self.jobs, skips);
-        self.passed = count_passed(&self.jobs, self.passed);
+        self.passed = count_passed(&self.pending, self.passed, is_open);
     }
 }
 
-// Passes over the job that is put at the end, where it is complete and all before it are.
-fn pass_last(passed: &mut usize, jobs: &VecDeque<Pending>, job: Pending)
-    requires { passed.old ≡ passed_of jobs.now.items }
-    ensures { passed.new ≡ passed_of (jobs.now.items ++ job ∷ []) }
-{
-    if job.is_complete && *passed == jobs.len() {
-        *passed += 1;
-    }
-}
-
-// How many jobs at the front are complete, of which the first so many are known to be.
-fn count_passed(jobs: &VecDeque<Pending>, known: usize) -> usize
-    requires { known ≤ passed_of jobs.now.items }
-    ensures { result ≡ passed_of jobs.now.items }
+// How many jobs stand before the first one that is open, where none of the first so many is.
+fn count_passed<F: Fn(FenceId) -> bool>(
+    pending: &VecDeque<FenceId>,
+    known: usize,
+    is_open: F,
+) -> usize
+    requires within { known ≤ length pending.now.items }
+    requires callable { F.IsAlwaysCallable is_open }
+    ensures { PassesTo (F.post is_open) pending.now.items known result }
 {
     let mut passed = known;
-    while passed < jobs.len() && jobs[passed].is_complete {
+    while passed < pending.len() && !is_open(pending[passed]) {
         passed += 1;
     }
     passed
-}
-
-// Marks each job that the closure names.
-fn mark<F: Fn(FenceId) -> bool>(jobs: &mut VecDeque<Pending>, skips: F)
-    requires { F.IsAlwaysCallable skips }
-    ensures marked { AreMarked (F.post skips) jobs.old.items jobs.new.items }
-    ensures capacity { deque_capacity jobs.new ≡ deque_capacity jobs.old }
-{
-    for place in 0..jobs.len() {
-        let job = &mut jobs[place];
-        job.is_complete = skips(job.fence) || job.is_complete;
-    }
 }

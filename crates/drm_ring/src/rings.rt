@@ -1,9 +1,12 @@
-ghost use Rattle.std.specs.Prelude.{◌≡◌, ◌<◌, Some, None, IfOk, IfSome, IfNone, nat_lt, length, map, slice_get};
-ghost use Rattle.drm_ring.specs.RingRows.{pending_at, head_at, current_at, ring_row_changed, idle_row, put_row, popped_row, run_row, since_row, AreMarked};
+ghost use Rattle.std.specs.Prelude.{◌≡◌, ◌<◌, ◌≤◌, IfOk, IfSome, nat_lt, length, map, slice_get};
+ghost use Rattle.drm_ring.specs.Counted.{need_of, free_of};
+ghost use Rattle.drm_ring.specs.RingRows.{pending_at, passed_at, head_at, current_at, ring_row_changed, idle_row, put_row, popped_row, since_row, PassesTo};
 
-use crate::pending::{Pending, PendingList};
+use crate::credits::Credits;
+use crate::pending::PendingList;
 use drm_types::{DeviceSpec, FenceId, Moment, RingId};
 use std::alloc::{AllocError, Global};
+use std::collections::VecDeque;
 use std::marker::Model;
 
 /// The pending jobs of all rings, by the place of the ring in the device.
@@ -29,7 +32,7 @@ impl Rings {
     {
         let mut lists = Vec::with_capacity(alloc, spec.rings.len())?;
         for ring in spec.rings.as_slice() {
-            lists.push(PendingList::new(alloc, ring.credit_limit as u32)?)?;
+            lists.push(PendingList::new(alloc, ring.credit_limit)?)?;
         }
         Ok(Rings { lists })
     }
@@ -41,16 +44,24 @@ impl Rings {
         self.lists.len()
     }
 
+    /// The numbers of the ring's pending jobs.
+    pub fn pending(&self, ring: RingId) -> &VecDeque<FenceId>
+        requires { ring < length self.now }
+        ensures { result.now.items ≡ pending_at self.now ring }
+    {
+        self.lists[ring as usize].pending()
+    }
+
     /// The ring's first pending job.
-    pub fn head(&self, ring: RingId) -> Option<Pending>
+    pub fn head(&self, ring: RingId) -> Option<FenceId>
         requires { ring < length self.now }
         ensures { result ≡ head_at self.now ring }
     {
         self.lists[ring as usize].head()
     }
 
-    /// The ring's first pending job that is not complete: the one whose packets it runs.
-    pub fn current(&self, ring: RingId) -> Option<Pending>
+    /// The ring's first pending job behind those that it is done with: the one whose packets it runs.
+    pub fn current(&self, ring: RingId) -> Option<FenceId>
         requires { ring < length self.now }
         ensures { result ≡ current_at self.now ring }
     {
@@ -60,7 +71,7 @@ impl Rings {
     /// The moment from which the head's age counts.
     pub fn since(&self, ring: RingId) -> Moment
         requires { ring < length self.now }
-        ensures { IfSome (slice_get self.now ring) (λ r. result ≡ r.since) }
+        ensures { IfSome (slice_get self.now ring) (λ r. result ≡ r.state.since) }
     {
         self.lists[ring as usize].since()
     }
@@ -73,48 +84,51 @@ impl Rings {
         self.lists[ring as usize].set_since(now);
     }
 
-    /// Whether there is room for one more pending job on the ring.
+    /// The credits that the ring's pending jobs count.
+    pub fn credits(&self, ring: RingId) -> &Credits
+        requires { ring < length self.now }
+        ensures { IfSome (slice_get self.now ring) (λ r. result.now ≡ r.credits) }
+    {
+        self.lists[ring as usize].credits()
+    }
+
+    /// Whether there is room for one more pending job on the ring. There is, where one more fits with its credits and
+    /// each job counts one at least.
     pub fn has_room(&self, ring: RingId) -> bool
         requires { ring < length self.now }
-        ensures { IfSome (slice_get self.now ring) (λ r. result ≡ nat_lt (length r.pending) r.places) }
+        ensures { IfSome (slice_get self.now ring) (λ r. result ≡ nat_lt (length r.state.pending) r.credits.limit) }
     {
         self.lists[ring as usize].has_room()
     }
 
-    /// One more job at the end of the ring's list (`drm_sched_job_begin`), for which there is room. Where nothing was
-    /// pending it is the head, and its age counts from now.
-    pub fn put(&mut self, ring: RingId, pending: Pending, now: Moment)
+    /// One more job at the end of the ring's list (`drm_sched_job_begin`), for which there is room, and which fits with
+    /// its credits. Where nothing was pending it is the head, and its age counts from now.
+    pub fn put(&mut self, ring: RingId, number: FenceId, credits: u16, now: Moment)
         requires there { ring < length self.old }
-        requires places { IfSome (slice_get self.old ring) (λ r. length r.pending < r.places) }
-        ensures { self.new ≡ ring_row_changed self.old ring (put_row pending now) }
+        requires room { IfSome (slice_get self.old ring) (λ r. length r.state.pending < r.credits.limit) }
+        requires fits { IfSome (slice_get self.old ring) (λ r. need_of r.credits credits ≤ free_of r.credits) }
+        ensures { self.new ≡ ring_row_changed self.old ring (put_row number credits now) }
     {
-        self.lists[ring as usize].put(pending, now);
+        self.lists[ring as usize].put(number, credits, now);
     }
 
-    /// Takes the first pending job out (`drm_sched_get_finished_job`). Where another one becomes the head, its age counts
-    /// from now.
-    pub fn pop(&mut self, ring: RingId, now: Moment) -> Option<Pending>
-        requires { ring < length self.old }
-        ensures some { IfSome result (λ p. (head_at self.old ring ≡ Some p) × (self.new ≡ ring_row_changed self.old ring (popped_row now))) }
-        ensures none { IfNone result ((head_at self.old ring ≡ None) × (self.new ≡ self.old)) }
-    {
-        self.lists[ring as usize].pop(now)
-    }
-
-    /// The last packet of the current job ran: it is complete.
-    pub fn mark_run(&mut self, ring: RingId)
-        requires { ring < length self.old }
-        ensures { self.new ≡ ring_row_changed self.old ring run_row }
-    {
-        self.lists[ring as usize].mark_run();
-    }
-
-    /// Every pending job that the closure names is skipped, and so complete: the ring runs no packet of it any more.
-    pub fn mark_skip<F: Fn(FenceId) -> bool>(&mut self, ring: RingId, skips: F)
+    /// Takes the ring's head out (`drm_sched_get_finished_job`), and gives its credits back. Where another one becomes
+    /// the head, its age counts from now.
+    pub fn pop(&mut self, ring: RingId, credits: u16, now: Moment)
         requires there { ring < length self.old }
-        requires callable { F.IsAlwaysCallable skips }
-        ensures { (pending : _) × AreMarked (F.post skips) (pending_at self.old ring) pending × (self.new ≡ ring_row_changed self.old ring (λ r. record r { pending = pending })) }
+        requires counted { IfSome (slice_get self.old ring) (λ r. need_of r.credits credits ≤ r.credits.count) }
+        ensures { self.new ≡ ring_row_changed self.old ring (popped_row credits now) }
     {
-        self.lists[ring as usize].mark_skip(skips);
+        self.lists[ring as usize].pop(credits, now);
+    }
+
+    /// The jobs that the ring is done with by now are passed over, up to the first one that is open: it runs no packet
+    /// of them any more. A job that was passed over is not asked about again.
+    pub fn mark_skip<F: Fn(FenceId) -> bool>(&mut self, ring: RingId, is_open: F)
+        requires there { ring < length self.old }
+        requires callable { F.IsAlwaysCallable is_open }
+        ensures { (to : _) × PassesTo (F.post is_open) (pending_at self.old ring) (passed_at self.old ring) to × (self.new ≡ ring_row_changed self.old ring (λ r. record r { passed = to })) }
+    {
+        self.lists[ring as usize].mark_skip(is_open);
     }
 }

@@ -72,7 +72,7 @@ whole_out t out w = record {
   loads = w.loads;
   rows = λ ring row at. record { passed = (w.rows ring row at).passed; credits = (w.rows ring row at).credits };
   sizes = w.sizes;
-  rooms = record { jobs = w.rooms.jobs; waits = w.rooms.waits; places = w.rooms.places; queues = w.rooms.queues; pending = w.rooms.pending };
+  rooms = record { jobs = w.rooms.jobs; waits = w.rooms.waits; places = w.rooms.places; queues = w.rooms.queues };
 }
 
 pub sent_marked : (d : Parts) (ring f : ℕ) (r : JobRecord) (p : Packet) (row : OutMark) (memory : Stored) → IsWholeMarked d → MayGo d ring f r p

@@ -1,17 +1,10 @@
 -- How many elements stand before the first one that passes a test, by places.
-use Rattle.std.proofs.Common.{◌≡◌, ℕ, zero, suc, ◌≤◌, Bool, true, false, cond, List, [], ◌∷◌, ◌++◌, length, Some, refl, sym, ap, subst, ◌∙◌, arith, slice_get, Option, None, Bor}
+use Rattle.std.proofs.Common.{◌≡◌, ℕ, zero, suc, ◌<◌, ◌≤◌, Bool, true, false, cond, List, [], ◌∷◌, ◌++◌, length, set, Option, Some, None, refl, sym, ap, subst, ◌∙◌, arith, slice_get}
 use Rattle.std.specs.Prelude.{find}
-use Rattle.drm_state.specs.Rows.{passed_of}
-use Rattle.std.specs.Option.{option_copied}
-use Rattle.std.specs.Slice.{IsItemAt}
-use Rattle.std.proofs.lemmas.Option.{slice_get-get_or, slice_get_past}
-use Rattle.std.proofs.lemmas.Bool.{ltb-true, ltb-false}
-
-pub passed_within : (test : ℕ → Bool) (xs : List ℕ) → passed_of test xs ≤ length xs
-passed_within test [] = omega arith
-passed_within test (x ∷ xs) =
-    let rest = passed_within test xs in
-    elim (test x) as (λ t. cond t zero (suc (passed_of test xs)) ≤ suc (length xs)) [ true ↦ omega arith | false ↦ omega (arith, rest) ]
+use Rattle.std.specs.Option.{option_map_or}
+use Rattle.drm_ring.specs.RingRows.{RingRow, pending_at, ring_row_changed, PassesTo}
+use Rattle.drm_state.specs.declared.journal.JobRecord.{JobRecord}
+use Rattle.drm_state.specs.Rows.{is_open, passed_of, passed_row}
 
 -- the first that passes stands behind them
 pub passed_finds : (test : ℕ → Bool) (xs : List ℕ) → slice_get xs (passed_of test xs) ≡ find test xs
@@ -22,28 +15,40 @@ passed_finds test (x ∷ xs) =
       | false ↦ passed_finds test xs
     ]
 
--- one more, which does not pass
-pub passed_more : (test : ℕ → Bool) (xs : List ℕ) (k x : ℕ) → k ≤ passed_of test xs → slice_get xs k ≡ Some x → test x ≡ false → suc k ≤ passed_of test xs
-passed_more test [] k x le at done = absurd (cc (at))
-passed_more test (y ∷ ys) zero x le at done =
-    let same : y ≡ x = cc (at) in
-    subst (λ t. suc zero ≤ cond t zero (suc (passed_of test ys))) (sym (ap test same ∙ done)) (omega arith)
-passed_more test (y ∷ ys) (suc k) x le at done =
-    elim (test y) as (λ t. suc k ≤ cond t zero (suc (passed_of test ys)) → suc (suc k) ≤ cond t zero (suc (passed_of test ys))) [
-      | true ↦ λ below. absurd (omega (arith, below))
-      | false ↦ λ below. let more = passed_more test ys k x (omega (arith, below)) at done in omega (arith, more)
-    ] le
+-- where a ring has passed over its jobs by what it was answered, it stands there
+pub passes_is : (Answers : ℕ → Bool → Type 0) (test : ℕ → Bool) (xs : List ℕ) (from to : ℕ) → ((f : ℕ) (b : Bool) → Answers f b → b ≡ test f)
+    → PassesTo Answers xs from to → from ≤ passed_of test xs → to ≡ passed_of test xs
+passes_is Answers test xs from to same is known =
+    stands xs from to known is.passed.forth is.passed.within
+    (λ k f behind before at. sym (same f false (is.passed.done k f behind before at)))
+    (λ f at. sym (same f true (is.next f at)))
+  where
+    stands : (xs : List ℕ) (from to : ℕ) → from ≤ passed_of test xs → from ≤ to → to ≤ length xs
+        → ((k f : ℕ) → from ≤ k → k < to → slice_get xs k ≡ Some f → test f ≡ false)
+        → ((f : ℕ) → slice_get xs to ≡ Some f → test f ≡ true) → to ≡ passed_of test xs
+    stands [] from to known forth within done next = omega (arith, within)
+    stands (x ∷ xs) from zero known forth within done next = ap (λ t. cond t zero (suc (passed_of test xs))) (sym (next x refl))
+    stands (x ∷ xs) zero (suc to) known forth within done next =
+        ap suc (stands xs zero to (omega arith) (omega arith) (omega (arith, within))
+        (λ k f behind before at. done (suc k) f (omega arith) (omega (arith, before)) at) next)
+        ∙ ap (λ t. cond t zero (suc (passed_of test xs))) (sym (done zero x (omega arith) (omega arith) refl))
+    stands (x ∷ xs) (suc from) (suc to) known forth within done next =
+        elim (test x) as (λ t. suc from ≤ cond t zero (suc (passed_of test xs)) → suc to ≡ cond t zero (suc (passed_of test xs))) [
+          | true ↦ λ le. absurd (omega (arith, le))
+          | false ↦ λ le. ap suc (stands xs from to (omega (arith, le)) (omega (arith, forth)) (omega (arith, within))
+              (λ k f behind before at. done (suc k) f (omega (arith, behind)) (omega (arith, before)) at) next)
+        ] known
 
--- the next one passes
-pub passed_ends : (test : ℕ → Bool) (xs : List ℕ) (k x : ℕ) → k ≤ passed_of test xs → slice_get xs k ≡ Some x → test x ≡ true → k ≡ passed_of test xs
-passed_ends test [] k x le at going = absurd (cc (at))
-passed_ends test (y ∷ ys) zero x le at going =
-    let same : y ≡ x = cc (at) in ap (λ t. cond t zero (suc (passed_of test ys))) (sym (ap test same ∙ going))
-passed_ends test (y ∷ ys) (suc k) x le at going =
-    elim (test y) as (λ t. suc k ≤ cond t zero (suc (passed_of test ys)) → suc k ≡ cond t zero (suc (passed_of test ys))) [
-      | true ↦ λ below. absurd (omega (arith, below))
-      | false ↦ λ below. ap suc (passed_ends test ys k x (omega (arith, below)) at going)
-    ] le
+-- so it does in the list of all rings
+pub row_passes : (rings : List RingRow) (ring to : ℕ) (journal : List JobRecord) → to ≡ passed_of (is_open journal) (pending_at rings ring)
+    → ring_row_changed rings ring (λ r. record r { passed = to }) ≡ ring_row_changed rings ring (passed_row journal)
+row_passes rings ring to journal is = by_row (slice_get rings ring) is
+  where
+    by_row : (o : Option RingRow) → to ≡ passed_of (is_open journal) (option_map_or (λ (r : RingRow). r.state.pending) o [])
+        → option_map_or (λ (r : RingRow). set rings ring (record r { passed = to })) o rings
+        ≡ option_map_or (λ (r : RingRow). set rings ring (passed_row journal r)) o rings
+    by_row None is = refl
+    by_row (Some r) is = ap (λ n. let new : RingRow = record r { passed = n } in set rings ring new) is
 
 -- no fewer where what did not pass does not pass
 pub passed_grows : (p q : ℕ → Bool) (xs : List ℕ) → ((k x : ℕ) → slice_get xs k ≡ Some x → p x ≡ false → q x ≡ false) → passed_of p xs ≤ passed_of q xs
@@ -71,8 +76,3 @@ passed_longer test (y ∷ ys) x =
 -- behind a first one that does not pass
 pub passed_rest : (test : ℕ → Bool) (x : ℕ) (xs : List ℕ) → test x ≡ false → passed_of test (x ∷ xs) ≡ suc (passed_of test xs)
 passed_rest test x xs done = ap (λ t. cond t zero (suc (passed_of test xs))) done
-
--- what is lent of a list
-pub lent_is : (xs : List ℕ) (i : ℕ) (r : Option (Bor ℕ)) → IsItemAt xs i r → option_copied r ≡ slice_get xs i
-lent_is xs i None is = sym (slice_get_past xs i (ltb-false i (length xs) (sym is.0)))
-lent_is xs i (Some x) is = sym (slice_get-get_or xs i x.now (ltb-true i (length xs) (sym is.0)) ∙ ap Some (sym is.1))

@@ -1,25 +1,14 @@
--- The row of a ring, and what it keeps beside its pending jobs: how many at their front the ring is done with, and their credits.
-use Rattle.std.specs.Prelude.{◌≡◌, ℕ, zero, suc, Bool, not, cond, if◌then◌else◌, ◌==◌, List, [], ◌∷◌, ◌++◌, drop, length, Some, sum_by, slice_get}
+-- What a ring keeps beside its state: how many of its pending jobs at the front it is done with, and the credits of all.
+use Rattle.std.specs.Prelude.{◌≡◌, ℕ, zero, suc, Bool, not, cond, List, [], ◌∷◌, Some, sum_by, slice_get}
+use Rattle.drm_ring.specs.RingRows.{RingState, RingRow}
 use Rattle.drm_state.specs.declared.journal.JobRecord.{JobRecord}
-use Rattle.drm_state.specs.declared.rows.RingJobs.{RingJobs}
-use Rattle.drm_state.specs.State.{RingState, DeviceState}
+use Rattle.drm_state.specs.State.{DeviceState}
 use Rattle.drm_state.specs.Journal.{is_at, is_complete}
 use Rattle.drm_state.specs.Ring.{credit_limit_of, credits_of}
 
 -- the state that a row stands for
-abbrev pub ring_state_of : RingJobs → RingState
-ring_state_of row = record { pending = row.pending.items; since = row.since }
-
--- the ring with one more pending job, from now on where it is the first
-abbrev pub put_in : ℕ → ℕ → RingState → RingState
-put_in number now s = record {
-  pending = s.pending ++ number ∷ [];
-  since = if length s.pending == 0 then now else s.since;
-}
-
--- the ring without its head. The next job's age counts from now
-abbrev pub popped_at : ℕ → RingState → RingState
-popped_at now s = record { pending = drop 1 s.pending; since = if length s.pending == 1 then s.since else now }
+abbrev pub ring_state_of : RingRow → RingState
+ring_state_of row = row.state
 
 -- whether the job is there and has packets to run
 abbrev pub is_open : List JobRecord → ℕ → Bool
@@ -30,11 +19,15 @@ abbrev pub passed_of : (ℕ → Bool) → List ℕ → ℕ
 passed_of test [] = zero
 passed_of test (f ∷ rest) = cond (test f) zero (suc (passed_of test rest))
 
+-- the row of a ring that has passed over what it is done with by now
+abbrev pub passed_row : List JobRecord → RingRow → RingRow
+passed_row journal row = record row { passed = passed_of (is_open journal) row.state.pending }
+
 -- the row has passed over the jobs before the one that the ring runs, and counts the credits of all
-pub record RowStands (device : DeviceState) (ring : ℕ) (row : RingJobs) : Type 0 where
-  pub passed : row.passed ≡ passed_of (is_open device.journal) row.pending.items
-  pub credits : row.credits ≡ record { limit = credit_limit_of device ring; count = sum_by (credits_of device ring) row.pending.items }
+pub record RowStands (device : DeviceState) (ring : ℕ) (row : RingRow) : Type 0 where
+  pub passed : row.passed ≡ passed_of (is_open device.journal) row.state.pending
+  pub credits : row.credits ≡ record { limit = credit_limit_of device ring; count = sum_by (credits_of device ring) row.state.pending }
 
 -- so do all rows
-abbrev pub RowsStand : DeviceState → List RingJobs → Type 0
-RowsStand device rows = (ring : ℕ) (row : RingJobs) → slice_get rows ring ≡ Some row → RowStands device ring row
+abbrev pub RowsStand : DeviceState → List RingRow → Type 0
+RowsStand device rows = (ring : ℕ) (row : RingRow) → slice_get rows ring ≡ Some row → RowStands device ring row

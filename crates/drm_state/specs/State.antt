@@ -2,11 +2,8 @@
 use Rattle.std.specs.Prelude.{ℕ, Bool, false, List, [], map}
 use Rattle.drm_types.specs.declared.spec.DeviceSpec.{DeviceSpec}
 use Rattle.drm_state.specs.declared.journal.JobRecord.{JobRecord}
-
 -- a ring: the numbers of its pending jobs in order, and the moment from which its head's age counts
-pub record RingState : Type 0 where
-  pub pending : List ℕ
-  pub since : ℕ
+pub use Rattle.drm_ring.specs.RingRows.{RingState}
 
 -- what is kept of an entity beside its jobs: a stopped one takes no jobs, and its queued jobs are not picked; the jobs
 -- of a guilty one are skipped

@@ -1,8 +1,8 @@
 //! The state of a device: its definitions, the laws over them, and the steps on the parts of which tables are made.
 //!
 //! The definitions of a device stand here (`specs/State`, `Order`, `Choice`, `Refusals`, `Outcomes`, `Lawful`), with its
-//! answers and errors. The record of a job, the row of a ring and the loads of rings are types of their own, whose calls
-//! promise what one event changes of them. `drm_table` puts them together.
+//! answers and errors. The record of a job and the loads of rings are types of their own, whose calls promise what one event
+//! changes of them; the pending jobs of the rings are those of `drm_ring`. `drm_table` puts them together.
 #![tactic(auto)]
 
 mod answer;
@@ -33,7 +33,7 @@ pub use laws::{
 pub use loads::Loads;
 pub use plans::{Held, Plan, add_dependencies};
 pub use recovery::{blame, condemn};
-pub use rows::{RingJobs, counted_credits, is_complete};
+pub use rows::{counted_credits, is_complete, pass_over};
 pub use running::{end_job, final_outcome, must_stall, schedule_job};
 pub use stopping::may_end;
 pub use uses::{add_held_uses, add_use};

@@ -236,7 +236,7 @@ arm_done t job deps ring journal waits fences entities loads w is_job cover may 
             (loads_armed t.spec t.journal.items new t.loads loads w.loads refl (arming_ring_there t job.entity w (few_entities t.spec job w.limits is_job).0)
             (subst (λ k. (n : ℕ) → slice_get t.loads.live.items k ≡ Some n → loads.live.items ≡ set t.loads.live.items k (n + 1)) ring_is live) last ended_same
             (few_entities t.spec job w.limits is_job).0);
-        rows = rows_same t t.rings.items (state_of (armed_tables t journal waits fences entities loads)) w
+        rows = rows_same t t.rings (state_of (armed_tables t journal waits fences entities loads)) w
             (subst (Grows d) (sym state) (arm_grows d job)) refl (λ f r at scheduled.
             ap (λ js. is_open js f) items_are ∙ (at_test (t.journal.items ++ new ∷ []) f r (λ z. not (is_complete z)) (get_before_push t.journal.items new f r at)
             ∙ sym (at_test t.journal.items f r (λ z. not (is_complete z)) at)));
@@ -246,7 +246,6 @@ arm_done t job deps ring journal waits fences entities loads w is_job cover may 
           waits = subst (λ n. t.spec.max_jobs ≤ n) (sym waits_room) w.rooms.waits;
           places = places ∙ w.rooms.places;
           queues = ap (λ (e : EntityRows). e.places) queued ∙ w.rooms.queues;
-          pending = w.rooms.pending;
         };
       },
     )

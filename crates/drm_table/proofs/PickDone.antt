@@ -3,7 +3,6 @@ use Rattle.std.proofs.Common.{◌≡◌, ℕ, zero, suc, ◌+◌, ◌<◌, ◌�
 use Rattle.std.specs.declared.alloc.Global.{Global}
 use Rattle.std.specs.Prelude.{vec_capacity, Vec, sum_by, nat_lt, nat_le, ◌||◌, ◌==◌, IfSome, IfNone}
 use Rattle.std.specs.Option.{option_map_or}
-use Rattle.std.specs.Vec.{with_item}
 use Rattle.std.proofs.lemmas.Option.{slice_get_within, slice_get-get_or}
 use Rattle.std.proofs.lemmas.List.Sums.{sum_by-cons}
 use Rattle.std.proofs.lemmas.Bool.{cases_Bool, and_parts, leb-true, ltb-false, ltb-true, lt-ltb, eqb-false}
@@ -21,7 +20,7 @@ use Rattle.drm_fence.specs.Fences.{Fences}
 use Rattle.drm_fence.specs.Phases.{is_queued}
 use Rattle.drm_entity.specs.Rows.{EntityRows, queue_at, popped}
 use Rattle.drm_state.specs.declared.journal.JobRecord.{JobRecord}
-use Rattle.drm_state.specs.declared.rows.RingJobs.{RingJobs}
+use Rattle.drm_ring.specs.RingRows.{RingRow, pending_at, passed_at, ring_row_changed, put_in, put_row}
 use Rattle.drm_table.specs.declared.table.Table.{Table}
 use Rattle.drm_state.specs.declared.answer.Answer.TheVariants as answer
 use Rattle.drm_state.specs.Journal.{changed_at, is_complete}
@@ -39,16 +38,14 @@ use Rattle.drm_state.proofs.DeviceSteps.{pick_kept, not_when}
 use Rattle.drm_state.proofs.ChoiceIs.{IsChosen, choice_is}
 use Rattle.drm_table.proofs.Candidates.{head_number, queued_goes_on}
 use Rattle.drm_state.proofs.LoadsKept.{loads_set}
-use Rattle.drm_table.proofs.TableFacts.{entity_there, rings_tie, rooms_kept, row_pending, whole_kept}
+use Rattle.drm_table.proofs.TableFacts.{entity_there, rings_tie, rooms_kept, row_found, row_pending, row_after, row_changed_twice, whole_kept}
 use Rattle.drm_state.proofs.CallsAre.{Left, pick_may, pick_takes}
 use Rattle.drm_table.proofs.Queues.{head_numbered, stands_popped, IsPopped}
-use Rattle.drm_state.specs.Rows.{is_open, passed_of, ring_state_of, put_in}
-use Rattle.drm_table.proofs.RowsKept.{rows_changed, row_job, credits_put}
+use Rattle.drm_state.specs.Rows.{is_open, passed_of, passed_row, ring_state_of}
+use Rattle.drm_table.proofs.RowsKept.{rows_changed, row_job, passes_at_row, credits_put}
 use Rattle.drm_state.proofs.Passing.{passed_same, passed_longer}
 use Rattle.drm_state.proofs.Pairs.{get_set_other}
-use Rattle.drm_state.specs.State.{RingState}
-use Rattle.std.specs.VecDeque.{deque_capacity, deque_len}
-use Rattle.drm_ring.specs.Counted.{need_of}
+use Rattle.drm_ring.specs.Counted.{Counted, taken}
 
 -- a ring of a device has a credit at least
 pub some_limit : (spec : DeviceSpec) (ring : ℕ) → spec_fault spec ≡ None → ring < length spec.rings → 0 < option_map_or (λ (r : RingSpec). r.credit_limit) (slice_get spec.rings ring) 0
@@ -102,9 +99,9 @@ each_counts t ring w there k f at =
     subst (λ o. 0 < option_map_or (λ (x : JobRecord). min x.job.credits (credit_limit_of (state_of t) ring)) o 0) (sym r.1) (omega (arith, limit, credits))
 
 -- one more job that fits finds room
-pub room_for_one : (t : Table) (ring f : ℕ) (r : JobRecord) (row : RingJobs) → IsWhole t → ring < length t.spec.rings → slice_get t.journal.items f ≡ Some r
-    → slice_get t.rings.items ring ≡ Some row → nat_lt (free_credits (state_of t) ring) (credits_of (state_of t) ring f) ≡ false
-    → deque_len row.pending < deque_capacity row.pending
+pub room_for_one : (t : Table) (ring f : ℕ) (r : JobRecord) (row : RingRow) → IsWhole t → ring < length t.spec.rings → slice_get t.journal.items f ≡ Some r
+    → slice_get t.rings ring ≡ Some row → nat_lt (free_credits (state_of t) ring) (credits_of (state_of t) ring f) ≡ false
+    → length row.state.pending < row.credits.limit
 room_for_one t ring f r row w there at at_row fits =
     let d = state_of t in
     let le = ltb-false (free_credits d ring) (credits_of d ring f) fits in
@@ -113,10 +110,9 @@ room_for_one t ring f r row w there at at_row fits =
     let one : 0 < credits_of d ring f = subst (λ o. 0 < option_map_or (λ (x : JobRecord). min x.job.credits (credit_limit_of d ring)) o 0) (sym at) (omega (arith, limit, credits)) in
     let few = few_pending (credits_of d ring) (pending_of d ring) (each_counts t ring w there) in
     let used = (w.steady.lawful.rings ring there).credits in
-    let room = w.rooms.pending ring row at_row in
-    let same : length (pending_of d ring) ≡ length row.pending.items = ap length (row_pending t ring row at_row) in
-    let size : deque_len row.pending ≡ length row.pending.items = row.pending.ok.0 in
-    omega (arith, le, one, few, used, room, same, size)
+    let room : row.credits.limit ≡ credit_limit_of d ring = ap (λ (c : Counted). c.limit) (w.rows ring row at_row).credits in
+    let same : length (pending_of d ring) ≡ length row.state.pending = ap length (row_pending t ring row at_row) in
+    omega (arith, le, one, few, used, room, same)
 
 -- what is known of the entity of the job that is taken next
 pub record IsTaken (t : Table) (f : ℕ) (r : JobRecord) (entity : ℕ) : Type 0 where
@@ -161,38 +157,41 @@ open_elsewhere t f g r x skipped journal items at queued at_g scheduled =
     let never : false ≡ true = ap is_queued (sym scheduled) ∙ (ap (λ (z : JobRecord). is_queued z.phase) same ∙ queued) in cc (never)))
 
 -- so the ring has passed over what it had, in the longer list too
-pub put_passes : (t : Table) (ring f now : ℕ) (r : JobRecord) (skipped : Bool) (journal : List JobRecord) (row new : RingJobs) → IsWhole t
+pub put_passes : (t : Table) (ring f credits now : ℕ) (r : JobRecord) (skipped : Bool) (journal : List JobRecord) (put : List RingRow) → IsWhole t → ring < length t.spec.rings
     → journal ≡ changed_at t.journal.items f (λ r. record r { phase = Scheduled; is_skipped = skipped || r.is_skipped })
-    → slice_get t.journal.items f ≡ Some r → is_queued r.phase ≡ true → slice_get t.rings.items ring ≡ Some row → ring_state_of new ≡ put_in f now (ring_state_of row)
-    → new.passed ≡ row.passed → new.passed ≤ passed_of (is_open journal) new.pending.items
-put_passes t ring f now r skipped journal row new w items at queued at_row row_is passed =
-    let old = (w.rows ring row at_row).passed in
-    let same = passed_same (is_open t.journal.items) (is_open journal) row.pending.items (λ k g at_k.
-    let x = row_job t ring row w at_row k g at_k in
+    → slice_get t.journal.items f ≡ Some r → is_queued r.phase ≡ true → put ≡ ring_row_changed t.rings ring (put_row f credits now)
+    → passed_at put ring ≤ passed_of (is_open journal) (pending_at put ring)
+put_passes t ring f credits now r skipped journal put w there items at queued one_more =
+    let row = row_found t ring w there in
+    let old = (w.rows ring row.0 row.1).passed in
+    let same = passed_same (is_open t.journal.items) (is_open journal) row.0.state.pending (λ k g at_k.
+    let x = row_job t ring row.0 w row.1 k g at_k in
     sym (open_elsewhere t f g r x.0 skipped journal items at queued x.1 x.2)) in
-    let longer = passed_longer (is_open journal) row.pending.items f in
-    let pending : new.pending.items ≡ row.pending.items ++ f ∷ [] = ap (λ (s : RingState). s.pending) row_is in
-    subst (λ ns. new.passed ≤ passed_of (is_open journal) ns) (sym pending) (omega (arith, old, same, longer, passed))
+    let longer = passed_longer (is_open journal) row.0.state.pending f in
+    let passes : row.0.passed ≤ passed_of (is_open journal) (row.0.state.pending ++ f ∷ []) = omega (arith, old, same, longer) in
+    passes_at_row put ring (put_row f credits now row.0) (is_open journal) (row_after t.rings put ring row.0 (put_row f credits now) row.1 one_more) passes
 
 -- the tables after the pick
-abbrev pub picked_tables : Table → ℕ → Vec JobRecord Global → Fences → RingJobs → EntityRows → Table
-picked_tables t ring journal fences row entities = record t { journal = journal; fences = fences; rings = with_item t.rings ring row; entities = entities }
+abbrev pub picked_tables : Table → Vec JobRecord Global → Fences → List RingRow → EntityRows → Table
+picked_tables t journal fences rings entities = record t { journal = journal; fences = fences; rings = rings; entities = entities }
 
-pub pick_done : (t : Table) (ring now f : ℕ) (r : JobRecord) (skipped : Bool) (journal : Vec JobRecord Global) (fences : Fences) (row new : RingJobs) (entities : EntityRows) → IsWhole t
+pub pick_done : (t : Table) (ring now f credits : ℕ) (r : JobRecord) (skipped : Bool) (journal : Vec JobRecord Global) (fences : Fences) (put rows : List RingRow) (entities : EntityRows) → IsWhole t
     → ring < length t.spec.rings → choice (state_of t) ring ≡ Some f → nat_lt (free_credits (state_of t) ring) (credits_of (state_of t) ring f) ≡ false
     → slice_get t.journal.items f ≡ Some r → skipped ≡ is_guilty (state_of t) r.job.entity
     → journal.items ≡ changed_at t.journal.items f (λ r. record r { phase = Scheduled; is_skipped = skipped || r.is_skipped })
     → fences.list ≡ map fence_state_of journal.items → vec_capacity journal ≡ vec_capacity t.journal → fences.places ≡ t.fences.places
-    → slice_get t.rings.items ring ≡ Some row → ring_state_of new ≡ put_in f now (ring_state_of row) → new.passed ≡ passed_of (is_open journal.items) new.pending.items
-    → new.credits ≡ record row.credits { count = row.credits.count + need_of row.credits r.job.credits }
-    → deque_capacity new.pending ≡ deque_capacity row.pending → IsPopped journal.items t.entities entities
+    → credits ≡ r.job.credits → put ≡ ring_row_changed t.rings ring (put_row f credits now) → rows ≡ ring_row_changed put ring (passed_row journal.items)
+    → IsPopped journal.items t.entities entities
     → (pick_refusal (state_of t) ring ≡ None)
-    × (pick_outcome (state_of t) ring now ≡ (answer.Picked f skipped, state_of (picked_tables t ring journal fences new entities)))
-    × IsWhole (picked_tables t ring journal fences new entities)
-pick_done t ring now f r skipped journal fences row new entities w there is fits at guilt items tied room places at_row row_is passed taken row_room left_queue =
+    × (pick_outcome (state_of t) ring now ≡ (answer.Picked f skipped, state_of (picked_tables t journal fences rows entities)))
+    × IsWhole (picked_tables t journal fences rows entities)
+pick_done t ring now f credits r skipped journal fences put rows entities w there is fits at guilt items tied room places told one_more passed left_queue =
     let d = state_of t in
-    let rings = rings_tie t.rings.items ring row new (put_in f now) at_row row_is in
-    let left : Left = (answer.Picked f skipped, state_of (picked_tables t ring journal fences new entities)) in
+    let row = row_found t ring w there in
+    let new : RingRow = passed_row journal.items (put_row f credits now row.0) in
+    let rows_are : rows ≡ set t.rings ring new = row_changed_twice t.rings put rows ring row.0 (put_row f credits now) (passed_row journal.items) row.1 one_more passed in
+    let rings : map ring_state_of rows ≡ ring_changed d.rings ring (put_in f now) = ap (map ring_state_of) rows_are ∙ rings_tie t.rings ring row.0 new (put_in f now) row.1 refl in
+    let left : Left = (answer.Picked f skipped, state_of (picked_tables t journal fences rows entities)) in
     let given : journal.items ≡ (picked_device d ring now f).journal =
     items ∙ (changed_is t.journal.items f r (λ r. record r { phase = Scheduled; is_skipped = skipped || r.is_skipped }) at
     ∙ (ap (λ b. set t.journal.items f (record r { phase = Scheduled; is_skipped = b || r.is_skipped })) guilt
@@ -202,7 +201,7 @@ pick_done t ring now f r skipped journal fences row new entities w there is fits
     ∙ (ap (λ b. let q : Left = (answer.Picked f b, picked_device d ring now f) in q) (sym guilt)
     ∙ (ap (λ j. let q : Left = (answer.Picked f skipped, record d { journal = j; rings = ring_changed d.rings ring (put_in f now) }) in q) (sym given)
     ∙ (ap (λ rs. let q : Left = (answer.Picked f skipped, record d { journal = journal.items; rings = rs }) in q) (sym rings)
-    ∙ ap (λ es. let q : Left = (answer.Picked f skipped, record d { journal = journal.items; rings = map ring_state_of (set t.rings.items ring new); entities = es }) in q) (sym left_queue.marks_same)))) in
+    ∙ ap (λ es. let q : Left = (answer.Picked f skipped, record d { journal = journal.items; rings = map ring_state_of rows; entities = es }) in q) (sym left_queue.marks_same)))) in
     let chosen = choice_is d ring f is in
     let same : chosen.0 ≡ r = cc (chosen.1.at, at) in
     let queued : is_queued r.phase ≡ true = ap (λ (x : JobRecord). is_queued x.phase) (sym same) ∙ chosen.1.queued in
@@ -211,19 +210,19 @@ pick_done t ring now f r skipped journal fences row new entities w there is fits
     subst (λ js. LoadsOf t.spec js t.loads) (sym (items ∙ changed_is t.journal.items f r (λ x. record x { phase = Scheduled; is_skipped = skipped || x.is_skipped }) at))
     (loads_set t.spec t.journal.items f r begun t.loads w.loads at (ap (λ b. let s : Standing = record { ring = r.ring; ended = b } in s) (sym (queued_goes_on r.phase queued))) refl) in
     let may = pick_may d ring f is fits in
-    let kept : IsKept d (state_of (picked_tables t ring journal fences new entities)) = subst (λ (q : Left). IsKept d q.1) takes (pick_kept d ring now w.steady there may) in (
+    let kept : IsKept d (state_of (picked_tables t journal fences rows entities)) = subst (λ (q : Left). IsKept d q.1) takes (pick_kept d ring now w.steady there may) in (
       may,
       takes,
-      whole_kept t (picked_tables t ring journal fences new entities) w
+      whole_kept t (picked_tables t journal fences rows entities) w
           kept
           tied refl left_queue.stand loads
-          (rows_changed t ring row new (set t.rings.items ring new) (state_of (picked_tables t ring journal fences new entities)) w kept.grows at_row refl
+          (rows_changed t ring row.0 new rows (state_of (picked_tables t journal fences rows entities)) w kept.grows row.1 rows_are
           (record {
-            passed = passed;
-            credits = credits_put t ring f r row new (state_of (picked_tables t ring journal fences new entities)) w at_row at kept.grows (ap (λ (s : RingState). s.pending) row_is) taken;
+            passed = refl;
+            credits = credits_put t ring f r row.0 new (state_of (picked_tables t journal fences rows entities)) w row.1 at kept.grows refl (ap (λ n. taken n row.0.credits) told);
           })
           (λ g x at_g scheduled apart. open_elsewhere t f g r x skipped journal.items items at queued at_g scheduled)) refl
-          (rooms_kept t (picked_tables t ring journal fences new entities) ring row new w.rooms refl refl at_row row_room room refl places left_queue.places),
+          (rooms_kept t (picked_tables t journal fences rows entities) w.rooms refl room refl places left_queue.places),
     )
 
 -- numbers as tests

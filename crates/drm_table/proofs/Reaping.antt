@@ -17,7 +17,7 @@ use Rattle.drm_entity.specs.Rows.{EntityRow, EntityRows, queue_at, row_changed, 
 use Rattle.drm_state.specs.declared.answer.Answer.TheVariants as answer
 use Rattle.drm_state.specs.declared.answer.Refusal.TheVariants.{Nothing, Waits}
 use Rattle.drm_state.specs.declared.journal.JobRecord.{JobRecord}
-use Rattle.drm_state.specs.declared.rows.RingJobs.{RingJobs}
+use Rattle.drm_ring.specs.RingRows.{pending_at}
 use Rattle.drm_state.specs.declared.loads.Loads.{Loads}
 use Rattle.drm_table.specs.declared.table.Table.{Table}
 use Rattle.drm_state.specs.State.{EntityState}
@@ -44,7 +44,7 @@ use Rattle.drm_state.proofs.Records.{stands_within, at_test, changed_is, at_inde
 use Rattle.drm_table.proofs.ArmDone.{few_entities, ring_of_entity_there}
 use Rattle.drm_state.proofs.Homes.{one_ring}
 use Rattle.drm_state.proofs.LoadsKept.{loads_ended}
-use Rattle.drm_table.proofs.TableFacts.{entity_row_there, row_found, row_pending, whole_kept}
+use Rattle.drm_table.proofs.TableFacts.{entity_row_there, pending_told, whole_kept}
 use Rattle.drm_table.proofs.Queues.{IsFront, front_is, marks_changed, stands_marked, stands_popped, IsPopped}
 use Rattle.drm_state.specs.Rows.{is_open}
 use Rattle.drm_table.proofs.RowsKept.{rows_same, open_set}
@@ -62,13 +62,12 @@ stopped_done t entity entities w there is =
       state,
       whole_kept t (record t { entities = entities }) w (subst (IsKept (state_of t)) (sym state) (cancel_kept (state_of t) entity w.steady)) w.fences refl
           (subst (QueuesStand t.journal.items) (sym is) (stands_marked t.journal.items t.entities entity row.0 stop row.1 refl w.queues)) w.loads
-          (rows_same t t.rings.items (state_of (record t { entities = entities })) w (subst (IsKept (state_of t)) (sym state) (cancel_kept (state_of t) entity w.steady)).grows refl (λ f r at scheduled. refl)) refl
+          (rows_same t t.rings (state_of (record t { entities = entities })) w (subst (IsKept (state_of t)) (sym state) (cancel_kept (state_of t) entity w.steady)).grows refl (λ f r at scheduled. refl)) refl
           (record {
             jobs = w.rooms.jobs;
             waits = w.rooms.waits;
             places = w.rooms.places;
             queues = ap (λ (e : EntityRows). e.places) is ∙ w.rooms.queues;
-            pending = w.rooms.pending;
           }),
     )
 
@@ -184,18 +183,18 @@ must_wait_is t entity number ring r deps w front is there ring_is at_deps =
     ∙ ap (λ b. list_all (λ (d : ℕ × ℕ). is_at js d.1 (λ r. has_ended r.phase)) deps && b) others))
 
 -- whether a reap is refused, by the dependencies that are kept for the front of the queue
-pub reap_refused : (t : Table) (entity number ring : ℕ) (r : JobRecord) (row : RingJobs) (deps : List (ℕ × ℕ)) (may : Bool) → IsWhole t → is_stopped (state_of t) entity ≡ true
-    → head_number t.journal.items entity ≡ Some number → slice_get t.journal.items number ≡ Some r → ring ≡ r.ring → row ≡ get_or t.rings.items ring row
-    → slice_get t.waits.lists number ≡ Some deps → may_end_after t.journal.items deps row.pending.items entity ≡ may
+pub reap_refused : (t : Table) (entity number ring : ℕ) (r : JobRecord) (numbers : List ℕ) (deps : List (ℕ × ℕ)) (may : Bool) → IsWhole t → is_stopped (state_of t) entity ≡ true
+    → head_number t.journal.items entity ≡ Some number → slice_get t.journal.items number ≡ Some r → ring ≡ r.ring → numbers ≡ pending_at t.rings ring
+    → slice_get t.waits.lists number ≡ Some deps → may_end_after t.journal.items deps numbers entity ≡ may
     → reap_refusal (state_of t) entity ≡ first_of (when (not may) Waits ∷ [])
-reap_refused t entity number ring r row deps may w stopped is r_at ring_of_r row_is deps_is may_is =
+reap_refused t entity number ring r numbers deps may w stopped is r_at ring_of_r numbers_are deps_is may_is =
     let js = t.journal.items in
     let front = front_is js entity number is in
     let same : r ≡ front.0 = cc (r_at, front.1.at) in
     let ring_is : ring ≡ front.0.ring = ring_of_r ∙ ap (λ (z : JobRecord). z.ring) same in
     let there : ring < length t.spec.rings = subst (λ n. n < length t.spec.rings) (sym ring_of_r) (job_ring_there t number r w r_at) in
     let waits = must_wait_is t entity number ring front.0 deps w front.1 is there ring_is deps_is in
-    let pending = row_pending t ring row (row_found t ring row w there row_is) in
+    let pending : pending_of (state_of t) ring ≡ numbers = sym (numbers_are ∙ pending_told t.rings ring) in
     ap (λ b. first_of (when (not b || is_none (first (queue_of entity js))) Nothing
     ∷ option_map_or (λ n. when (must_still_wait js n.0 n.1) Waits) (first (queue_of entity js)) None ∷ [])) stopped
     ∙ (ap (λ o. first_of (when (is_none o) Nothing ∷ option_map_or (λ n. when (must_still_wait js n.0 n.1) Waits) o None ∷ [])) front.1.first
@@ -254,7 +253,7 @@ reap_done t entity number journal fences entities loads w is may items tied room
     ∙ ap (λ es. let left : Left = (answer.Reaped number, record d { journal = journal.items; entities = es }) in left) (sym left_queue.marks_same)) in (
       ends,
       whole_kept t u w (subst (λ (q : Left). IsKept d q.1) ends (reap_kept d entity w.steady may)) tied refl left_queue.stand stand
-          (rows_same t t.rings.items (state_of u) w (subst (λ (q : Left). IsKept d q.1) ends (reap_kept d entity w.steady may)).grows refl (λ f r at scheduled.
+          (rows_same t t.rings (state_of u) w (subst (λ (q : Left). IsKept d q.1) ends (reap_kept d entity w.steady may)).grows refl (λ f r at scheduled.
           ap (λ js. is_open js f) (items ∙ changed_is t.journal.items number front.0 (λ r. record r { phase = Ended outcome.Stopped }) front.1.at)
           ∙ open_set t.journal.items number front.0 (record front.0 { phase = Ended outcome.Stopped }) front.1.at refl f)) refl
           (record {
@@ -262,6 +261,5 @@ reap_done t entity number journal fences entities loads w is may items tied room
             waits = w.rooms.waits;
             places = places ∙ w.rooms.places;
             queues = left_queue.places ∙ w.rooms.queues;
-            pending = w.rooms.pending;
           }),
     )

@@ -1,5 +1,5 @@
 -- A step that ran its packet is the step of its definition, and keeps the tables whole.
-use Rattle.std.proofs.Common.{◌≡◌, ℕ, ◌+◌, ◌<◌, false, length, map, get_or, set, Some, refl, ap, subst, ◌∙◌, slice_get, true, not, sym, inl, inr, arith, ◌≤◌}
+use Rattle.std.proofs.Common.{◌≡◌, ℕ, ◌+◌, ◌<◌, false, List, length, map, get_or, set, Some, refl, ap, subst, ◌∙◌, slice_get, true, not, sym, inl, inr, arith, ◌≤◌}
 use Rattle.std.specs.Vec.{with_item}
 use Rattle.drm_buffer.specs.Memory.{sizes_of}
 use Rattle.drm_buffer.specs.Stored.{Stored}
@@ -17,37 +17,38 @@ use Rattle.drm_state.proofs.Records.{at_index}
 use Rattle.drm_state.specs.Events.{IsKept}
 use Rattle.drm_state.proofs.DeviceSteps.{step_kept}
 use Rattle.drm_state.proofs.Alike.{fence_tie}
-use Rattle.drm_table.proofs.TableFacts.{IsRunning, whole_kept, rooms_kept}
+use Rattle.drm_table.proofs.TableFacts.{IsRunning, row_found, row_changed_is, whole_kept, rooms_kept}
 use Rattle.drm_state.proofs.LoadsKept.{loads_set, map_set_same}
 use Rattle.drm_state.proofs.CallsAre.{Left, step_runs}
 use Rattle.drm_table.proofs.Queues.{stands_set}
 use Rattle.std.proofs.lemmas.Option.{slice_get_within}
-use Rattle.drm_state.specs.declared.rows.RingJobs.{RingJobs}
-use Rattle.drm_state.specs.Rows.{is_open, passed_of, RowStands, ring_state_of}
-use Rattle.drm_table.proofs.RowsKept.{done_set, rows_changed, passed_row, credits_alike}
+use Rattle.drm_ring.specs.RingRows.{RingRow, pending_at, passed_at, ring_row_changed}
+use Rattle.drm_state.specs.Rows.{is_open, passed_of, passed_row, ring_state_of}
+use Rattle.drm_table.proofs.RowsKept.{done_set, passes_at_row, rows_changed, credits_alike}
 use Rattle.drm_state.proofs.Passing.{passed_grows}
 use Rattle.std.proofs.lemmas.Bool.{or_cases, or_left, or_right, leb-true, le-leb}
 use Rattle.std.specs.Prelude.{nat_le}
 use Rattle.std.specs.Option.{option_map_or}
 use Rattle.drm_state.specs.Journal.{is_complete}
 use Rattle.drm_state.proofs.Pairs.{get_set_other}
-use Rattle.std.specs.VecDeque.{deque_capacity}
 
 -- the tables after the step
-abbrev pub ran_tables : Table → ℕ → ℕ → JobRecord → ℕ → Stored → Fences → RingJobs → Table
-ran_tables t ring f x ran memory fences row =
-    record t { memory = memory; journal = with_item t.journal f (record x { ran = ran + 1 }); fences = fences; rings = with_item t.rings ring row }
+abbrev pub ran_tables : Table → ℕ → JobRecord → ℕ → Stored → Fences → List RingRow → Table
+ran_tables t f x ran memory fences rings =
+    record t { memory = memory; journal = with_item t.journal f (record x { ran = ran + 1 }); fences = fences; rings = rings }
 
 -- the ring has passed over what it had before, when its job has run one packet more
-pub ran_passes : (t : Table) (ring f : ℕ) (x y : JobRecord) (row : RingJobs) → IsWhole t → slice_get t.journal.items f ≡ Some y → x ≡ get_or t.journal.items f x → slice_get t.rings.items ring ≡ Some row
-    → row.passed ≤ passed_of (is_open (set t.journal.items f (record x { ran = y.ran + 1 }))) row.pending.items
-ran_passes t ring f x y row w at x_is at_row =
+pub ran_passes : (t : Table) (ring f : ℕ) (x y : JobRecord) → IsWhole t → ring < length t.spec.rings → slice_get t.journal.items f ≡ Some y → x ≡ get_or t.journal.items f x
+    → passed_at t.rings ring ≤ passed_of (is_open (set t.journal.items f (record x { ran = y.ran + 1 }))) (pending_at t.rings ring)
+ran_passes t ring f x y w there at x_is =
+    let row = row_found t ring w there in
     let at_x = at_index t.journal.items f x x_is (slice_get_within t.journal.items f y at) in
     let same : y ≡ x = cc (at_x, at) in
-    let is = (w.rows ring row at_row).passed in
-    let more = passed_grows (is_open t.journal.items) (is_open (set t.journal.items f (record y { ran = y.ran + 1 }))) row.pending.items
+    let is = (w.rows ring row.0 row.1).passed in
+    let more = passed_grows (is_open t.journal.items) (is_open (set t.journal.items f (record y { ran = y.ran + 1 }))) row.0.state.pending
     (λ k g at_k. done_set t.journal.items f y (record y { ran = y.ran + 1 }) at stays g) in
-    subst (λ z. row.passed ≤ passed_of (is_open (set t.journal.items f (record z { ran = y.ran + 1 }))) row.pending.items) same (omega (arith, is, more))
+    passes_at_row t.rings ring row.0 (is_open (set t.journal.items f (record x { ran = y.ran + 1 }))) row.1
+    (subst (λ z. row.0.passed ≤ passed_of (is_open (set t.journal.items f (record z { ran = y.ran + 1 }))) row.0.state.pending) same (omega (arith, is, more)))
   where
     stays : is_complete y ≡ true → is_complete (record y { ran = y.ran + 1 }) ≡ true
     stays done =
@@ -58,37 +59,38 @@ ran_passes t ring f x y row w at x_is at_row =
               or_right y.is_skipped (nat_le (length y.job.packets) (y.ran + 1)) (le-leb (length y.job.packets) (y.ran + 1) (omega (arith, le)))
         ]
 
-pub step_done : (t : Table) (ring f : ℕ) (x y : JobRecord) (p : Packet) (memory : Stored) (fences : Fences) (row new : RingJobs) → IsWhole t → ring < length t.spec.rings
+pub step_done : (t : Table) (ring f : ℕ) (x y : JobRecord) (p : Packet) (memory : Stored) (fences : Fences) (rows : List RingRow) → IsWhole t → ring < length t.spec.rings
     → current_of (state_of t) ring ≡ Some f → IsRunning t ring f y → x ≡ get_or t.journal.items f x → slice_get y.job.packets y.ran ≡ Some p → must_stall p y.karma.resets ≡ false
     → memory.bytes ≡ effect p t.memory.bytes → sizes_of memory.bytes ≡ sizes_of t.memory.bytes → fences.list ≡ with_one_packet_more t.fences.list f → fences.places ≡ t.fences.places
-    → slice_get t.rings.items ring ≡ Some row → new ≡ passed_row (set t.journal.items f (record x { ran = y.ran + 1 })) row
-    → (step_outcome (state_of t) ring ≡ (answer.Ran f y.ran, state_of (ran_tables t ring f x y.ran memory fences new))) × IsWhole (ran_tables t ring f x y.ran memory fences new)
-step_done t ring f x y p memory fences row new w there is run x_is next going ran sizes list places at_row new_is =
+    → rows ≡ ring_row_changed t.rings ring (passed_row (set t.journal.items f (record x { ran = y.ran + 1 })))
+    → (step_outcome (state_of t) ring ≡ (answer.Ran f y.ran, state_of (ran_tables t f x y.ran memory fences rows))) × IsWhole (ran_tables t f x y.ran memory fences rows)
+step_done t ring f x y p memory fences rows w there is run x_is next going ran sizes list places passed =
+    let row = row_found t ring w there in
     let at_x = at_index t.journal.items f x x_is (slice_get_within t.journal.items f y run.current.at) in
     let same : y ≡ x = cc (at_x, run.current.at) in
     let left_by : JobRecord → Left = λ z. (answer.Ran f y.ran, record (state_of t) { memory = memory.bytes; journal = set t.journal.items f (record z { ran = y.ran + 1 }) }) in
     let after = set t.journal.items f (record x { ran = y.ran + 1 }) in
-    let rings : map ring_state_of (set t.rings.items ring new) ≡ map ring_state_of t.rings.items =
-    map_set_same ring_state_of t.rings.items ring row new at_row (ap ring_state_of new_is) in
-    let outcome : step_outcome (state_of t) ring ≡ (answer.Ran f y.ran, state_of (ran_tables t ring f x y.ran memory fences new)) =
+    let new : RingRow = passed_row after row.0 in
+    let rows_are : rows ≡ set t.rings ring new = passed ∙ row_changed_is t.rings ring row.0 (passed_row after) row.1 in
+    let rings : map ring_state_of rows ≡ map ring_state_of t.rings = ap (map ring_state_of) rows_are ∙ map_set_same ring_state_of t.rings ring row.0 new row.1 refl in
+    let outcome : step_outcome (state_of t) ring ≡ (answer.Ran f y.ran, state_of (ran_tables t f x y.ran memory fences rows)) =
     subst (λ z. step_outcome (state_of t) ring ≡ left_by z) same (step_runs (state_of t) ring f y p memory.bytes is run.current.at next going ran)
     ∙ ap (λ rs. let q : Left = (answer.Ran f y.ran, record (state_of t) { memory = memory.bytes; journal = after; rings = rs }) in q) (sym rings) in
     let tie : fences.list ≡ map fence_state_of (set t.journal.items f (record x { ran = y.ran + 1 })) =
     list ∙ fence_tie t.journal.items t.fences.list f y (record x { ran = y.ran + 1 }) (λ s. record s { ran = s.ran + 1 }) w.fences run.current.at
     (ap (λ (z : JobRecord). fence_state_of (record z { ran = y.ran + 1 })) same) in
-    let kept : IsKept (state_of t) (state_of (ran_tables t ring f x y.ran memory fences new)) =
+    let kept : IsKept (state_of t) (state_of (ran_tables t f x y.ran memory fences rows)) =
     subst (λ (q : Left). IsKept (state_of t) q.1) outcome (step_kept (state_of t) ring w.steady there) in (
       outcome,
-      whole_kept t (ran_tables t ring f x y.ran memory fences new) w kept
+      whole_kept t (ran_tables t f x y.ran memory fences rows) w kept
           tie refl (stands_set t.journal.items f x (record x { ran = y.ran + 1 }) t.entities at_x refl refl w.queues)
           (loads_set t.spec t.journal.items f x (record x { ran = y.ran + 1 }) t.loads w.loads at_x refl refl)
-          (rows_changed t ring row new (set t.rings.items ring new) (state_of (ran_tables t ring f x y.ran memory fences new)) w kept.grows at_row refl
-          (subst (RowStands (state_of (ran_tables t ring f x y.ran memory fences new)) ring) (sym new_is)
-          (record { passed = refl; credits = credits_alike t ring row (state_of (ran_tables t ring f x y.ran memory fences new)) w at_row kept.grows }))
+          (rows_changed t ring row.0 new rows (state_of (ran_tables t f x y.ran memory fences rows)) w kept.grows row.1 rows_are
+          (record { passed = refl; credits = credits_alike t ring row.0 (state_of (ran_tables t f x y.ran memory fences rows)) w row.1 kept.grows })
           (λ g r at_g scheduled apart.
           ap (λ o. option_map_or (λ (z : JobRecord). not (is_complete z)) o false)
           (get_set_other t.journal.items f g (record x { ran = y.ran + 1 }) (λ g_is. apart (same_ring g r at_g g_is))))) sizes
-          (rooms_kept t (ran_tables t ring f x y.ran memory fences new) ring row new w.rooms refl refl at_row (ap (λ (z : RingJobs). deque_capacity z.pending) new_is) refl refl places refl),
+          (rooms_kept t (ran_tables t f x y.ran memory fences rows) w.rooms refl refl refl places refl),
     )
   where
     same_ring : (g : ℕ) (r : JobRecord) → slice_get t.journal.items g ≡ Some r → g ≡ f → r.ring ≡ ring

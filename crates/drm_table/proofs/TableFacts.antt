@@ -1,5 +1,5 @@
 -- What is known of the jobs in a device's tables, and how the tables stay whole when they change.
-use Rattle.std.proofs.Common.{◌≡◌, ℕ, ◌<◌, ◌≤◌, Bool, true, false, not, ◌||◌, List, [], length, get_or, set, map, Some, refl, sym, ap, subst, ◌∙◌, inl, inr, arith, slice_get}
+use Rattle.std.proofs.Common.{◌≡◌, ℕ, zero, suc, ◌<◌, ◌≤◌, Bool, true, false, not, ◌||◌, List, [], ◌∷◌, length, get_or, set, map, Some, refl, sym, ap, subst, ◌∙◌, arith, set-set, slice_get}
 use Rattle.std.specs.Prelude.{IsTrue, nat_le, nat_lt, vec_capacity, vec_len, Contains, Vec}
 use Rattle.std.specs.Option.{option_map_or}
 use Rattle.std.proofs.lemmas.Bool.{leb-false, ltb-false, ltb-true}
@@ -7,7 +7,6 @@ use Rattle.std.proofs.lemmas.Option.{slice_get_within, slice_get-get_or}
 use Rattle.std.proofs.lemmas.List.{map-set, length-map}
 use Rattle.std.proofs.lemmas.List.Elements.{All-contains, All-weaker}
 use Rattle.drm_types.specs.declared.spec.DeviceSpec.{DeviceSpec}
-use Rattle.drm_types.specs.declared.spec.RingSpec.{RingSpec}
 use Rattle.drm_types.specs.Firsts.{when}
 use Rattle.drm_types.specs.Limits.{spec_fault}
 use Rattle.drm_buffer.specs.Memory.{sizes_of}
@@ -24,9 +23,9 @@ use Rattle.drm_fence.specs.declared.phase.Phase.TheVariants.{Queued, Scheduled, 
 use Rattle.drm_fence.specs.Phases.{has_ended}
 use Rattle.drm_state.specs.declared.journal.JobRecord.{JobRecord}
 use Rattle.drm_table.specs.declared.table.Table.{Table}
-use Rattle.drm_state.specs.declared.rows.RingJobs.{RingJobs}
+use Rattle.drm_ring.specs.RingRows.{RingRow, pending_at, ring_row_changed}
 use Rattle.drm_state.specs.State.{RingState, DeviceState}
-use Rattle.drm_state.specs.Ring.{current_of, pending_of, credit_limit_of, ring_changed}
+use Rattle.drm_state.specs.Ring.{current_of, pending_of, ring_changed}
 use Rattle.drm_state.specs.Grows.{Grows, RecordGrows, GoesOn, EachInPlace}
 use Rattle.drm_state.specs.Order.{comes_after}
 use Rattle.drm_state.specs.Waits.{DepsStand, IsDependency}
@@ -35,14 +34,13 @@ use Rattle.drm_state.specs.Loads.{LoadsOf}
 use Rattle.drm_state.specs.Rows.{RowsStand, ring_state_of}
 use Rattle.drm_state.specs.Records.{fence_state_of}
 use Rattle.drm_table.specs.Tables.{state_of, IsWhole, HasRooms}
-use Rattle.drm_state.proofs.Records.{to_map, at_index}
-use Rattle.drm_state.proofs.Pairs.{get_set_cases}
+use Rattle.drm_state.proofs.Records.{to_map, at_index, stands_within}
+use Rattle.drm_state.proofs.Pairs.{get_set_same}
 use Rattle.drm_state.proofs.RingChange.{ring_changed_is}
 use Rattle.drm_state.proofs.Pending.{contains_at}
 use Rattle.drm_state.proofs.RanLawful.{IsCurrent, current_is}
 use Rattle.drm_state.specs.Events.{IsKept}
 use Rattle.drm_state.proofs.DeviceSteps.{not_when}
-use Rattle.std.specs.VecDeque.{deque_capacity}
 
 -- neither part of a choice that fails holds
 pub neither : (a b : Bool) → (a || b) ≡ false → (a ≡ false) × (b ≡ false)
@@ -50,9 +48,9 @@ neither true b is = absurd (let never : true ≡ false = is in cc (never))
 neither false b is = (refl, is)
 
 -- a ring of the description has a row
-pub row_there : (t : Table) (ring : ℕ) → IsWhole t → ring < length t.spec.rings → ring < length t.rings.items
+pub row_there : (t : Table) (ring : ℕ) → IsWhole t → ring < length t.spec.rings → ring < length t.rings
 row_there t ring w there =
-    let count : length t.rings.items ≡ length t.spec.rings = sym (length-map t.rings.items ring_state_of) ∙ w.steady.lawful.ring_count in
+    let count : length t.rings ≡ length t.spec.rings = sym (length-map t.rings ring_state_of) ∙ w.steady.lawful.ring_count in
     omega (arith, there, count)
 
 -- so has an entity
@@ -153,7 +151,7 @@ waits_kept old new waits stand grows count = record {
 
 -- tables stay whole when their device is kept and their parts go on with it
 pub whole_kept : (t u : Table) → IsWhole t → IsKept (state_of t) (state_of u) → u.fences.list ≡ map fence_state_of u.journal.items → u.waits.lists ≡ t.waits.lists
-    → QueuesStand u.journal.items u.entities → LoadsOf u.spec u.journal.items u.loads → RowsStand (state_of u) u.rings.items → sizes_of u.memory.bytes ≡ sizes_of t.memory.bytes → HasRooms u → IsWhole u
+    → QueuesStand u.journal.items u.entities → LoadsOf u.spec u.journal.items u.loads → RowsStand (state_of u) u.rings → sizes_of u.memory.bytes ≡ sizes_of t.memory.bytes → HasRooms u → IsWhole u
 whole_kept t u w kept fences waits queues loads rows sizes rooms =
     let spec : u.spec ≡ t.spec = kept.grows.spec in
     record {
@@ -173,40 +171,52 @@ whole_kept t u w kept fences waits queues loads rows sizes rooms =
 pub vec_holds : {X Z : Type 0} (v : Vec X Z) (i : ℕ) (x : X) → slice_get v.items i ≡ Some x → i < vec_len v
 vec_holds v i x at = subst (λ n. i < n) (sym v.ok.0) (slice_get_within v.items i x at)
 
+-- the rows of which one changed
+pub row_changed_is : (rows : List RingRow) (ring : ℕ) (row : RingRow) (change : RingRow → RingRow) → slice_get rows ring ≡ Some row
+    → ring_row_changed rows ring change ≡ set rows ring (change row)
+row_changed_is rows ring row change at = ap (λ o. option_map_or (λ (r : RingRow). set rows ring (change r)) o rows) at
+
+-- what stands there then
+pub row_after : (rows now : List RingRow) (ring : ℕ) (row : RingRow) (change : RingRow → RingRow) → slice_get rows ring ≡ Some row → now ≡ ring_row_changed rows ring change
+    → slice_get now ring ≡ Some (change row)
+row_after rows now ring row change at changed =
+    ap (λ rs. slice_get rs ring) (changed ∙ row_changed_is rows ring row change at) ∙ get_set_same rows ring row (change row) at
+
+-- and after a second change
+pub row_changed_twice : (rows now last : List RingRow) (ring : ℕ) (row : RingRow) (first second : RingRow → RingRow) → slice_get rows ring ≡ Some row
+    → now ≡ ring_row_changed rows ring first → last ≡ ring_row_changed now ring second → last ≡ set rows ring (second (first row))
+row_changed_twice rows now last ring row first second at once twice =
+    let now_is = once ∙ row_changed_is rows ring row first at in
+    twice ∙ (row_changed_is now ring (first row) second (row_after rows now ring row first at once)
+    ∙ (ap (λ rs. set rs ring (second (first row))) now_is ∙ set-set rows ring (first row) (second (first row))))
+
 -- the ring states after one row changed
-pub rings_tie : (rows : List RingJobs) (ring : ℕ) (row new : RingJobs) (change : RingState → RingState) → slice_get rows ring ≡ Some row
+pub rings_tie : (rows : List RingRow) (ring : ℕ) (row new : RingRow) (change : RingState → RingState) → slice_get rows ring ≡ Some row
     → ring_state_of new ≡ change (ring_state_of row) → map ring_state_of (set rows ring new) ≡ ring_changed (map ring_state_of rows) ring change
 rings_tie rows ring row new change at is =
     map-set ring_state_of rows ring new ∙ (ap (set (map ring_state_of rows) ring) is
     ∙ sym (ring_changed_is (map ring_state_of rows) ring (ring_state_of row) change (to_map ring_state_of rows ring row at)))
 
 -- the pending jobs of a ring that is there
-pub row_pending : (t : Table) (ring : ℕ) (row : RingJobs) → slice_get t.rings.items ring ≡ Some row → pending_of (state_of t) ring ≡ row.pending.items
-row_pending t ring row at = ap (λ o. option_map_or (λ (r : RingState). r.pending) o []) (to_map ring_state_of t.rings.items ring row at)
+pub row_pending : (t : Table) (ring : ℕ) (row : RingRow) → slice_get t.rings ring ≡ Some row → pending_of (state_of t) ring ≡ row.state.pending
+row_pending t ring row at = ap (λ o. option_map_or (λ (r : RingState). r.pending) o []) (to_map ring_state_of t.rings ring row at)
 
--- an index finds the row of a ring
-pub row_found : (t : Table) (ring : ℕ) (row : RingJobs) → IsWhole t → ring < length t.spec.rings → row ≡ get_or t.rings.items ring row → slice_get t.rings.items ring ≡ Some row
-row_found t ring row w there is = at_index t.rings.items ring row is (row_there t ring w there)
+-- those of any ring
+pub pending_told : (rows : List RingRow) (ring : ℕ) → pending_at rows ring ≡ option_map_or (λ (s : RingState). s.pending) (slice_get (map ring_state_of rows) ring) []
+pending_told [] ring = refl
+pending_told (row ∷ rows) zero = refl
+pending_told (row ∷ rows) (suc ring) = pending_told rows ring
 
--- room stays where one row changed and kept its own
-pub rooms_kept : (t u : Table) (ring : ℕ) (row new : RingJobs) → HasRooms t → u.spec ≡ t.spec → u.rings.items ≡ set t.rings.items ring new → slice_get t.rings.items ring ≡ Some row
-    → deque_capacity new.pending ≡ deque_capacity row.pending → vec_capacity u.journal ≡ vec_capacity t.journal → u.waits.places ≡ t.waits.places
+-- the row of a ring
+pub row_found : (t : Table) (ring : ℕ) → IsWhole t → ring < length t.spec.rings → (row : RingRow) × (slice_get t.rings ring ≡ Some row)
+row_found t ring w there = stands_within t.rings ring (row_there t ring w there)
+
+-- room stays where the parts kept theirs
+pub rooms_kept : (t u : Table) → HasRooms t → u.spec ≡ t.spec → vec_capacity u.journal ≡ vec_capacity t.journal → u.waits.places ≡ t.waits.places
     → u.fences.places ≡ t.fences.places → u.entities.places ≡ t.entities.places → HasRooms u
-rooms_kept t u ring row new rooms spec rings at room jobs waits places queues = record {
+rooms_kept t u rooms spec jobs waits places queues = record {
   jobs = subst (λ n. u.spec.max_jobs ≤ n) (sym jobs) (subst (λ (s : DeviceSpec). s.max_jobs ≤ vec_capacity t.journal) (sym spec) rooms.jobs);
   waits = subst (λ n. u.spec.max_jobs ≤ n) (sym waits) (subst (λ (s : DeviceSpec). s.max_jobs ≤ t.waits.places) (sym spec) rooms.waits);
   places = places ∙ (rooms.places ∙ ap (λ (s : DeviceSpec). s.max_jobs) (sym spec));
   queues = queues ∙ (rooms.queues ∙ ap (λ (s : DeviceSpec). s.max_jobs) (sym spec));
-  pending = λ k r at_k.
-      elim (get_set_cases t.rings.items ring k row new r at (ap (λ rs. slice_get rs k) (sym rings) ∙ at_k)) [
-        | inl here ↦
-            let old : credit_limit_of (state_of t) ring ≤ deque_capacity row.pending = rooms.pending ring row at in
-            let same : deque_capacity r.pending ≡ deque_capacity row.pending = ap (λ (x : RingJobs). deque_capacity x.pending) here.1 ∙ room in
-            let limit : credit_limit_of (state_of u) k ≡ credit_limit_of (state_of t) ring = limit_kept k ∙ ap (credit_limit_of (state_of t)) here.0 in
-            omega (arith, old, same, limit)
-        | inr there ↦ let old = rooms.pending k r there.1 in let limit = limit_kept k in omega (arith, old, limit)
-      ];
 }
-  where
-    limit_kept : (k : ℕ) → credit_limit_of (state_of u) k ≡ credit_limit_of (state_of t) k
-    limit_kept k = ap (λ (s : DeviceSpec). option_map_or (λ (r : RingSpec). r.credit_limit) (slice_get s.rings k) 0) spec

@@ -5,6 +5,7 @@ ghost use Rattle.drm_table.specs.Tables.{IsWhole};
 
 use crate::table::Table;
 use drm_buffer::Buffer;
+use drm_state::pass_over;
 use drm_types::{FenceId, RingId};
 
 impl Table {
@@ -41,6 +42,6 @@ impl Table {
         packet.put(&mut self.memory, write, read);
         self.journal[number as usize].ran = count + 1;
         self.fences.count_packet(number);
-        self.rings[ring as usize].pass_over(&self.journal);
+        pass_over(&mut self.rings, ring, &self.journal);
     }
 }

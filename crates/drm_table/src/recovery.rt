@@ -8,7 +8,7 @@ ghost use Rattle.drm_table.specs.Tables.{state_of, IsWhole};
 
 use crate::table::Table;
 use drm_reset::{HeadView, Verdict, judge};
-use drm_state::{Expired, blame, condemn, is_complete};
+use drm_state::{Expired, blame, condemn, is_complete, pass_over};
 use drm_types::{EntityId, FenceId, Moment, Priority, RingId};
 
 impl Table {
@@ -23,12 +23,12 @@ impl Table {
     /// What a timeout finds of this job as the head of the ring.
     fn judge_head(&self, ring: RingId, number: FenceId, now: Moment) -> Verdict
         requires spec { ring < length self.now.spec.rings }
-        requires there { ring < length self.now.rings.items }
+        requires there { ring < length self.now.rings }
         requires job { number < length self.now.journal.items }
         ensures { result ≡ verdict_at (state_of self.now) ring number now }
     {
         let head = HeadView {
-            since: self.rings[ring as usize].since,
+            since: self.rings.since(ring),
             is_complete: is_complete(&self.journal[number as usize]),
         };
         judge(Some(head), self.ring_spec(ring).timeout, now)
@@ -49,13 +49,13 @@ impl Table {
         let priority = self.priority_of(entity);
         let limit = self.ring_spec(ring).hang_limit;
         let is_guilty = blame(&mut self.journal, number, priority, limit);
-        let row = &mut self.rings[ring as usize];
-        row.since = now;
+        self.rings.set_since(ring, now);
         if !is_guilty {
             return Expired::Resumed;
         }
-        condemn(&mut self.journal, &row.pending, entity);
-        row.pass_over(&self.journal);
+        let pending = self.rings.pending(ring);
+        condemn(&mut self.journal, pending, entity);
+        pass_over(&mut self.rings, ring, &self.journal);
         self.entities.set_guilty(entity);
         Expired::Guilty { entity }
     }

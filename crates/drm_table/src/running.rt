@@ -9,7 +9,7 @@ ghost use Rattle.drm_state.specs.Errors.{refusal_of_finish, refusal_of_pick, ref
 use crate::table::Table;
 use drm_state::{
     FinishError, Finished, PickError, Picked, StepError, Stepped, end_job, final_outcome,
-    must_stall, schedule_job,
+    must_stall, pass_over, schedule_job,
 };
 use drm_types::{FenceId, Moment, RingId};
 
@@ -44,9 +44,8 @@ impl Table {
         let skipped = self.entities.is_guilty(entity);
         schedule_job(&mut self.journal, &mut self.fences, number, skipped);
         self.entities.pop(entity);
-        let row = &mut self.rings[ring as usize];
-        row.put(number, credits, now);
-        row.pass_over(&self.journal);
+        self.rings.put(ring, number, credits, now);
+        pass_over(&mut self.rings, ring, &self.journal);
         Ok(Picked {
             fence: number,
             skipped,
@@ -76,7 +75,7 @@ impl Table {
         packet.run_in(&mut self.memory);
         self.journal[number as usize].ran = count + 1;
         self.fences.count_packet(number);
-        self.rings[ring as usize].pass_over(&self.journal);
+        pass_over(&mut self.rings, ring, &self.journal);
         Ok(Stepped::Ran {
             fence: number,
             packet: count,
@@ -101,7 +100,7 @@ impl Table {
         };
         let credits = self.journal[number as usize].job.credits();
         end_job(&mut self.journal, &mut self.fences, number, outcome);
-        self.rings[ring as usize].pop(credits, now);
+        self.rings.pop(ring, credits, now);
         self.loads.end(ring);
         Ok(Finished {
             fence: number,

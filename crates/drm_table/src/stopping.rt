@@ -54,12 +54,8 @@ impl Table {
         };
         let ring = self.journal[number as usize].ring;
         let deps = self.waits.of(number as usize);
-        if !may_end(
-            &self.journal,
-            deps,
-            &self.rings[ring as usize].pending,
-            entity,
-        ) {
+        let pending = self.rings.pending(ring);
+        if !may_end(&self.journal, deps, pending, entity) {
             return Err(ReapError::Waits);
         }
         end_job(

@@ -6,7 +6,8 @@ use drm_buffer::Store;
 use drm_entity::Entities;
 use drm_fence::Timeline;
 use drm_resv::StoredDeps;
-use drm_state::{JobRecord, Loads, RingJobs, counted_credits};
+use drm_ring::Rings;
+use drm_state::{JobRecord, Loads, counted_credits};
 use drm_types::{DeviceSpec, FenceId, RingId, RingSpec};
 
 /// The tables of a device. Its calls are proved over these plain fields, and `Device` keeps them together.
@@ -18,7 +19,8 @@ pub struct Table {
     /// The fences that each job waits for.
     pub waits: StoredDeps,
     pub fences: Timeline,
-    pub rings: Vec<RingJobs>,
+    /// The pending jobs of each ring.
+    pub rings: Rings,
     /// The queued jobs of each entity, and its marks.
     pub entities: Entities,
     pub loads: Loads,
@@ -38,16 +40,15 @@ impl Table {
         requires whole { IsWhole self.now }
         ensures { result ≡ current_of (state_of self.now) ring }
     {
-        let row = &self.rings[ring as usize];
-        row.pending.get(row.passed).copied()
+        self.rings.current(ring)
     }
 
     /// The first pending job of the ring.
     pub(crate) fn head(&self, ring: RingId) -> Option<FenceId>
-        requires { ring < length self.now.rings.items }
+        requires { ring < length self.now.rings }
         ensures { result ≡ head_of (state_of self.now) ring }
     {
-        self.rings[ring as usize].pending.front().copied()
+        self.rings.head(ring)
     }
 
     /// The credits that the ring has left (`drm_sched_available_credits`).
@@ -56,7 +57,7 @@ impl Table {
         requires whole { IsWhole self.now }
         ensures { result ≡ free_credits (state_of self.now) ring }
     {
-        self.rings[ring as usize].credits.free() as u32
+        self.rings.credits(ring).free() as u32
     }
 
     /// How many credits the job counts with on the ring.

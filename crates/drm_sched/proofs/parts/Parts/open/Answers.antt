@@ -10,13 +10,13 @@ pub returns-clause-opened : goal.returns-clause-opened
 returns-clause-opened c =
     let d : Parts = record { table = c.in_ok-table.table; marks = c.in_ok-marks.marks; heads = c.in_ok-heads.heads } in
     view_read c.in_ok-new.ensures.ok
-    (blank_marks d (c.in_ok-marks.ensures ∙ ap (λ n. replicate n None) (c.len.ensures ∙ c.in_ok-table.table.rings.ok.0)) ∙ ap unmarked c.in_ok-table.ensures.opened)
+    (blank_marks d (c.in_ok-marks.ensures ∙ ap (λ n. replicate n None) c.len.ensures) ∙ ap unmarked c.in_ok-table.ensures.opened)
 
 pub returns-clause-whole : goal.returns-clause-whole
 returns-clause-whole c =
     let d : Parts = record { table = c.in_ok-table.table; marks = c.in_ok-marks.marks; heads = c.in_ok-heads.heads } in
     whole_read c.in_ok-new.ensures.ok
-    (blank_marked d (c.in_ok-marks.ensures ∙ ap (λ n. replicate n None) (c.len.ensures ∙ c.in_ok-table.table.rings.ok.0)) c.in_ok-table.ensures.whole c.in_ok-table.ensures.inside)
+    (blank_marked d (c.in_ok-marks.ensures ∙ ap (λ n. replicate n None) c.len.ensures) c.in_ok-table.ensures.whole c.in_ok-table.ensures.inside)
 
 pub returns-clause-heads : goal.returns-clause-heads
 returns-clause-heads c =

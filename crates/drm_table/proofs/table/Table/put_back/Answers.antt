@@ -9,12 +9,12 @@ use Rattle.drm_packet.specs.Touches.{touches}
 use Rattle.drm_packet.specs.Parts.{target_of, part_effect, other_bytes}
 use Rattle.drm_state.specs.declared.journal.JobRecord.{JobRecord}
 use Rattle.drm_state.proofs.Records.{at_index}
-use Rattle.drm_table.proofs.TableFacts.{running_found, next_in_range, few_packets, vec_holds, row_found}
+use Rattle.drm_table.proofs.TableFacts.{running_found, next_in_range, few_packets, vec_holds, row_there}
 use Rattle.drm_table.proofs.StepDone.{step_done, ran_passes}
 use Rattle.drm_table.proofs.ComingBack.{packet_back, runs_back, back_state}
 use Rattle.drm_table.proofs.table.Table.put_back.Goals as goal
-use Rattle.drm_state.specs.Rows.{is_open, passed_of, ring_state_of}
-use Rattle.drm_table.proofs.RowsKept.{passed_row}
+use Rattle.drm_ring.specs.RingRows.{pending_at, passed_at, ring_row_changed}
+use Rattle.drm_state.specs.Rows.{is_open, passed_of, passed_row}
 
 pub put-requires-clause-out : goal.put-requires-clause-out
 put-requires-clause-out c b touched =
@@ -64,16 +64,17 @@ count_packet-requires-clause-fits c =
     let fits : c.index-record.result.now.ran + 1 < 4294967296 = omega (arith, few, left) in
     subst (λ o. IfSome (option_map (λ x. x.ran) o) (λ n. n + 1 < 4294967296)) (sym run.fence) fits
 
-pub pass_over-requires : goal.pass_over-requires
-pass_over-requires c =
+pub pass_over-requires-clause-there : goal.pass_over-requires-clause-there
+pass_over-requires-clause-there c = row_there c.args.self.now c.args.ring c.requires.whole c.requires.back.there
+
+pub pass_over-requires-clause-passed : goal.pass_over-requires-clause-passed
+pass_over-requires-clause-passed c =
     let t = c.args.self.now in
     let back = c.requires.back in
-    let row = c.index_mut-2.result.now in
     let y = c.index-record.result.now in
     let run = running_found t c.args.ring c.args.number y c.requires.whole back.there back.current c.index-record.ensures in
-    subst (λ js. row.passed ≤ passed_of (is_open js) row.pending.items) (sym c.deref.ensures.value)
-    (ran_passes t c.args.ring c.args.number c.index_mut.result.now y row c.requires.whole run.current.at c.index_mut.ensures.value
-    (row_found t c.args.ring row c.requires.whole back.there c.index_mut-2.ensures.value))
+    subst (λ js. passed_at t.rings c.args.ring ≤ passed_of (is_open js) (pending_at t.rings c.args.ring)) (sym c.deref.ensures.value)
+    (ran_passes t c.args.ring c.args.number c.index_mut.result.now y c.requires.whole back.there run.current.at c.index_mut.ensures.value)
 
 pub returns-clause-ran : goal.returns-clause-ran
 returns-clause-ran c =
@@ -86,8 +87,8 @@ returns-clause-ran c =
     let same : c.index_mut.result.now ≡ y = cc (at_x, run.current.at) in (
       p,
       ap (λ o. option_map_or (λ (z : JobRecord). slice_get z.job.packets z.ran) o None) run.current.at ∙ c.packet-packet.ensures,
-      back_state t c.args.ring c.args.number c.index_mut.result.now y p c.put.new.store c.count_packet.new.self c.index_mut-2.result.now c.pass_over.new.self (ap (λ (s : Stored). s.bytes) c.put.ensures) same run.current.at
-          (row_found t c.args.ring c.index_mut-2.result.now c.requires.whole back.there c.index_mut-2.ensures.value) (ap ring_state_of c.pass_over.ensures),
+      back_state t c.args.ring c.args.number c.index_mut.result.now y p c.put.new.store c.count_packet.new.self c.pass_over.new.rings c.deref.result.now c.requires.whole back.there (ap (λ (s : Stored). s.bytes) c.put.ensures) same run.current.at
+          c.pass_over.ensures,
       ap (λ (s : Stored). s.out) c.put.ensures,
     )
 
@@ -98,9 +99,9 @@ returns-clause-whole c =
     let y = c.index-record.result.now in
     let p = c.packet-packet.result in
     let run = running_found t c.args.ring c.args.number y c.requires.whole back.there back.current c.index-record.ensures in
-    (step_done t c.args.ring c.args.number c.index_mut.result.now y p c.put.new.store c.count_packet.new.self c.index_mut-2.result.now c.pass_over.new.self c.requires.whole back.there back.current run
+    (step_done t c.args.ring c.args.number c.index_mut.result.now y p c.put.new.store c.count_packet.new.self c.pass_over.new.rings c.requires.whole back.there back.current run
     c.index_mut.ensures.value c.packet-packet.ensures (runs_back t c.args.ring c.args.number c.args.write c.args.read back y p run.current.at c.packet-packet.ensures)
     (ap (λ (s : Stored). s.bytes) c.put.ensures)
     (ap (λ (s : Stored). sizes_of s.bytes) c.put.ensures ∙ sizes-effect p t.memory.bytes (next_in_range t c.args.ring c.args.number y p c.requires.whole run c.packet-packet.ensures))
     c.count_packet.ensures.list c.count_packet.ensures.places
-    (row_found t c.args.ring c.index_mut-2.result.now c.requires.whole back.there c.index_mut-2.ensures.value) (c.pass_over.ensures ∙ ap (λ js. passed_row js c.index_mut-2.result.now) c.deref.ensures.value)).1
+    (c.pass_over.ensures ∙ ap (λ js. ring_row_changed t.rings c.args.ring (passed_row js)) c.deref.ensures.value)).1

@@ -7,13 +7,13 @@ use Rattle.drm_table.proofs.Queues.{head_there}
 use Rattle.drm_table.proofs.TableFacts.{row_there, entity_row_there}
 use Rattle.drm_table.proofs.table.Table.reap.Goals as goal
 
-pub index-requires-2 : goal.index-requires-2
-index-requires-2 c =
+pub pending-pending-requires : goal.pending-pending-requires
+pending-pending-requires c =
     let t = c.args.self.now in
     let w = c.requires.whole in
     let head = head_there t.journal.items t.entities c.args.entity c.in-Some.number w.queues (entity_row_there t c.args.entity w c.requires.there) c.in-Some.ensures in
     let at = job_at t c.in-Some.number c.args.entity c.index.result.now head.0 c.index.ensures in
-    subst (λ n. c.index.result.now.ring < n) (sym t.rings.ok.0) (row_there t c.index.result.now.ring w (job_ring_there t c.in-Some.number c.index.result.now w at))
+    row_there t c.index.result.now.ring w (job_ring_there t c.in-Some.number c.index.result.now w at)
 
 pub index-requires : goal.index-requires
 index-requires c =
@@ -35,8 +35,8 @@ returns-then-not-may_end-clause-refused c =
     let w = c.requires.whole in
     let head = head_there t.journal.items t.entities c.args.entity c.in-Some.number w.queues (entity_row_there t c.args.entity w c.requires.there) c.in-Some.ensures in
     let at = job_at t c.in-Some.number c.args.entity c.index.result.now head.0 c.index.ensures in
-    let may = reap_refused t c.args.entity c.in-Some.number c.index.result.now.ring c.index.result.now c.index-2.result.now c.of-deps.result.now _ w (sym c.is_stopped.ensures ∙ c.if-not-is_stopped.false) head.0 at refl c.index-2.ensures c.of-deps.ensures.list
-    (ap (λ js. may_end_after js c.of-deps.result.now c.index-2.result.now.pending.items c.args.entity) (sym c.deref.ensures.value)
+    let may = reap_refused t c.args.entity c.in-Some.number c.index.result.now.ring c.index.result.now c.pending-pending.result.now.items c.of-deps.result.now _ w (sym c.is_stopped.ensures ∙ c.if-not-is_stopped.false) head.0 at refl c.pending-pending.ensures c.of-deps.ensures.list
+    (ap (λ js. may_end_after js c.of-deps.result.now c.pending-pending.result.now.items c.args.entity) (sym c.deref.ensures.value)
     ∙ (sym c.may_end.ensures ∙ c.if-not-may_end.true)) in
     (may, refl)
 
@@ -72,8 +72,8 @@ returns-clause-reaped c =
     let w = c.requires.whole in
     let head = head_there t.journal.items t.entities c.args.entity c.in-Some.number w.queues (entity_row_there t c.args.entity w c.requires.there) c.in-Some.ensures in
     let at = job_at t c.in-Some.number c.args.entity c.index.result.now head.0 c.index.ensures in
-    let may = reap_refused t c.args.entity c.in-Some.number c.index.result.now.ring c.index.result.now c.index-2.result.now c.of-deps.result.now _ w (sym c.is_stopped.ensures ∙ c.if-not-is_stopped.false) head.0 at refl c.index-2.ensures c.of-deps.ensures.list
-    (ap (λ js. may_end_after js c.of-deps.result.now c.index-2.result.now.pending.items c.args.entity) (sym c.deref.ensures.value)
+    let may = reap_refused t c.args.entity c.in-Some.number c.index.result.now.ring c.index.result.now c.pending-pending.result.now.items c.of-deps.result.now _ w (sym c.is_stopped.ensures ∙ c.if-not-is_stopped.false) head.0 at refl c.pending-pending.ensures c.of-deps.ensures.list
+    (ap (λ js. may_end_after js c.of-deps.result.now c.pending-pending.result.now.items c.args.entity) (sym c.deref.ensures.value)
     ∙ (sym c.may_end.ensures ∙ c.if-not-may_end.false)) in
     let left = front_popped t c.args.entity c.in-Some.number c.end_job.new.journal.items c.pop.new.self c.pop.result w c.requires.there head.0 c.end_job.ensures.journal c.pop.ensures.some c.pop.ensures.none in
     let done = reap_done t c.args.entity c.in-Some.number c.end_job.new.journal c.end_job.new.fences c.pop.new.self c.end.new.self w head.0 may
@@ -87,8 +87,8 @@ returns-clause-whole c =
     let w = c.requires.whole in
     let head = head_there t.journal.items t.entities c.args.entity c.in-Some.number w.queues (entity_row_there t c.args.entity w c.requires.there) c.in-Some.ensures in
     let at = job_at t c.in-Some.number c.args.entity c.index.result.now head.0 c.index.ensures in
-    let may = reap_refused t c.args.entity c.in-Some.number c.index.result.now.ring c.index.result.now c.index-2.result.now c.of-deps.result.now _ w (sym c.is_stopped.ensures ∙ c.if-not-is_stopped.false) head.0 at refl c.index-2.ensures c.of-deps.ensures.list
-    (ap (λ js. may_end_after js c.of-deps.result.now c.index-2.result.now.pending.items c.args.entity) (sym c.deref.ensures.value)
+    let may = reap_refused t c.args.entity c.in-Some.number c.index.result.now.ring c.index.result.now c.pending-pending.result.now.items c.of-deps.result.now _ w (sym c.is_stopped.ensures ∙ c.if-not-is_stopped.false) head.0 at refl c.pending-pending.ensures c.of-deps.ensures.list
+    (ap (λ js. may_end_after js c.of-deps.result.now c.pending-pending.result.now.items c.args.entity) (sym c.deref.ensures.value)
     ∙ (sym c.may_end.ensures ∙ c.if-not-may_end.false)) in
     let left = front_popped t c.args.entity c.in-Some.number c.end_job.new.journal.items c.pop.new.self c.pop.result w c.requires.there head.0 c.end_job.ensures.journal c.pop.ensures.some c.pop.ensures.none in
     let done = reap_done t c.args.entity c.in-Some.number c.end_job.new.journal c.end_job.new.fences c.pop.new.self c.end.new.self w head.0 may

@@ -8,12 +8,12 @@ use Rattle.drm_state.specs.declared.journal.JobRecord.{JobRecord}
 use Rattle.drm_table.proofs.Stored.{target_touched, source_touched}
 use Rattle.drm_state.specs.Outcomes.{must_stall}
 use Rattle.drm_table.specs.Tables.{state_of}
-use Rattle.drm_table.proofs.TableFacts.{running_at, running_found, next_in_range, few_packets, vec_holds, row_found}
+use Rattle.drm_table.proofs.TableFacts.{running_at, running_found, next_in_range, few_packets, vec_holds, row_there}
 use Rattle.drm_state.proofs.CallsAre.{step_may, step_stalls}
 use Rattle.drm_table.proofs.StepDone.{step_done, ran_passes}
 use Rattle.drm_table.proofs.table.Table.step.Goals as goal
-use Rattle.drm_state.specs.Rows.{is_open, passed_of}
-use Rattle.drm_table.proofs.RowsKept.{passed_row}
+use Rattle.drm_ring.specs.RingRows.{pending_at, passed_at, ring_row_changed}
+use Rattle.drm_state.specs.Rows.{is_open, passed_of, passed_row}
 
 pub index-record-requires : goal.index-record-requires
 index-record-requires c =
@@ -78,15 +78,16 @@ count_packet-requires-clause-fits c =
     let fits : c.index-record.result.now.ran + 1 < 4294967296 = omega (arith, few, left) in
     subst (λ o. IfSome (option_map (λ x. x.ran) o) (λ n. n + 1 < 4294967296)) (sym run.fence) fits
 
-pub pass_over-requires : goal.pass_over-requires
-pass_over-requires c =
+pub pass_over-requires-clause-there : goal.pass_over-requires-clause-there
+pass_over-requires-clause-there c = row_there c.args.self.now c.args.ring c.requires.whole c.requires.there
+
+pub pass_over-requires-clause-passed : goal.pass_over-requires-clause-passed
+pass_over-requires-clause-passed c =
     let t = c.args.self.now in
-    let row = c.index_mut-2.result.now in
     let is = sym c.current.ensures ∙ c.in-Some.is in
     let run = running_found t c.args.ring c.in-Some.number c.index-record.result.now c.requires.whole c.requires.there is c.index-record.ensures in
-    subst (λ js. row.passed ≤ passed_of (is_open js) row.pending.items) (sym c.deref.ensures.value)
-    (ran_passes t c.args.ring c.in-Some.number c.index_mut.result.now c.index-record.result.now row c.requires.whole run.current.at c.index_mut.ensures.value
-    (row_found t c.args.ring row c.requires.whole c.requires.there c.index_mut-2.ensures.value))
+    subst (λ js. passed_at t.rings c.args.ring ≤ passed_of (is_open js) (pending_at t.rings c.args.ring)) (sym c.deref.ensures.value)
+    (ran_passes t c.args.ring c.in-Some.number c.index_mut.result.now c.index-record.result.now c.requires.whole c.requires.there run.current.at c.index_mut.ensures.value)
 
 pub returns-clause-ran : goal.returns-clause-ran
 returns-clause-ran c =
@@ -94,9 +95,9 @@ returns-clause-ran c =
     let is = sym c.current.ensures ∙ c.in-Some.is in
     let run = running_found t c.args.ring c.in-Some.number c.index-record.result.now c.requires.whole c.requires.there is c.index-record.ensures in (
       step_may (state_of t) c.args.ring c.in-Some.number is,
-      (step_done t c.args.ring c.in-Some.number c.index_mut.result.now c.index-record.result.now c.packet-packet.result c.run_in.new.store c.count_packet.new.self c.index_mut-2.result.now c.pass_over.new.self c.requires.whole c.requires.there is run
+      (step_done t c.args.ring c.in-Some.number c.index_mut.result.now c.index-record.result.now c.packet-packet.result c.run_in.new.store c.count_packet.new.self c.pass_over.new.rings c.requires.whole c.requires.there is run
           c.index_mut.ensures.value c.packet-packet.ensures (ap (must_stall c.packet-packet.result) (sym c.resets.ensures) ∙ sym c.if-must_stall.ensures) (ap (λ (s : Stored). s.bytes) c.run_in.ensures) (ap (λ (s : Stored). sizes_of s.bytes) c.run_in.ensures ∙ sizes-effect c.packet-packet.result t.memory.bytes (next_in_range t c.args.ring c.in-Some.number c.index-record.result.now c.packet-packet.result c.requires.whole run c.packet-packet.ensures)) c.count_packet.ensures.list c.count_packet.ensures.places
-          (row_found t c.args.ring c.index_mut-2.result.now c.requires.whole c.requires.there c.index_mut-2.ensures.value) (c.pass_over.ensures ∙ ap (λ js. passed_row js c.index_mut-2.result.now) c.deref.ensures.value)).0,
+          (c.pass_over.ensures ∙ ap (λ js. ring_row_changed t.rings c.args.ring (passed_row js)) c.deref.ensures.value)).0,
     )
 
 pub returns-clause-whole : goal.returns-clause-whole
@@ -104,6 +105,6 @@ returns-clause-whole c =
     let t = c.args.self.now in
     let is = sym c.current.ensures ∙ c.in-Some.is in
     let run = running_found t c.args.ring c.in-Some.number c.index-record.result.now c.requires.whole c.requires.there is c.index-record.ensures in
-    (step_done t c.args.ring c.in-Some.number c.index_mut.result.now c.index-record.result.now c.packet-packet.result c.run_in.new.store c.count_packet.new.self c.index_mut-2.result.now c.pass_over.new.self c.requires.whole c.requires.there is run
+    (step_done t c.args.ring c.in-Some.number c.index_mut.result.now c.index-record.result.now c.packet-packet.result c.run_in.new.store c.count_packet.new.self c.pass_over.new.rings c.requires.whole c.requires.there is run
     c.index_mut.ensures.value c.packet-packet.ensures (ap (must_stall c.packet-packet.result) (sym c.resets.ensures) ∙ sym c.if-must_stall.ensures) (ap (λ (s : Stored). s.bytes) c.run_in.ensures) (ap (λ (s : Stored). sizes_of s.bytes) c.run_in.ensures ∙ sizes-effect c.packet-packet.result t.memory.bytes (next_in_range t c.args.ring c.in-Some.number c.index-record.result.now c.packet-packet.result c.requires.whole run c.packet-packet.ensures)) c.count_packet.ensures.list c.count_packet.ensures.places
-    (row_found t c.args.ring c.index_mut-2.result.now c.requires.whole c.requires.there c.index_mut-2.ensures.value) (c.pass_over.ensures ∙ ap (λ js. passed_row js c.index_mut-2.result.now) c.deref.ensures.value)).1
+    (c.pass_over.ensures ∙ ap (λ js. ring_row_changed t.rings c.args.ring (passed_row js)) c.deref.ensures.value)).1
