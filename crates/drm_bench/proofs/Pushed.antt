@@ -1,23 +1,12 @@
 -- The numbers that are queued, after one more or before any.
-use Rattle.std.proofs.Common.{◌≡◌, ◌≢◌, ℕ, zero, suc, ◌+◌, ◌<◌, List, [], ◌∷◌, ◌++◌, set, replicate, Option, Some, None, false, refl, sym, ap, subst, ◌∙◌, inl, inr, arith, slice_get}
+use Rattle.std.proofs.Common.{◌≡◌, ℕ, zero, suc, ◌+◌, ◌<◌, List, [], ◌∷◌, ◌++◌, set, replicate, Option, Some, None, false, refl, sym, ap, subst, ◌∙◌, inl, inr, arith, slice_get}
 use Rattle.std.specs.Prelude.{Contains}
 use Rattle.std.specs.Option.{option_map_or}
 use Rattle.std.proofs.lemmas.Bool.{cases_eq}
 use Rattle.std.proofs.lemmas.List.Elements.{Contains-push_cases}
+use Rattle.drm_lists.proofs.Changed.{get_set_same, get_set_other}
 use Rattle.drm_entity.specs.Rows.{EntityRow, EntityRows, queue_at, pushed}
 use Rattle.drm_bench.specs.Queued.{AllBelow}
-
-set_here : {X : Type 0} (xs : List X) (e : ℕ) (x y : X) → slice_get xs e ≡ Some x → slice_get (set xs e y) e ≡ Some y
-set_here [] e x y at = absurd (cc (at))
-set_here (w ∷ xs) zero x y at = refl
-set_here (w ∷ xs) (suc e) x y at = set_here xs e x y at
-
-set_there : {X : Type 0} (xs : List X) (e f : ℕ) (y : X) → f ≢ e → slice_get (set xs e y) f ≡ slice_get xs f
-set_there [] e f y away = refl
-set_there (w ∷ xs) zero zero y away = absurd (away refl)
-set_there (w ∷ xs) zero (suc f) y away = refl
-set_there (w ∷ xs) (suc e) zero y away = refl
-set_there (w ∷ xs) (suc e) (suc f) y away = set_there xs e f y (λ same. away (ap suc same))
 
 pub below_more : (e : EntityRows) (limit : ℕ) → AllBelow e limit → AllBelow e (limit + 1)
 below_more e limit below entity number in_queue = omega (arith, below entity number in_queue)
@@ -37,7 +26,7 @@ below_pushed e entity limit below other number in_queue =
         elim (cases_eq other entity) [
           | inl same ↦
               let row : EntityRow = record r { queue = r.queue ++ limit ∷ [] } in
-              let here : slice_get (set e.rows entity row) other ≡ Some row = ap (slice_get (set e.rows entity row)) same ∙ set_here e.rows entity r row at in
+              let here : slice_get (set e.rows entity row) other ≡ Some row = ap (slice_get (set e.rows entity row)) same ∙ get_set_same e.rows entity r row at in
               let new : Contains (r.queue ++ limit ∷ []) number = subst (λ (o : Option EntityRow). Contains (option_map_or (λ q. q.queue) o []) number) here there in
               elim (Contains-push_cases r.queue limit number new) [
                 | inl old ↦
@@ -47,7 +36,7 @@ below_pushed e entity limit below other number in_queue =
               ]
           | inr apart ↦
               let old : Contains (queue_at e other) number =
-              subst (λ (o : Option EntityRow). Contains (option_map_or (λ q. q.queue) o []) number) (set_there e.rows entity other (record r { queue = r.queue ++ limit ∷ [] }) apart) there in
+              subst (λ (o : Option EntityRow). Contains (option_map_or (λ q. q.queue) o []) number) (get_set_other e.rows entity other (record r { queue = r.queue ++ limit ∷ [] }) apart) there in
               omega (arith, below other number old)
         ]
 

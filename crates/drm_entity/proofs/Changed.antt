@@ -4,6 +4,7 @@ use Rattle.std.specs.Prelude.{option_map}
 use Rattle.std.specs.Option.{option_map_or}
 use Rattle.std.proofs.lemmas.Bool.{cases_eq}
 use Rattle.std.proofs.lemmas.Option.{slice_get-map}
+use Rattle.drm_lists.proofs.Changed.{get_set_is, get_set_other}
 use Rattle.drm_entity.specs.declared.entities.Links.{Links}
 use Rattle.drm_entity.specs.Rows.{EntityRow, EntityRows, row_changed}
 use Rattle.drm_entity.specs.Linked.{walk, queue_of, row_of, StandsAt, IsLinked}
@@ -60,25 +61,6 @@ alike_linked next new links is alike longer = record {
       at = subst (λ (q : List ℕ). slice_get q place ≡ Some n) (walk_alike next new s.link.first s.link.len alike) s.at;
     }
 
--- an element put where it was
-pub set_same : {X : Type 0} (xs : List X) (e : ℕ) (x : X) → slice_get xs e ≡ Some x → set xs e x ≡ xs
-set_same [] e x at = refl
-set_same (y ∷ xs) zero x at = let same : y ≡ x = cc (at) in ap (λ z. z ∷ xs) (sym same)
-set_same (y ∷ xs) (suc e) x at = ap (λ ys. y ∷ ys) (set_same xs e x at)
-
--- the entity that was changed, and another
-pub of_set : {X : Type 0} (xs : List X) (e : ℕ) (x y z : X) → slice_get xs e ≡ Some x → slice_get (set xs e y) e ≡ Some z → z ≡ y
-of_set [] e x y z at is = absurd (cc (at))
-of_set (w ∷ xs) zero x y z at is = cc (is)
-of_set (w ∷ xs) (suc e) x y z at is = of_set xs e x y z at is
-
-pub of_other : {X : Type 0} (xs : List X) (e f : ℕ) (y : X) → f ≢ e → slice_get (set xs e y) f ≡ slice_get xs f
-of_other [] e f y away = refl
-of_other (w ∷ xs) zero zero y away = absurd (away refl)
-of_other (w ∷ xs) zero (suc f) y away = refl
-of_other (w ∷ xs) (suc e) zero y away = refl
-of_other (w ∷ xs) (suc e) (suc f) y away = of_other xs e f y (λ same. away (ap suc same))
-
 -- one number more at the end of one queue
 pub linked_pushed : (next new : List ℕ) (links : List Links) (e number : ℕ) (l l' : Links) → IsLinked next links → slice_get links e ≡ Some l
     → length new ≡ length next → number < length next → ((i a : ℕ) → StandsAt next links i a number → ⊥)
@@ -97,7 +79,7 @@ linked_pushed next new links e number l l' is at places fits fresh queue last_is
     was i a n s =
         elim (cases_eq i e) [
           | inl same ↦
-              let link : s.link ≡ l' = of_set links e l l' s.link at (subst (λ k. slice_get (set links e l') k ≡ Some s.link) same s.is_link) in
+              let link : s.link ≡ l' = get_set_is links e l l' s.link at (subst (λ k. slice_get (set links e l') k ≡ Some s.link) same s.is_link) in
               let stands : slice_get (queue_of next l ++ number ∷ []) a ≡ Some n = subst (λ (q : List ℕ). slice_get q a ≡ Some n) queue
               (subst (λ (m : Links). slice_get (queue_of new m) a ≡ Some n) link s.at) in
               elim (get_push (queue_of next l) number a n stands) [
@@ -105,7 +87,7 @@ linked_pushed next new links e number l l' is at places fits fresh queue last_is
                 | inr added ↦ inr (same, added.0, added.1)
               ]
           | inr away ↦
-              let there : slice_get links i ≡ Some s.link = sym (of_other links e i l' away) ∙ s.is_link in
+              let there : slice_get links i ≡ Some s.link = sym (get_set_other links e i l' away) ∙ s.is_link in
               inl (record { link = s.link; is_link = there; at = subst (λ (q : List ℕ). slice_get q a ≡ Some n) (others i s.link away there) s.at })
         ]
 
@@ -120,14 +102,14 @@ linked_pushed next new links e number l l' is at places fits fresh queue last_is
     ends entity m before at_m len =
         elim (cases_eq entity e) [
           | inl same ↦
-              let link : m ≡ l' = of_set links e l l' m at (subst (λ k. slice_get (set links e l') k ≡ Some m) same at_m) in
+              let link : m ≡ l' = get_set_is links e l l' m at (subst (λ k. slice_get (set links e l') k ≡ Some m) same at_m) in
               let count : before ≡ length (queue_of next l) = omega (arith, len, ap (λ (z : Links). z.len) link, len_is, length_walk next l.first l.len) in
               let here : slice_get (queue_of next l ++ number ∷ []) before ≡ Some number =
               subst (λ k. slice_get (queue_of next l ++ number ∷ []) k ≡ Some number) (sym count) (get_pushed (queue_of next l) number) in
               subst (λ (z : Links). slice_get (queue_of new z) before ≡ Some z.last) (sym link)
               (subst (λ (q : List ℕ). slice_get q before ≡ Some l'.last) (sym queue) (here ∙ ap Some (sym last_is)))
           | inr away ↦
-              let there : slice_get links entity ≡ Some m = sym (of_other links e entity l' away) ∙ at_m in
+              let there : slice_get links entity ≡ Some m = sym (get_set_other links e entity l' away) ∙ at_m in
               subst (λ (q : List ℕ). slice_get q before ≡ Some m.last) (sym (others entity m away there)) (is.last entity m before there len)
         ]
 
@@ -144,10 +126,10 @@ linked_popped next links e number l l' is at queue last_is len_is = record {
     was i a n s =
         elim (cases_eq i e) [
           | inl same ↦
-              let link : s.link ≡ l' = of_set links e l l' s.link at (subst (λ k. slice_get (set links e l') k ≡ Some s.link) same s.is_link) in
+              let link : s.link ≡ l' = get_set_is links e l l' s.link at (subst (λ k. slice_get (set links e l') k ≡ Some s.link) same s.is_link) in
               let stands : slice_get (queue_of next l) (suc a) ≡ Some n = subst (λ (q : List ℕ). slice_get q (suc a) ≡ Some n) (sym queue)
               (subst (λ (m : Links). slice_get (queue_of next m) a ≡ Some n) link s.at) in inl (same, record { link = l; is_link = at; at = stands })
-          | inr away ↦ inr (away, record { link = s.link; is_link = sym (of_other links e i l' away) ∙ s.is_link; at = s.at })
+          | inr away ↦ inr (away, record { link = s.link; is_link = sym (get_set_other links e i l' away) ∙ s.is_link; at = s.at })
         ]
 
     both : (i j a b n : ℕ) → ((i ≡ e) × (StandsAt next links e (suc a) n)) ⊎ ((i ≢ e) × (StandsAt next links i a n))
@@ -161,12 +143,12 @@ linked_popped next links e number l l' is at queue last_is len_is = record {
     ends entity m before at_m len =
         elim (cases_eq entity e) [
           | inl same ↦
-              let link : m ≡ l' = of_set links e l l' m at (subst (λ k. slice_get (set links e l') k ≡ Some m) same at_m) in
+              let link : m ≡ l' = get_set_is links e l l' m at (subst (λ k. slice_get (set links e l') k ≡ Some m) same at_m) in
               let count : l.len ≡ suc (suc before) = omega (arith, len, ap (λ (z : Links). z.len) link, len_is) in
               let old : slice_get (queue_of next l) (suc before) ≡ Some l.last = is.last e l (suc before) at count in
               let here : slice_get (queue_of next l') before ≡ Some l.last = subst (λ (q : List ℕ). slice_get q (suc before) ≡ Some l.last) queue old in
               subst (λ (z : Links). slice_get (queue_of next z) before ≡ Some z.last) (sym link) (here ∙ ap Some (sym last_is))
-          | inr away ↦ is.last entity m before (sym (of_other links e entity l' away) ∙ at_m) len
+          | inr away ↦ is.last entity m before (sym (get_set_other links e entity l' away) ∙ at_m) len
         ]
 
 -- an entity whose queue stays
@@ -182,22 +164,22 @@ linked_marked next links e l l' is at queue last_is len_is = record {
     was i a n s =
         elim (cases_eq i e) [
           | inl same ↦
-              let link : s.link ≡ l' = of_set links e l l' s.link at (subst (λ k. slice_get (set links e l') k ≡ Some s.link) same s.is_link) in
+              let link : s.link ≡ l' = get_set_is links e l l' s.link at (subst (λ k. slice_get (set links e l') k ≡ Some s.link) same s.is_link) in
               let stands : slice_get (queue_of next l) a ≡ Some n = subst (λ (q : List ℕ). slice_get q a ≡ Some n) queue
               (subst (λ (m : Links). slice_get (queue_of next m) a ≡ Some n) link s.at) in
               record { link = l; is_link = subst (λ k. slice_get links k ≡ Some l) (sym same) at; at = stands }
-          | inr away ↦ record { link = s.link; is_link = sym (of_other links e i l' away) ∙ s.is_link; at = s.at }
+          | inr away ↦ record { link = s.link; is_link = sym (get_set_other links e i l' away) ∙ s.is_link; at = s.at }
         ]
 
     ends : (entity : ℕ) (m : Links) (before : ℕ) → slice_get (set links e l') entity ≡ Some m → m.len ≡ suc before → slice_get (queue_of next m) before ≡ Some m.last
     ends entity m before at_m len =
         elim (cases_eq entity e) [
           | inl same ↦
-              let link : m ≡ l' = of_set links e l l' m at (subst (λ k. slice_get (set links e l') k ≡ Some m) same at_m) in
+              let link : m ≡ l' = get_set_is links e l l' m at (subst (λ k. slice_get (set links e l') k ≡ Some m) same at_m) in
               let count : l.len ≡ suc before = omega (arith, len, ap (λ (z : Links). z.len) link, len_is) in
               let here : slice_get (queue_of next l') before ≡ Some l.last = subst (λ (q : List ℕ). slice_get q before ≡ Some l.last) (sym queue) (is.last e l before at count) in
               subst (λ (z : Links). slice_get (queue_of next z) before ≡ Some z.last) (sym link) (here ∙ ap Some (sym last_is))
-          | inr away ↦ is.last entity m before (sym (of_other links e entity l' away) ∙ at_m) len
+          | inr away ↦ is.last entity m before (sym (get_set_other links e entity l' away) ∙ at_m) len
         ]
 
 -- one number more at the end of one queue, which has the last number

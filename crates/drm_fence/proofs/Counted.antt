@@ -6,6 +6,7 @@ use Rattle.std.proofs.lemmas.Bool.{cases_eq, eqb-true, ltb-true, ltb-false, and_
 use Rattle.std.proofs.lemmas.List.{get_or-set_same, get_or-set_other, get_or_past, length-replicate}
 use Rattle.std.proofs.lemmas.List.Elements.{recursion_from_All, All-from_recursion}
 use Rattle.std.proofs.lemmas.Option.{slice_get-get_or, get_or_from_slice_get}
+use Rattle.drm_lists.proofs.Changed.{get_set_is, get_set_other}
 use Rattle.drm_fence.specs.declared.pair.Pair.{Pair}
 use Rattle.drm_fence.specs.Waiting.{unmet_in, HasNoPair}
 use Rattle.drm_fence.specs.Cells.{pairs_in, IsCounted}
@@ -16,23 +17,6 @@ differs a b apart = elim (a == b) as (λ t. (a == b) ≡ t → t ≡ false) [ tr
 
 read_is : (xs : List ℕ) (i x : ℕ) → i < length xs → x ≡ get_or xs i x → get_or xs i 0 ≡ x
 read_is xs i x lt is = get_or_from_slice_get xs i x 0 (slice_get-get_or xs i x lt ∙ ap Some (sym is))
-
-pub of_cell : {X : Type 0} (xs : List X) (e : ℕ) (x y z : X) → slice_get xs e ≡ Some x → slice_get (set xs e y) e ≡ Some z → z ≡ y
-of_cell [] e x y z at is = absurd (cc (at))
-of_cell (w ∷ xs) zero x y z at is = cc (is)
-of_cell (w ∷ xs) (suc e) x y z at is = of_cell xs e x y z at is
-
-pub set_here : {X : Type 0} (xs : List X) (e : ℕ) (x y : X) → slice_get xs e ≡ Some x → slice_get (set xs e y) e ≡ Some y
-set_here [] e x y at = absurd (cc (at))
-set_here (w ∷ xs) zero x y at = refl
-set_here (w ∷ xs) (suc e) x y at = set_here xs e x y at
-
-pub of_others : {X : Type 0} (xs : List X) (e f : ℕ) (y : X) → f ≢ e → slice_get (set xs e y) f ≡ slice_get xs f
-of_others [] e f y away = refl
-of_others (w ∷ xs) zero zero y away = absurd (away refl)
-of_others (w ∷ xs) zero (suc f) y away = refl
-of_others (w ∷ xs) (suc e) zero y away = refl
-of_others (w ∷ xs) (suc e) (suc f) y away = of_others xs e f y (λ same. away (ap suc same))
 
 pub at_least_one : (cells : List (Option Pair)) (unmet : List ℕ) (k x : ℕ) (p : Pair) → IsCounted cells unmet → slice_get cells k ≡ Some (Some p)
     → x ≡ get_or unmet p.entity x → 1 ≤ x
@@ -58,8 +42,8 @@ taken_counted cells unmet k x p is at x_is = record {
     at_place : (j : ℕ) (q : Pair) → slice_get (set cells k None) j ≡ Some (Some q) → (j ≡ q.entity * 64 + q.of) × (q.of < 64) × (q.entity < length (set unmet p.entity (x - 1)))
     at_place j q at_j =
         elim (cases_eq j k) [
-          | inl same ↦ let none : Some q ≡ None = of_cell cells k (Some p) None (Some q) at (subst (λ i. slice_get (set cells k None) i ≡ Some (Some q)) same at_j) in absurd (cc (none))
-          | inr away ↦ let old = is.placed j q (sym (of_others cells k j None away) ∙ at_j) in (old.0, old.1, omega (arith, old.2, length-set unmet p.entity (x - 1)))
+          | inl same ↦ let none : Some q ≡ None = get_set_is cells k (Some p) None (Some q) at (subst (λ i. slice_get (set cells k None) i ≡ Some (Some q)) same at_j) in absurd (cc (none))
+          | inr away ↦ let old = is.placed j q (sym (get_set_other cells k j None away) ∙ at_j) in (old.0, old.1, omega (arith, old.2, length-set unmet p.entity (x - 1)))
         ]
 
     count_of : (e : ℕ) → e < length unmet → get_or (set unmet p.entity (x - 1)) e 0 ≡ unmet_in (pairs_in (set cells k None)) e
@@ -110,11 +94,11 @@ more_counted cells unmet k x p is at k_is of_lt lt x_is = record {
     at_place j q at_j =
         elim (cases_eq j k) [
           | inl same ↦
-              let some : Some q ≡ Some p = of_cell cells k None (Some p) (Some q) at (subst (λ i. slice_get (set cells k (Some p)) i ≡ Some (Some q)) same at_j) in
+              let some : Some q ≡ Some p = get_set_is cells k None (Some p) (Some q) at (subst (λ i. slice_get (set cells k (Some p)) i ≡ Some (Some q)) same at_j) in
               let one : p ≡ q = cc (some) in
               subst (λ (z : Pair). (j ≡ z.entity * 64 + z.of) × (z.of < 64) × (z.entity < length (set unmet p.entity (x + 1)))) one
               (same ∙ k_is, of_lt, omega (arith, lt, length-set unmet p.entity (x + 1)))
-          | inr away ↦ let old = is.placed j q (sym (of_others cells k j (Some p) away) ∙ at_j) in (old.0, old.1, omega (arith, old.2, length-set unmet p.entity (x + 1)))
+          | inr away ↦ let old = is.placed j q (sym (get_set_other cells k j (Some p) away) ∙ at_j) in (old.0, old.1, omega (arith, old.2, length-set unmet p.entity (x + 1)))
         ]
 
     count_of : (e : ℕ) → e < length unmet → get_or (set unmet p.entity (x + 1)) e 0 ≡ unmet_in (pairs_in (set cells k (Some p))) e
@@ -205,8 +189,8 @@ pub kept_of : (cells : List (Option Pair)) (place k : ℕ) (o : Option Pair) (p 
     → slice_get (set cells place None) k ≡ Some (Some p) → slice_get cells k ≡ Some (Some p)
 kept_of cells place k o p at there =
     elim (cases_eq k place) [
-      | inl same ↦ let none : Some p ≡ None = of_cell cells place o None (Some p) at (subst (λ i. slice_get (set cells place None) i ≡ Some (Some p)) same there) in absurd (cc (none))
-      | inr away ↦ sym (of_others cells place k None away) ∙ there
+      | inl same ↦ let none : Some p ≡ None = get_set_is cells place o None (Some p) at (subst (λ i. slice_get (set cells place None) i ≡ Some (Some p)) same there) in absurd (cc (none))
+      | inr away ↦ sym (get_set_other cells place k None away) ∙ there
     ]
 
 -- an entity of which no pair is counted has none

@@ -4,13 +4,14 @@ use Rattle.std.specs.Prelude.{◌⊎◌, IsTrue}
 use Rattle.std.proofs.lemmas.Bool.{cases_eq, eqb-true, and_parts}
 use Rattle.std.proofs.lemmas.Option.{slice_get_within, slice_get-get_or}
 use Rattle.std.specs.Option.{option_map_or}
+use Rattle.drm_lists.proofs.Changed.{get_set_is, get_set_same, get_set_other}
 use Rattle.drm_fence.specs.declared.pair.Pair.{Pair}
 use Rattle.drm_fence.specs.declared.links.Links.{Links}
 use Rattle.drm_fence.specs.declared.pair.Release.{Release}
 use Rattle.drm_fence.specs.declared.pair.Release.TheVariants.{Scheduled, Ended}
 use Rattle.drm_fence.specs.Cells.{is_released, fence_of}
 use Rattle.drm_fence.specs.Linked.{behind_of, before_of, IsOf, IsEarly, IsRing, IsLinked}
-use Rattle.drm_fence.proofs.Counted.{differs, of_cell, of_others, set_here, kept_of, taken_counted, more_counted, none_there, none_counted}
+use Rattle.drm_fence.proofs.Counted.{differs, kept_of, taken_counted, more_counted, none_there, none_counted}
 use Rattle.drm_fence.proofs.Ring.{IsOut, IsIn, leads, ring_without, ring_with}
 
 -- two places are neighbours, and all other links are as they were
@@ -29,29 +30,29 @@ one_fence cells n j g h (inr x) (inl y) = absurd (omega (arith, slice_get_within
 one_fence cells n j g h (inr x) (inr y) = omega (arith, x.0, y.0)
 
 of_set : (cells : List (Option Pair)) (n k j f : ℕ) (o : Option Pair) → j ≢ k → IsOf cells n j f → IsOf (set cells k o) n j f
-of_set cells n k j f o apart (inl x) = inl (x.0, of_others cells k j o apart ∙ x.1, x.2)
+of_set cells n k j f o apart (inl x) = inl (x.0, get_set_other cells k j o apart ∙ x.1, x.2)
 of_set cells n k j f o apart (inr x) = inr (omega (arith, x.0, length-set cells k o), x.1)
 
 of_unset : (cells : List (Option Pair)) (n k j f : ℕ) (o : Option Pair) → j ≢ k → IsOf (set cells k o) n j f → IsOf cells n j f
-of_unset cells n k j f o apart (inl x) = inl (x.0, sym (of_others cells k j o apart) ∙ x.1, x.2)
+of_unset cells n k j f o apart (inl x) = inl (x.0, sym (get_set_other cells k j o apart) ∙ x.1, x.2)
 of_unset cells n k j f o apart (inr x) = inr (omega (arith, x.0, length-set cells k o), x.1)
 
 early_set : (cells : List (Option Pair)) (k j : ℕ) (o : Option Pair) → j ≢ k → IsEarly cells j → IsEarly (set cells k o) j
-early_set cells k j o apart x = (x.0, of_others cells k j o apart ∙ x.1, x.2)
+early_set cells k j o apart x = (x.0, get_set_other cells k j o apart ∙ x.1, x.2)
 
 early_unset : (cells : List (Option Pair)) (k j : ℕ) (o : Option Pair) → j ≢ k → IsEarly (set cells k o) j → IsEarly cells j
-early_unset cells k j o apart x = (x.0, sym (of_others cells k j o apart) ∙ x.1, x.2)
+early_unset cells k j o apart x = (x.0, sym (get_set_other cells k j o apart) ∙ x.1, x.2)
 
 -- no place that was cleared is in a list
 cleared : (cells : List (Option Pair)) (n k j f : ℕ) (p : Pair) → slice_get cells k ≡ Some (Some p) → IsOf (set cells k None) n j f → j ≢ k
 cleared cells n k j f p at (inl x) same =
-    let none : Some x.0 ≡ None = of_cell cells k (Some p) None (Some x.0) at (subst (λ i. slice_get (set cells k None) i ≡ Some (Some x.0)) same x.1) in absurd (cc (none))
+    let none : Some x.0 ≡ None = get_set_is cells k (Some p) None (Some x.0) at (subst (λ i. slice_get (set cells k None) i ≡ Some (Some x.0)) same x.1) in absurd (cc (none))
 cleared cells n k j f p at (inr x) same =
     absurd (omega (arith, same, x.0, slice_get_within cells k (Some p) at, length-set cells k None))
 
 early_cleared : (cells : List (Option Pair)) (k j : ℕ) (p : Pair) → slice_get cells k ≡ Some (Some p) → IsEarly (set cells k None) j → j ≢ k
 early_cleared cells k j p at x same =
-    let none : Some x.0 ≡ None = of_cell cells k (Some p) None (Some x.0) at (subst (λ i. slice_get (set cells k None) i ≡ Some (Some x.0)) same x.1) in absurd (cc (none))
+    let none : Some x.0 ≡ None = get_set_is cells k (Some p) None (Some x.0) at (subst (λ i. slice_get (set cells k None) i ≡ Some (Some x.0)) same x.1) in absurd (cc (none))
 
 pub taken_linked : (cells : List (Option Pair)) (unmet : List ℕ) (links new : List Links) (k x : ℕ) (p : Pair) → IsLinked cells unmet links
     → slice_get cells k ≡ Some (Some p) → IsJoined links new (before_of links k) (behind_of links k) → x ≡ get_or unmet p.entity x
@@ -119,7 +120,7 @@ put_ring cells unmet links middle new k a b p is at at_a next first second front
     inside = slice_get_within cells k None at
 
     here : slice_get (set cells k (Some p)) k ≡ Some (Some p)
-    here = set_here cells k None (Some p) at
+    here = get_set_same cells k None (Some p) at
 
     free : (j g : ℕ) → IsOf cells (length links) j g → j ≢ k
     free j g (inl x) same = let none : Some (Some x.0) ≡ Some None = sym (subst (λ i. slice_get cells i ≡ Some (Some x.0)) same x.1) ∙ at in absurd (cc (none))
@@ -130,13 +131,13 @@ put_ring cells unmet links middle new k a b p is at at_a next first second front
 
     at_k : (j g : ℕ) → j ≡ k → IsOf (set cells k (Some p)) (length links) j g → (j ≡ k) × (g ≡ p.fence)
     at_k j g same (inl x) =
-        let it : Some x.0 ≡ Some p = of_cell cells k None (Some p) (Some x.0) at (subst (λ i. slice_get (set cells k (Some p)) i ≡ Some (Some x.0)) same x.1) in
+        let it : Some x.0 ≡ Some p = get_set_is cells k None (Some p) (Some x.0) at (subst (λ i. slice_get (set cells k (Some p)) i ≡ Some (Some x.0)) same x.1) in
         let is_p : x.0 ≡ p = cc (it) in (same, sym x.2 ∙ ap (λ (q : Pair). q.fence) is_p)
     at_k j g same (inr x) = absurd (omega (arith, same, x.0, inside, length-set cells k (Some p)))
 
     early_k : IsEarly (set cells k (Some p)) k → IsTrue p.is_early
     early_k x =
-        let it : Some x.0 ≡ Some p = of_cell cells k None (Some p) (Some x.0) at x.1 in
+        let it : Some x.0 ≡ Some p = get_set_is cells k None (Some p) (Some x.0) at x.1 in
         let is_p : x.0 ≡ p = cc (it) in subst (λ (q : Pair). IsTrue q.is_early) is_p x.2
 
     at_b : IsOf cells (length links) b p.fence
@@ -182,10 +183,10 @@ put_linked cells unmet links middle new k a b x p is at place of_lt there fence 
     fence_of_pair j q at_j =
         elim (cases_eq j k) [
           | inl same ↦
-              let it : Some q ≡ Some p = of_cell cells k None (Some p) (Some q) at (subst (λ i. slice_get (set cells k (Some p)) i ≡ Some (Some q)) same at_j) in
+              let it : Some q ≡ Some p = get_set_is cells k None (Some p) (Some q) at (subst (λ i. slice_get (set cells k (Some p)) i ≡ Some (Some q)) same at_j) in
               let is_p : q ≡ p = cc (it) in
               omega (arith, fence, ap (λ (z : Pair). z.fence) is_p, length-set cells k (Some p), first.places, second.places)
-          | inr apart ↦ omega (arith, is.fences j q (sym (of_others cells k j (Some p) apart) ∙ at_j), length-set cells k (Some p), first.places, second.places)
+          | inr apart ↦ omega (arith, is.fences j q (sym (get_set_other cells k j (Some p) apart) ∙ at_j), length-set cells k (Some p), first.places, second.places)
         ]
 
 -- the end of the list of a fence

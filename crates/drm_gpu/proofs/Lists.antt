@@ -1,5 +1,5 @@
 -- Lists of what is held.
-use Rattle.std.proofs.Common.{◌≡◌, ◌≢◌, ℕ, zero, suc, List, [], ◌∷◌, ◌++◌, length, map, drop, set, get_or, refl, sym, ap, ◌∙◌, subst, ⊎_elim, inl, inr, ◌⊎◌, arith, Bool, eq-eqb, ne_eqb, Some, slice_get}
+use Rattle.std.proofs.Common.{◌≡◌, ◌≢◌, ℕ, zero, suc, List, [], ◌∷◌, ◌++◌, length, map, drop, get_or, refl, sym, ap, ◌∙◌, subst, ⊎_elim, inl, inr, ◌⊎◌, arith, Bool, eq-eqb, ne_eqb, Some, slice_get}
 use Rattle.std.specs.Prelude.{if◌then◌else◌, All, Contains}
 use Rattle.std.proofs.lemmas.List.Elements.{All-head, All-tail}
 use Rattle.std.proofs.lemmas.Option.{slice_get_within, get_or_from_slice_get, slice_get-get_or}
@@ -89,20 +89,6 @@ module _ {A : Type 0} where
 pub none_owed : {A B : Type 0} (xs : List (ℕ × A)) (ys : List (ℕ × B)) → IsSameKeys xs ys → ys ≡ [] → xs ≡ []
 none_owed [] ys e none = refl
 none_owed (x ∷ xs) ys e none = absurd (let n : suc (length (map number_of xs)) ≡ 0 = ap length (e ∙ ap (map number_of) none) in omega arith)
-
--- ---- by place
-
-pub get_set_same : {X : Type 0} (xs : List X) (i : ℕ) (x y : X) → slice_get xs i ≡ Some x → slice_get (set xs i y) i ≡ Some y
-get_set_same [] i x y is = absurd (cc (is))
-get_set_same (z ∷ xs) zero x y is = refl
-get_set_same (z ∷ xs) (suc i) x y is = get_set_same xs i x y is
-
-pub get_set_other : {X : Type 0} (xs : List X) (i k : ℕ) (y : X) → k ≢ i → slice_get (set xs i y) k ≡ slice_get xs k
-get_set_other [] i k y apart = refl
-get_set_other (x ∷ xs) zero zero y apart = absurd (apart refl)
-get_set_other (x ∷ xs) zero (suc k) y apart = refl
-get_set_other (x ∷ xs) (suc i) zero y apart = refl
-get_set_other (x ∷ xs) (suc i) (suc k) y apart = get_set_other xs i k y (λ e. apart (ap suc e))
 
 -- a fact of all first halves, at a place
 pub first_half : {X : Type 0} (P : ℕ → Type 0) (xs : List (ℕ × X)) (k : ℕ) (d : ℕ × X) → All P (map (λ (d : ℕ × X). d.0) xs) → slice_get xs k ≡ Some d → P d.0

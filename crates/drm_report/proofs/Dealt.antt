@@ -1,27 +1,16 @@
 -- Jobs are dealt one by one.
-use Rattle.std.proofs.Common.{◌≡◌, ◌≢◌, ◌==◌, ◌%◌, ◌+◌, ℕ, zero, suc, Bool, true, false, List, [], ◌∷◌, ◌++◌, length, set, Some, slice_get, refl, sym, ap, ◌∙◌, subst, arith, inl, inr, eq-eqb, ne_eqb, All}
+use Rattle.std.proofs.Common.{◌≡◌, ◌==◌, ◌%◌, ◌+◌, ℕ, Bool, true, false, List, [], ◌∷◌, ◌++◌, length, set, Some, slice_get, sym, ap, ◌∙◌, subst, arith, inl, inr, eq-eqb, ne_eqb, All}
 use Rattle.std.specs.Prelude.{if◌then◌else◌}
 use Rattle.std.proofs.lemmas.Bool.{cases_eq}
 use Rattle.std.proofs.lemmas.Option.{slice_get_within, get_or_from_slice_get}
 use Rattle.std.proofs.lemmas.List.{append_assoc, append-nil, length-set}
+use Rattle.drm_lists.proofs.Changed.{get_set_same, get_set_other}
 use Rattle.drm_report.specs.Shares.{share_from, share_of, AreShares}
 
 -- there are n lists, and each becomes its submitter's share with what the rest gives it
 abbrev pub FitRest : {J V : Type 0} → (V → List J) → ℕ → ℕ → List J → List J → List V → Type 0
 FitRest items n place jobs rest shares =
     (length shares ≡ n) × ((s : ℕ) (v : _) → slice_get shares s ≡ Some v → items v ++ share_from n s place rest ≡ share_of n s jobs)
-
-pub get_set_same : {X : Type 0} (xs : List X) (i : ℕ) (x y : X) → slice_get xs i ≡ Some x → slice_get (set xs i y) i ≡ Some y
-get_set_same [] i x y is = absurd (cc (is))
-get_set_same (z ∷ xs) zero x y is = refl
-get_set_same (z ∷ xs) (suc i) x y is = get_set_same xs i x y is
-
-pub get_set_other : {X : Type 0} (xs : List X) (i k : ℕ) (y : X) → k ≢ i → slice_get (set xs i y) k ≡ slice_get xs k
-get_set_other [] i k y apart = refl
-get_set_other (x ∷ xs) zero zero y apart = absurd (apart refl)
-get_set_other (x ∷ xs) zero (suc k) y apart = refl
-get_set_other (x ∷ xs) (suc i) zero y apart = refl
-get_set_other (x ∷ xs) (suc i) (suc k) y apart = get_set_other xs i k y (λ e. apart (ap suc e))
 
 -- at first all lists are empty
 pub none_dealt : {J V : Type 0} (items : V → List J) (n : ℕ) (jobs : List J) (shares : List V) → length shares ≡ n → All (λ v. items v ≡ []) shares

@@ -4,9 +4,9 @@ use Rattle.std.specs.Prelude.{if◌then◌else◌}
 use Rattle.std.specs.List.{filter}
 use Rattle.std.proofs.lemmas.Bool.{cases_eq}
 use Rattle.std.proofs.lemmas.Option.{slice_get_within, slice_get-get_or}
+use Rattle.drm_lists.proofs.Changed.{get_set_same, get_set_other}
 use Rattle.drm_state.specs.declared.journal.JobRecord.{JobRecord}
 use Rattle.drm_report.specs.Reports.{records_of, AreCounts}
-use Rattle.drm_report.proofs.Dealt.{get_set_same, get_set_other}
 
 -- what is counted, with what is left to count, is what there is
 abbrev pub Tally : List JobRecord → ℕ → List ℕ → Type 0

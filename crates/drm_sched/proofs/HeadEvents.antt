@@ -4,6 +4,7 @@ use Rattle.std.specs.Prelude.{is_none}
 use Rattle.std.specs.Option.{option_map_or}
 use Rattle.std.specs.List.{filter}
 use Rattle.std.proofs.lemmas.Bool.{cases_eq, ne_eqb, eq-eqb}
+use Rattle.drm_lists.proofs.Changed.{get_set_same, get_set_other}
 use Rattle.drm_types.specs.declared.outcome.Outcome.{Outcome}
 use Rattle.drm_types.specs.declared.outcome.Outcome.TheVariants as outcome
 use Rattle.drm_types.specs.Firsts.{first, when}
@@ -37,7 +38,6 @@ use Rattle.drm_state.proofs.ChoiceIs.{choice_is}
 use Rattle.drm_state.proofs.PickLawful.{not_met, given}
 use Rattle.drm_table.proofs.TableFacts.{neither}
 use Rattle.drm_sched.proofs.HeadChoice.{first_is}
-use Rattle.drm_state.proofs.Pairs.{get_set_same, get_set_other}
 use Rattle.drm_table.proofs.Queues.{waits_in, IsFront, front_is, head_numbered}
 use Rattle.drm_state.proofs.RanLawful.{current_is, one_more_ran}
 use Rattle.drm_state.proofs.Records.{changed_is, at_test}

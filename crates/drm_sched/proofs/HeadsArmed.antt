@@ -5,6 +5,7 @@ use Rattle.std.specs.List.{filter, enumerate_from}
 use Rattle.std.proofs.lemmas.Bool.{cases_eq, ne_eqb, eq-eqb}
 use Rattle.std.proofs.lemmas.List.Elements.{All-contains}
 use Rattle.std.proofs.lemmas.Option.{slice_get_within}
+use Rattle.drm_lists.proofs.Changed.{get_set_same, get_set_other}
 use Rattle.drm_types.specs.declared.spec.DeviceSpec.{DeviceSpec}
 use Rattle.drm_types.specs.Firsts.{first}
 use Rattle.drm_job.specs.declared.Draft.{Draft}
@@ -27,7 +28,6 @@ use Rattle.drm_table.proofs.Candidates.{queued_goes_on}
 use Rattle.drm_sched.proofs.HeadChoice.{first_is}
 use Rattle.drm_sched.proofs.HeadsKept.{told_alike, but_key, but_watched, no_head_stands, stopped_key, stopped_watched, empty_key, empty_watched}
 use Rattle.drm_sched.proofs.HeadsLeft.{LeavesHead, heads_alike, same_heads_itself, left_key, left_watched, keep_all}
-use Rattle.drm_state.proofs.Pairs.{get_set_same, get_set_other}
 use Rattle.drm_state.proofs.Pending.{contains_at}
 use Rattle.drm_table.proofs.Queues.{waits_in}
 use Rattle.drm_state.proofs.Records.{stands_within}

@@ -2,6 +2,7 @@
 use Rattle.std.proofs.Common.{◌≡◌, ℕ, zero, suc, ◌<◌, true, false, ◌∷◌, ◌++◌, ◌&&◌, ◌==◌, List, [], replicate, length, Some, None, Result, Ok, Err, refl, sym, ap, subst, ◌∙◌, arith, slice_get}
 use Rattle.std.specs.List.{count_by}
 use Rattle.std.proofs.lemmas.List.{length-map, length-replicate}
+use Rattle.drm_lists.proofs.Changed.{get_set_same}
 use Rattle.drm_types.specs.declared.spec.DeviceSpec.{DeviceSpec}
 use Rattle.drm_types.specs.Firsts.{first, is_nil, when}
 use Rattle.drm_entity.specs.Rows.{queue_at}
@@ -34,7 +35,6 @@ use Rattle.drm_sched.specs.Begun.{HasReported}
 use Rattle.drm_sched.specs.Calls.{StepIs, TimeoutIs, CancelIs}
 use Rattle.drm_sched.specs.Heads.{HeadsStand, HeadsStandBut}
 use Rattle.drm_sched.specs.Parts.{marked_of, IsWholeMarked}
-use Rattle.drm_state.proofs.Pairs.{get_set_same}
 use Rattle.drm_table.proofs.ArmDone.{few_entities}
 use Rattle.drm_table.proofs.TableFacts.{entity_there}
 use Rattle.drm_sched.proofs.Calls.{after_call, left_by}

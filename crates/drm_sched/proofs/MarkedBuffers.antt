@@ -3,6 +3,7 @@ use Rattle.std.proofs.Common.{◌≡◌, ◌≢◌, ℕ, zero, suc, ◌<◌, Boo
 use Rattle.std.specs.Option.{option_map_or}
 use Rattle.std.specs.Prelude.{Contains}
 use Rattle.std.proofs.lemmas.Bool.{eqb-true, cases_eq}
+use Rattle.drm_lists.proofs.Changed.{get_set_same, get_set_other}
 use Rattle.drm_buffer.specs.Stored.{set_out}
 use Rattle.drm_packet.specs.declared.Packet.{Packet}
 use Rattle.drm_packet.specs.declared.Packet.TheVariants.{Fill, Copy, Add, Stall}
@@ -11,7 +12,6 @@ use Rattle.drm_packet.specs.Parts.{target_of, source_of}
 use Rattle.drm_packet.proofs.InStores.{apart_buffers, target_touched, source_touched, set_out_other, get_same}
 use Rattle.drm_sched.specs.Marks.{Mark, MarkedDevice, mark_of, out_by, begun_device}
 use Rattle.drm_sched.specs.Parts.{HasOut}
-use Rattle.drm_state.proofs.Pairs.{get_set_other, get_set_same}
 use Rattle.drm_state.proofs.Records.{stands_within}
 
 -- what a packet touches it writes or reads

@@ -4,6 +4,7 @@ use Rattle.std.specs.Option.{option_map_or}
 use Rattle.std.specs.Prelude.{◌&&◌, ◌==◌, is_none, nat_lt, find, option_map}
 use Rattle.std.proofs.lemmas.Bool.{both_ways, not-false, cases_eq, ne_eqb}
 use Rattle.std.proofs.lemmas.Option.{slice_get_within}
+use Rattle.drm_lists.proofs.Changed.{get_set_other}
 use Rattle.drm_types.specs.Firsts.{when, first}
 use Rattle.drm_types.specs.declared.outcome.Outcome.TheVariants as outcome
 use Rattle.drm_buffer.specs.Memory.{bytes_of}
@@ -27,7 +28,6 @@ use Rattle.drm_state.specs.Outcomes.{hung as hung_record, condemned, at_record, 
 use Rattle.drm_state.specs.Steady.{IsSteady}
 use Rattle.drm_sched.specs.Marks.{Mark, MarkedDevice, mark_of, out_by, ring_out, IsOut, IsSteadyMarked}
 use Rattle.drm_state.proofs.Records.{changed_is, to_map}
-use Rattle.drm_state.proofs.Pairs.{get_set_other}
 use Rattle.drm_state.proofs.Pending.{contains_at}
 use Rattle.drm_state.proofs.RanLawful.{current_is, is_going}
 use Rattle.drm_state.proofs.FinishLawful.{IsHead, head_is, finish_is, ended}

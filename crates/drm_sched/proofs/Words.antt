@@ -28,13 +28,13 @@ use Rattle.drm_state.specs.Reservation.{Fits}
 use Rattle.drm_state.specs.Ring.{limit_of, head_of, current_of, age_of, is_guilty, is_stopped}
 use Rattle.drm_state.specs.State.{DeviceState}
 use Rattle.std.proofs.lemmas.Option.{slice_get_within}
+use Rattle.drm_lists.proofs.Changed.{get_set_same, get_set_other}
 use Rattle.drm_table.proofs.ArmDone.{may_arm}
 use Rattle.drm_state.proofs.ChoiceIs.{choice_is}
 use Rattle.drm_state.proofs.Covering.{not_declared}
 use Rattle.drm_state.specs.Events.{IsKept}
 use Rattle.drm_state.proofs.DeviceSteps.{not_when}
 use Rattle.drm_state.proofs.FitsKept.{fits_kept, unused_fits, get_at_push}
-use Rattle.drm_state.proofs.Pairs.{get_set_same, get_set_other}
 use Rattle.drm_state.proofs.PickLawful.{given}
 use Rattle.drm_state.proofs.ReapLawful.{reapable}
 use Rattle.drm_state.proofs.Records.{changed_is}

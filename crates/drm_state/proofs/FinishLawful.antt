@@ -4,6 +4,7 @@ use Rattle.std.specs.Option.{option_map_or}
 use Rattle.std.specs.Prelude.{Contains, sum_by, min, if◌then◌else◌}
 use Rattle.std.proofs.lemmas.Bool.{both_ways, and_parts, or_cases, or_right, not-true, cases_Bool, eqb-true, leb-true, cases_eq}
 use Rattle.std.proofs.lemmas.List.Sums.{sum_by-cons}
+use Rattle.drm_lists.proofs.Changed.{get_set_other, get_set_cases, set_same}
 use Rattle.drm_types.specs.declared.outcome.Outcome.{Outcome}
 use Rattle.drm_types.specs.declared.outcome.Outcome.TheVariants as outcome
 use Rattle.drm_serial.specs.Serial.{serial}
@@ -18,16 +19,10 @@ use Rattle.drm_state.specs.Outcomes.{final_outcome, finished_device}
 use Rattle.drm_state.specs.Lawful.{EachTwo, HasRightOutcome, IsSound, IsPendingList, IsOnce, ComesInOrder, KeepsEntityOrder, IsLawfulRing, IsLawfulDevice}
 use Rattle.drm_state.specs.Steady.{MustFollow, BeginsMet, StandsInOrder, IsSteady, StaysHome, IsRingOf}
 use Rattle.drm_state.proofs.Records.{turn_of, to_map, changed_is, turns_changed}
-use Rattle.drm_state.proofs.Pairs.{get_set_other, get_set_cases, each_two_set, sum_by_agree}
+use Rattle.drm_state.proofs.Pairs.{each_two_set, sum_by_agree}
 use Rattle.drm_state.proofs.Pending.{contains_at, place_of, credits_kept}
 use Rattle.drm_state.proofs.RingChange.{ring_there, ring_changed_count, pending_here, pending_there, ring_lawful_by, first_is}
 use Rattle.drm_state.proofs.RanLawful.{scheduled_from}
-
--- a write of what stands there changes nothing
-pub set_same : {X : Type 0} (xs : List X) (i : ℕ) (x : X) → slice_get xs i ≡ Some x → set xs i x ≡ xs
-set_same [] i x is = refl
-set_same (y ∷ ys) zero x is = let same : y ≡ x = cc (is) in ap (λ z. z ∷ ys) (sym same)
-set_same (y ∷ ys) (suc i) x is = ap (λ zs. y ∷ zs) (set_same ys i x is)
 
 -- the record of a job that ended
 abbrev pub ended : Outcome → JobRecord → JobRecord

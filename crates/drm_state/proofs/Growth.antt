@@ -3,6 +3,7 @@ use Rattle.std.proofs.Common.{◌≡◌, ℕ, ◌+◌, ◌≤◌, true, false, �
 use Rattle.std.specs.Option.{option_map_or}
 use Rattle.std.specs.Prelude.{IsTrue}
 use Rattle.std.proofs.lemmas.Bool.{both_ways, or_parts, or_right, cases_eq}
+use Rattle.drm_lists.proofs.Changed.{get_set_same, get_set_other}
 use Rattle.drm_packet.specs.declared.Packet.{Packet}
 use Rattle.drm_types.specs.declared.outcome.Outcome.{Outcome}
 use Rattle.drm_job.specs.declared.Draft.{Draft}
@@ -20,7 +21,6 @@ use Rattle.drm_types.specs.Priorities.{rank_of}
 use Rattle.drm_reset.specs.Blame.{one_more, blamed}
 use Rattle.drm_state.specs.Grows.{GoesOn, RecordGrows, EntityGrows, EachInPlace, Grows}
 use Rattle.drm_state.proofs.Records.{to_map, changed_is}
-use Rattle.drm_state.proofs.Pairs.{get_set_same, get_set_other}
 use Rattle.drm_state.proofs.RanLawful.{one_more_ran}
 use Rattle.drm_state.proofs.FinishLawful.{ended}
 use Rattle.drm_state.proofs.PickLawful.{given}

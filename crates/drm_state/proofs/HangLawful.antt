@@ -4,6 +4,7 @@ use Rattle.std.specs.Option.{option_map_or}
 use Rattle.std.specs.Prelude.{sum_by, min}
 use Rattle.std.proofs.lemmas.Bool.{or_cases, or_left, or_right, cases_eq}
 use Rattle.std.proofs.lemmas.List.{length-set}
+use Rattle.drm_lists.proofs.Changed.{get_set_cases, set_same}
 use Rattle.drm_types.specs.declared.outcome.Outcome.TheVariants.{Good, Cancelled, Stopped}
 use Rattle.drm_serial.specs.Serial.{serial}
 use Rattle.drm_fence.specs.declared.phase.Phase.{Phase}
@@ -17,10 +18,9 @@ use Rattle.drm_state.specs.Outcomes.{cancelled_device, hung, hung_device, condem
 use Rattle.drm_state.specs.Lawful.{EachTwo, HasRightOutcome, IsSound, IsPendingList, ComesInOrder, KeepsEntityOrder, IsLawfulDevice}
 use Rattle.drm_state.specs.Steady.{BeginsMet, StandsInOrder, IsSteady, StaysHome, IsRingOf}
 use Rattle.drm_state.proofs.Records.{turn_of, from_map, to_map, changed_is, turns_changed}
-use Rattle.drm_state.proofs.Pairs.{get_set_cases, each_two_set, sum_by_agree}
+use Rattle.drm_state.proofs.Pairs.{each_two_set, sum_by_agree}
 use Rattle.drm_state.proofs.Pending.{pending_kept, credits_kept}
 use Rattle.drm_state.proofs.RingChange.{ring_there, ring_changed_count, pending_here, pending_there, ring_lawful_by}
-use Rattle.drm_state.proofs.FinishLawful.{set_same}
 
 pub entity_changed_count : (entities : List EntityState) (e : ℕ) (change : EntityState → EntityState) → length (entity_changed entities e change) ≡ length entities
 entity_changed_count entities e change =

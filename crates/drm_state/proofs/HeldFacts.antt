@@ -7,6 +7,7 @@ use Rattle.std.specs.Vec.{with_items}
 use Rattle.std.proofs.lemmas.List.{length-map, with_items_is}
 use Rattle.std.proofs.lemmas.Option.{slice_get_within, slice_get-get_or}
 use Rattle.std.proofs.lemmas.Bool.{cases_eq}
+use Rattle.drm_lists.proofs.Changed.{get_set_same, get_set_other}
 use Rattle.drm_types.specs.declared.access.Usage.{Usage}
 use Rattle.drm_job.specs.declared.Draft.{Draft}
 use Rattle.drm_fence.specs.declared.timeline.FenceState.{FenceState}
@@ -23,7 +24,6 @@ use Rattle.drm_state.specs.Reservation.{usage_at, is_signaled, Fits}
 use Rattle.drm_state.specs.Records.{fence_state_of}
 use Rattle.drm_state.proofs.Alike.{ended_alike, list_ext}
 use Rattle.drm_state.proofs.FitsKept.{armed_fits}
-use Rattle.drm_state.proofs.Pairs.{get_set_same, get_set_other}
 use Rattle.drm_state.proofs.Records.{to_map, from_map}
 
 -- one more use was added

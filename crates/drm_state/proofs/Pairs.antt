@@ -1,34 +1,9 @@
 -- Lists in which one element changes, and the first element that passes a test.
-use Rattle.std.proofs.Common.{◌≡◌, ◌≢◌, ℕ, zero, suc, ◌+◌, ◌<◌, Bool, true, false, cond, List, [], ◌∷◌, set, Some, refl, sym, ap, subst, ◌∙◌, inl, inr, ◌⊎◌, arith, slice_get}
+use Rattle.std.proofs.Common.{◌≡◌, ℕ, zero, suc, ◌+◌, ◌<◌, Bool, true, false, cond, List, [], ◌∷◌, set, Some, refl, sym, ap, subst, ◌∙◌, inl, inr, arith, slice_get}
 use Rattle.std.specs.Prelude.{find, fold}
-use Rattle.std.proofs.lemmas.Bool.{cases_eq}
+use Rattle.drm_lists.proofs.Changed.{get_set_cases}
 use Rattle.drm_state.specs.declared.journal.JobRecord.{JobRecord}
 use Rattle.drm_state.specs.Lawful.{EachTwo}
-
--- what stands at the changed place
-pub get_set_same : {X : Type 0} (xs : List X) (i : ℕ) (x y : X) → slice_get xs i ≡ Some x → slice_get (set xs i y) i ≡ Some y
-get_set_same [] i x y is = absurd (cc (is))
-get_set_same (z ∷ xs) zero x y is = refl
-get_set_same (z ∷ xs) (suc i) x y is = get_set_same xs i x y is
-
--- what stands at other places
-pub get_set_other : {X : Type 0} (xs : List X) (i k : ℕ) (y : X) → k ≢ i → slice_get (set xs i y) k ≡ slice_get xs k
-get_set_other [] i k y apart = refl
-get_set_other (x ∷ xs) zero zero y apart = absurd (apart refl)
-get_set_other (x ∷ xs) zero (suc k) y apart = refl
-get_set_other (x ∷ xs) (suc i) zero y apart = refl
-get_set_other (x ∷ xs) (suc i) (suc k) y apart = get_set_other xs i k y (λ e. apart (ap suc e))
-
--- what stands somewhere after a change is the new element, or stood there before
-pub get_set_cases : {X : Type 0} (xs : List X) (i k : ℕ) (x y z : X) → slice_get xs i ≡ Some x → slice_get (set xs i y) k ≡ Some z
-    → ((k ≡ i) × (z ≡ y)) ⊎ ((k ≢ i) × (slice_get xs k ≡ Some z))
-get_set_cases xs i k x y z at is =
-    elim (cases_eq k i) [
-      | inl same ↦
-          let here : slice_get (set xs i y) k ≡ Some y = subst (λ n. slice_get (set xs i y) n ≡ Some y) (sym same) (get_set_same xs i x y at) in
-          inl (same, cc (here, is))
-      | inr apart ↦ inr (apart, sym (get_set_other xs i k y apart) ∙ is)
-    ]
 
 -- a relation of each two records survives a change of one
 pub each_two_set : (journal : List JobRecord) (f : ℕ) (r new : JobRecord) (Related : ℕ → JobRecord → ℕ → JobRecord → Type 0)

@@ -4,10 +4,10 @@ use Rattle.std.specs.Prelude.{Contains}
 use Rattle.std.specs.Option.{option_map_or}
 use Rattle.std.proofs.lemmas.Bool.{cases_eq}
 use Rattle.std.proofs.lemmas.Option.{slice_get_within, get_or_from_slice_get, slice_get-get_or}
+use Rattle.drm_lists.proofs.Changed.{get_set_same, get_set_other, get_set_cases}
 use Rattle.drm_fence.specs.declared.phase.Phase.TheVariants.{Scheduled}
 use Rattle.drm_state.specs.declared.journal.JobRecord.{JobRecord}
 use Rattle.drm_state.specs.Lawful.{IsPendingList}
-use Rattle.drm_state.proofs.Pairs.{get_set_same, get_set_other, get_set_cases}
 
 -- what stands at a place is in the list
 pub contains_at : {X : Type 0} (xs : List X) (k : ℕ) (x : X) → slice_get xs k ≡ Some x → Contains xs x

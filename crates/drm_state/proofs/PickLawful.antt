@@ -6,6 +6,7 @@ use Rattle.std.proofs.lemmas.Bool.{both_ways, or_from, cases_Bool, cases_eq}
 use Rattle.std.proofs.lemmas.List.Sums.{sum_by_push}
 use Rattle.std.proofs.lemmas.List.Elements.{Contains-push, Contains-push_cases, Contains-append_left}
 use Rattle.std.proofs.lemmas.Option.{slice_get_within}
+use Rattle.drm_lists.proofs.Changed.{get_set_same, get_set_other, get_set_cases, set_same}
 use Rattle.drm_serial.specs.Serial.{serial}
 use Rattle.drm_fence.specs.declared.phase.Phase.{Phase}
 use Rattle.drm_fence.specs.declared.phase.Phase.TheVariants.{Queued, Scheduled, Ended}
@@ -19,10 +20,9 @@ use Rattle.drm_state.specs.Outcomes.{picked_device}
 use Rattle.drm_state.specs.Lawful.{EachTwo, IsSound, IsPendingList, IsOnce, ComesInOrder, KeepsEntityOrder, IsLawfulRing, IsLawfulDevice}
 use Rattle.drm_state.specs.Steady.{MustFollow, BeginsMet, StandsInOrder, IsSteady, StaysHome, IsRingOf}
 use Rattle.drm_state.proofs.Records.{turn_of, to_map, changed_is, turns_changed}
-use Rattle.drm_state.proofs.Pairs.{get_set_same, get_set_other, get_set_cases, each_two_set, sum_by_agree}
+use Rattle.drm_state.proofs.Pairs.{each_two_set, sum_by_agree}
 use Rattle.drm_state.proofs.Pending.{contains_at, credits_kept}
 use Rattle.drm_state.proofs.RingChange.{ring_there, ring_changed_count, pending_here, pending_there, ring_lawful_by}
-use Rattle.drm_state.proofs.FinishLawful.{set_same}
 use Rattle.drm_state.proofs.ChoiceIs.{IsChosen}
 
 -- the record of a job that was given to its ring

@@ -5,11 +5,11 @@ use Rattle.std.specs.Prelude.{sum_by}
 use Rattle.std.proofs.lemmas.List.{length-set}
 use Rattle.std.proofs.lemmas.Option.{slice_get-get_or}
 use Rattle.std.proofs.Common.{get_or}
+use Rattle.drm_lists.proofs.Changed.{get_set_same, get_set_other}
 use Rattle.drm_state.specs.State.{RingState, DeviceState}
 use Rattle.drm_types.specs.Firsts.{first}
 use Rattle.drm_state.specs.Ring.{pending_of, credits_of, credit_limit_of, ring_changed}
 use Rattle.drm_state.specs.Lawful.{IsPendingList, IsOnce, IsLawfulRing}
-use Rattle.drm_state.proofs.Pairs.{get_set_same, get_set_other}
 
 -- the state of a ring that is there
 pub ring_there : (d : DeviceState) (ring : ℕ) → length d.rings ≡ length d.spec.rings → ring < length d.spec.rings

@@ -1,11 +1,12 @@
 -- A pick of a choice that fits is the pick of its definition, and keeps the tables whole.
-use Rattle.std.proofs.Common.{◌≡◌, ℕ, zero, suc, ◌+◌, ◌<◌, ◌≤◌, Bool, true, false, not, ◌||◌, List, [], ◌∷◌, length, get_or, map, set, min, Some, None, Option, refl, sym, ap, subst, ◌∙◌, inl, inr, ◌⊎◌, arith, slice_get, ◌++◌}
+use Rattle.std.proofs.Common.{◌≡◌, ℕ, zero, suc, ◌<◌, ◌≤◌, Bool, true, false, not, ◌||◌, List, [], ◌∷◌, length, get_or, map, set, min, Some, None, Option, refl, sym, ap, subst, ◌∙◌, inl, inr, ◌⊎◌, arith, slice_get, ◌++◌}
 use Rattle.std.specs.declared.alloc.Global.{Global}
 use Rattle.std.specs.Prelude.{vec_capacity, Vec, sum_by, nat_lt, nat_le, ◌||◌, ◌==◌, IfSome, IfNone}
 use Rattle.std.specs.Option.{option_map_or}
 use Rattle.std.proofs.lemmas.Option.{slice_get_within, slice_get-get_or}
 use Rattle.std.proofs.lemmas.List.Sums.{sum_by-cons}
 use Rattle.std.proofs.lemmas.Bool.{cases_Bool, and_parts, leb-true, ltb-false, ltb-true, lt-ltb, eqb-false}
+use Rattle.drm_lists.proofs.Changed.{get_set_other}
 use Rattle.drm_types.specs.declared.spec.DeviceSpec.{DeviceSpec}
 use Rattle.drm_types.specs.declared.spec.RingSpec.{RingSpec}
 use Rattle.drm_types.specs.declared.spec.EntitySpec.{EntitySpec}
@@ -44,7 +45,6 @@ use Rattle.drm_table.proofs.Queues.{head_numbered, stands_popped, IsPopped}
 use Rattle.drm_state.specs.Rows.{is_open, passed_of, passed_row, ring_state_of}
 use Rattle.drm_table.proofs.RowsKept.{rows_changed, row_job, passes_at_row, credits_put}
 use Rattle.drm_state.proofs.Passing.{passed_same, passed_longer}
-use Rattle.drm_state.proofs.Pairs.{get_set_other}
 use Rattle.drm_ring.specs.Counted.{Counted, taken}
 
 -- a ring of a device has a credit at least

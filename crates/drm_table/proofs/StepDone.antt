@@ -29,8 +29,8 @@ use Rattle.drm_state.proofs.Passing.{passed_grows}
 use Rattle.std.proofs.lemmas.Bool.{or_cases, or_left, or_right, leb-true, le-leb}
 use Rattle.std.specs.Prelude.{nat_le}
 use Rattle.std.specs.Option.{option_map_or}
+use Rattle.drm_lists.proofs.Changed.{get_set_other}
 use Rattle.drm_state.specs.Journal.{is_complete}
-use Rattle.drm_state.proofs.Pairs.{get_set_other}
 
 -- the tables after the step
 abbrev pub ran_tables : Table → ℕ → JobRecord → ℕ → Stored → Fences → List RingRow → Table

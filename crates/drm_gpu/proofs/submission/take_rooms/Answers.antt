@@ -3,8 +3,8 @@ use Rattle.std.specs.Prelude.{IsTrue}
 use Rattle.std.proofs.lemmas.Option.{slice_get_within, slice_get-get_or}
 use mathlib.Core.Logic.{dite}
 use native.Mathlib.Decide.{ℕ_discrete}
+use Rattle.drm_lists.proofs.Changed.{get_set_same, get_set_other}
 use Rattle.drm_resv.specs.Reservation.{WithRoom}
-use Rattle.drm_gpu.proofs.Lists.{get_set_other, get_set_same}
 use Rattle.drm_gpu.proofs.Rooms.{kept_set}
 use Rattle.drm_gpu.proofs.submission.take_rooms.Goals as goal
 

@@ -1,8 +1,8 @@
 use Rattle.std.proofs.Common.{◌≡◌, ◌∙◌, sym, refl, slice_get, Some, get_or, arith}
 use Rattle.std.proofs.lemmas.Option.{slice_get_within, slice_get-get_or}
+use Rattle.drm_lists.proofs.Changed.{get_set_other}
 use Rattle.drm_fence.specs.Fences.{has_ended_at}
 use Rattle.drm_state.proofs.HeldFacts.{held_next}
-use Rattle.drm_state.proofs.Pairs.{get_set_other}
 use Rattle.drm_state.proofs.uses.add_held_uses.Goals as goal
 
 pub add_use-requires-clause-room : goal.add_use-requires-clause-room

@@ -1,9 +1,10 @@
 use Rattle.std.proofs.Common.{◌≡◌, ◌-◌, List, get_or, Some, refl, sym, ap, ◌∙◌, arith}
 use Rattle.std.specs.Prelude.{vec_capacity}
 use Rattle.std.proofs.lemmas.Option.{slice_get-get_or, get_or_from_slice_get}
+use Rattle.drm_lists.proofs.Changed.{set_same}
 use Rattle.drm_entity.specs.declared.entities.Links.{Links}
 use Rattle.drm_entity.proofs.Seen.{link_at, queue_is, first_fits, shown}
-use Rattle.drm_entity.proofs.Changed.{linked_popped, popped_rest, changed_is, set_same}
+use Rattle.drm_entity.proofs.Changed.{linked_popped, popped_rest, changed_is}
 use Rattle.drm_entity.specs.Rows.{EntityRow}
 use Rattle.drm_entity.specs.Linked.{walk, queue_of}
 use Rattle.drm_entity.proofs.entities.Entities.pop.Goals as goal
