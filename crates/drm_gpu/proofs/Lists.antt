@@ -2,11 +2,11 @@
 use Rattle.std.proofs.Common.{◌≡◌, ◌≢◌, ℕ, zero, suc, List, [], ◌∷◌, ◌++◌, length, map, drop, get_or, refl, sym, ap, ◌∙◌, subst, ⊎_elim, inl, inr, ◌⊎◌, arith, Bool, eq-eqb, ne_eqb, Some, slice_get}
 use Rattle.std.specs.Prelude.{if◌then◌else◌, All, Contains}
 use Rattle.std.proofs.lemmas.List.Elements.{All-head, All-tail}
-use Rattle.std.proofs.lemmas.Option.{slice_get_within, get_or_from_slice_get, slice_get-get_or}
 use mathlib.Core.Logic.{dite}
 use mathlib.Core.Option.{some, some-injective, some-ne-none}
 use native.Mathlib.Decide.{ℕ_discrete}
 use lib.ListN.{get_elem?}
+use Rattle.drm_lists.proofs.Places.{contains_at, place_of}
 use Rattle.ww_lock.specs.Held.{IsSameKeys, Lacks}
 use Rattle.ww_lock.specs.Rule.{In}
 use Rattle.ww_lock.specs.Steps.{without, number_of}
@@ -53,12 +53,6 @@ module _ {A : Type 0} where
   slice_of [] k x e = absurd (some-ne-none x (sym e))
   slice_of (y ∷ xs) zero x e = ap Some (some-injective y x e)
   slice_of (y ∷ xs) (suc k) x e = slice_of xs k x e
-
-  pub contains_at : (xs : List A) (k : ℕ) (x : A) → slice_get xs k ≡ Some x → Contains xs x
-  contains_at xs k x is = (k, slice_get_within xs k x is, get_or_from_slice_get xs k x x is)
-
-  pub place_of : (xs : List A) (x : A) → Contains xs x → (k : ℕ) × (slice_get xs k ≡ Some x)
-  place_of xs x c = (c.0, slice_get-get_or xs c.0 x c.1 ∙ ap Some c.2)
 
   -- what is in a list is contained in it, by either word
   pub in_contains : (xs : List A) (x : A) → In x xs → Contains xs x

@@ -1,8 +1,9 @@
 -- The numbers that a chain of calls has armed rise. Where there are as many as records, they are the records' numbers.
-use Rattle.std.proofs.Common.{◌≡◌, ◌<◌, ◌≤◌, ◌+◌, ℕ, Bool, true, false, List, [], ◌∷◌, ◌++◌, arith, suc, zero, refl, sym, ap, ◌∙◌, subst, length, Some, inl, inr, slice_get}
+use Rattle.std.proofs.Common.{◌≡◌, ◌<◌, ◌≤◌, ◌+◌, ℕ, Bool, true, false, List, [], ◌∷◌, ◌++◌, arith, suc, zero, refl, sym, ap, ◌∙◌, subst, length, inl, inr}
 use Rattle.std.specs.Prelude.{nat_lt, if◌then◌else◌}
 use Rattle.std.proofs.lemmas.Bool.{ltb-true}
 use Rattle.std.proofs.lemmas.Option.{slice_get_within}
+use Rattle.drm_lists.proofs.Places.{stands_within}
 use Rattle.drm_job.specs.declared.Draft.{Draft}
 use Rattle.ww_lock.specs.Rule.{In}
 use Rattle.ww_lock.specs.Steps.{IsChain}
@@ -19,11 +20,6 @@ AllBelow high (x ∷ xs) = (x < high) × AllBelow high xs
 -- how many records a device has
 abbrev pub count_of : MarkedDevice → ℕ
 count_of d = length d.state.journal
-
-stands_within : {X : Type 0} (xs : List X) (i : ℕ) → i < length xs → (x : X) × (slice_get xs i ≡ Some x)
-stands_within [] i lt = absurd (omega (arith, lt))
-stands_within (x ∷ xs) zero lt = (x, refl)
-stands_within (x ∷ xs) (suc i) lt = stands_within xs i (omega (arith, lt))
 
 -- a device that grew has no fewer records
 pub longer : (d e : MarkedDevice) → GrowsTo d e → count_of d ≤ count_of e

@@ -1,15 +1,8 @@
--- Up to which place a ring has passed over its jobs, and what is lent of a list.
-use Rattle.std.proofs.Common.{◌≡◌, ℕ, ◌+◌, ◌≤◌, Bool, true, false, List, length, Option, Some, None, Bor, sym, ap, subst, ◌∙◌, inl, inr, arith, slice_get}
-use Rattle.std.specs.Option.{option_copied}
-use Rattle.std.specs.Slice.{IsItemAt}
-use Rattle.std.proofs.lemmas.Bool.{cases_eq, ltb-true, ltb-false}
-use Rattle.std.proofs.lemmas.Option.{slice_get-get_or, slice_get_past, slice_get_within}
+-- Up to which place a ring has passed over its jobs.
+use Rattle.std.proofs.Common.{◌≡◌, ℕ, ◌+◌, ◌≤◌, Bool, true, false, List, length, Some, subst, inl, inr, arith, slice_get}
+use Rattle.std.proofs.lemmas.Bool.{cases_eq}
+use Rattle.std.proofs.lemmas.Option.{slice_get_within}
 use Rattle.drm_ring.specs.RingRows.{HasPassed, PassesTo}
-
--- what is lent of a list
-pub lent_is : (xs : List ℕ) (i : ℕ) (r : Option (Bor ℕ)) → IsItemAt xs i r → option_copied r ≡ slice_get xs i
-lent_is xs i None is = sym (slice_get_past xs i (ltb-false i (length xs) (sym is.0)))
-lent_is xs i (Some x) is = sym (slice_get-get_or xs i x.now (ltb-true i (length xs) (sym is.0)) ∙ ap Some (sym is.1))
 
 -- nothing was passed over so far
 pub passed_none : (Answers : ℕ → Bool → Type 0) (xs : List ℕ) (from : ℕ) → from ≤ length xs → HasPassed Answers xs from from

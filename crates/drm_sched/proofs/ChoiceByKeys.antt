@@ -2,6 +2,7 @@
 use Rattle.std.proofs.Common.{◌≡◌, ℕ, ◌+◌, ◌<◌, Bool, true, false, ◌&&◌, ◌||◌, ◌==◌, List, [], ◌∷◌, ◌++◌, Some, None, Option, refl, sym, ap, subst, ◌∙◌, arith, slice_get}
 use Rattle.std.specs.Prelude.{IsTrue, filter, nat_lt, option_map}
 use Rattle.std.proofs.lemmas.Bool.{and_parts, and_from, or_right, both_ways, eq-eqb, lt-ltb}
+use Rattle.drm_lists.proofs.Places.{get_numbered}
 use Rattle.drm_types.specs.Firsts.{first}
 use Rattle.drm_types.specs.Priorities.{rank_of}
 use Rattle.drm_types.specs.declared.spec.Priority.{Priority}
@@ -14,7 +15,7 @@ use Rattle.drm_state.specs.Journal.{numbered}
 use Rattle.drm_state.specs.Order.{is_ready}
 use Rattle.drm_state.specs.Choice.{is_head_of, may_begin, ready_heads, choice}
 use Rattle.drm_state.proofs.Found.{find_at, find_none, first_map}
-use Rattle.drm_state.proofs.ChoiceIs.{is_ready_head, numbered_get, get_numbered, first-filter}
+use Rattle.drm_state.proofs.ChoiceIs.{is_ready_head, numbered_get, first-filter}
 
 -- the entity's head was answered true, and each that comes before it false
 pub record IsFirstReady (Answers : ℕ → Bool → Type 0) (device : DeviceState) (ring entity : ℕ) : Type 0 where

@@ -5,6 +5,7 @@ use Rattle.std.specs.Option.{option_map_or}
 use Rattle.std.specs.List.{list_all}
 use Rattle.std.proofs.lemmas.Bool.{and_parts, and_from, eqb-true, eq-eqb, ne_eqb}
 use Rattle.std.proofs.lemmas.Option.{slice_get_within}
+use Rattle.drm_lists.proofs.Places.{stands_within}
 use Rattle.drm_types.specs.declared.spec.EntitySpec.{EntitySpec}
 use Rattle.drm_types.specs.Firsts.{first}
 use Rattle.drm_types.specs.Priorities.{rank_of}
@@ -28,7 +29,6 @@ use Rattle.drm_sched.specs.Watching.{pair_of, unmet_pairs, watched_of}
 use Rattle.drm_table.proofs.Candidates.{head_number, ready_by_waits}
 use Rattle.drm_sched.proofs.ChoiceByKeys.{IsFirstReady, AnswersReady, choice_is_first, choice_is_none}
 use Rattle.drm_table.proofs.Queues.{IsFront, front_is, head_numbered}
-use Rattle.drm_state.proofs.Records.{stands_within}
 use Rattle.drm_sched.proofs.Watching.{unmet_is}
 
 -- an answer whether the entity's head waits for nothing

@@ -5,6 +5,7 @@ use Rattle.std.specs.List.{filter, enumerate_from}
 use Rattle.std.proofs.lemmas.Bool.{cases_eq, ne_eqb, eq-eqb}
 use Rattle.std.proofs.lemmas.List.Elements.{All-contains}
 use Rattle.std.proofs.lemmas.Option.{slice_get_within}
+use Rattle.drm_lists.proofs.Places.{stands_within, contains_at, get_before_push}
 use Rattle.drm_lists.proofs.Changed.{get_set_same, get_set_other}
 use Rattle.drm_types.specs.declared.spec.DeviceSpec.{DeviceSpec}
 use Rattle.drm_types.specs.Firsts.{first}
@@ -23,14 +24,11 @@ use Rattle.drm_state.specs.Ring.{is_stopped, entity_changed}
 use Rattle.drm_state.specs.State.{EntityState, DeviceState}
 use Rattle.drm_state.specs.Waits.{IsDependency}
 use Rattle.drm_sched.specs.Watching.{pair_of, unmet_pairs, watched_of}
-use Rattle.drm_state.proofs.ArmLawful.{get_before_push}
 use Rattle.drm_table.proofs.Candidates.{queued_goes_on}
 use Rattle.drm_sched.proofs.HeadChoice.{first_is}
 use Rattle.drm_sched.proofs.HeadsKept.{told_alike, but_key, but_watched, no_head_stands, stopped_key, stopped_watched, empty_key, empty_watched}
 use Rattle.drm_sched.proofs.HeadsLeft.{LeavesHead, heads_alike, same_heads_itself, left_key, left_watched, keep_all}
-use Rattle.drm_state.proofs.Pending.{contains_at}
 use Rattle.drm_table.proofs.Queues.{waits_in}
-use Rattle.drm_state.proofs.Records.{stands_within}
 
 -- an entity without a head may be left out
 pub stand_but : (d : DeviceState) (waits : List (List (ℕ × ℕ))) (entity : ℕ) (h : Heads) → HeadsStand d waits h

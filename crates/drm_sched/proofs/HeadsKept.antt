@@ -25,12 +25,12 @@ use Rattle.drm_table.specs.Tables.{IsWhole}
 use Rattle.drm_state.specs.Waits.{IsDependency}
 use Rattle.drm_fence.specs.Phases.{has_ended}
 use Rattle.std.proofs.lemmas.Option.{slice_get_within}
+use Rattle.drm_lists.proofs.Places.{stands_within, at_index}
 use Rattle.drm_lists.proofs.Changed.{get_set_cases}
 use Rattle.drm_entity.specs.Rows.{queue_at}
 use Rattle.drm_table.proofs.Queues.{IsFront, front_is, head_is_first}
 use Rattle.drm_table.proofs.TableFacts.{entity_there, entity_row_there}
 use Rattle.drm_sched.proofs.HeadChoice.{keys_there, watched_is}
-use Rattle.drm_state.proofs.Records.{stands_within, at_index}
 use Rattle.drm_sched.proofs.Watching.{left_of, forgotten, kept_of}
 
 -- the same keys and pairs, told in other words

@@ -5,6 +5,7 @@ use Rattle.std.specs.List.{filter, enumerate_from}
 use Rattle.std.proofs.lemmas.Bool.{cases_Bool, cases_eq, eq-eqb, and_parts, ltb-true, ltb-false}
 use Rattle.std.proofs.lemmas.List.{length-set, length-map}
 use Rattle.std.proofs.lemmas.Option.{slice_get_past}
+use Rattle.drm_lists.proofs.Places.{stands_within, to_map}
 use Rattle.drm_lists.proofs.Changed.{get_set_same, get_set_other}
 use Rattle.drm_types.specs.declared.spec.DeviceSpec.{DeviceSpec}
 use Rattle.drm_types.specs.Firsts.{first}
@@ -21,7 +22,6 @@ use Rattle.drm_state.specs.State.{DeviceState}
 use Rattle.drm_sched.specs.Watching.{pair_of, unmet_pairs, watched_of}
 use Rattle.drm_sched.proofs.HeadsKept.{told_alike, but_key, but_watched}
 use Rattle.drm_table.proofs.Queues.{waits_in}
-use Rattle.drm_state.proofs.Records.{stands_within, to_map}
 
 -- what stays of the head of an entity: its job, on its ring. A fence is met that was met, and those that `Met` tells
 pub record LeavesHead (d n : DeviceState) (Met : ℕ → ℕ → Bool) (entity : ℕ) : Type 0 where

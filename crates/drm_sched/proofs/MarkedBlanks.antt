@@ -3,12 +3,13 @@ use Rattle.std.proofs.Common.{◌≡◌, ℕ, zero, suc, map, length, replicate,
 use Rattle.std.specs.Option.{option_map_or}
 use Rattle.std.specs.Prelude.{option_map}
 use Rattle.std.proofs.lemmas.List.{length-map, length-replicate}
+use Rattle.drm_lists.proofs.Places.{map_to_same}
 use Rattle.drm_sched.specs.declared.parts.Parts.{Parts}
 use Rattle.drm_sched.specs.Marks.{Mark, MarkedDevice, mark_of, unmarked}
 use Rattle.drm_sched.specs.Parts.{mark_of_row, marked_of, IsWholeMarked}
 use Rattle.drm_state.specs.Rows.{ring_state_of}
 use Rattle.drm_table.specs.Tables.{state_of, IsWhole, AllIn}
-use Rattle.drm_table.proofs.Blanks.{map_to_same, map_same}
+use Rattle.drm_table.proofs.Blanks.{map_same}
 
 -- a device of whose rings none is marked
 pub blank_marks : (d : Parts) → d.marks.items ≡ replicate (length d.table.rings) None → marked_of d ≡ unmarked (state_of d.table)

@@ -3,6 +3,7 @@ use Rattle.std.proofs.Common.{◌≡◌, ◌≢◌, ℕ, zero, suc, ◌<◌, Boo
 use Rattle.std.specs.Option.{option_map_or}
 use Rattle.std.specs.Prelude.{Contains}
 use Rattle.std.proofs.lemmas.Bool.{eqb-true, cases_eq}
+use Rattle.drm_lists.proofs.Places.{stands_within}
 use Rattle.drm_lists.proofs.Changed.{get_set_same, get_set_other}
 use Rattle.drm_buffer.specs.Stored.{set_out}
 use Rattle.drm_packet.specs.declared.Packet.{Packet}
@@ -12,7 +13,6 @@ use Rattle.drm_packet.specs.Parts.{target_of, source_of}
 use Rattle.drm_packet.proofs.InStores.{apart_buffers, target_touched, source_touched, set_out_other, get_same}
 use Rattle.drm_sched.specs.Marks.{Mark, MarkedDevice, mark_of, out_by, begun_device}
 use Rattle.drm_sched.specs.Parts.{HasOut}
-use Rattle.drm_state.proofs.Records.{stands_within}
 
 -- what a packet touches it writes or reads
 touched_cases : (p : Packet) (b : ℕ) → Contains (touches p) b → (target_of p ≡ Some b) ⊎ (source_of p ≡ Some b)

@@ -5,6 +5,7 @@ use Rattle.std.specs.List.{list_any}
 use Rattle.std.specs.Prelude.{Contains}
 use Rattle.std.proofs.lemmas.Bool.{both_ways, eqb-true}
 use Rattle.std.proofs.lemmas.List.Folds.{Any-from_list_any}
+use Rattle.drm_lists.proofs.Places.{place_of}
 use Rattle.drm_buffer.specs.Stored.{Stored, is_out_of}
 use Rattle.drm_job.proofs.Apart.{any_from}
 use Rattle.drm_packet.specs.declared.Packet.{Packet}
@@ -16,7 +17,6 @@ use Rattle.drm_table.specs.Outside.{next_asks_out}
 use Rattle.drm_state.specs.Outcomes.{next_packet}
 use Rattle.drm_state.specs.Ring.{current_of}
 use Rattle.drm_table.specs.Tables.{state_of, NextIsIn}
-use Rattle.drm_state.proofs.Pending.{place_of}
 use Rattle.drm_table.proofs.Stored.{next_there, same_count}
 use Rattle.drm_sched.proofs.MarksKept.{is_out_at}
 

@@ -4,6 +4,7 @@ use Rattle.std.specs.Option.{option_map_or}
 use Rattle.std.specs.Prelude.{option_map, Contains}
 use Rattle.std.proofs.lemmas.List.{map-set, length-map}
 use Rattle.std.proofs.lemmas.Option.{slice_get-get_or}
+use Rattle.drm_lists.proofs.Places.{to_map}
 use Rattle.drm_buffer.specs.Memory.{bytes_of}
 use Rattle.drm_packet.specs.Parts.{target_of, part_effect}
 use Rattle.drm_state.specs.declared.answer.Answer.TheVariants as answer
@@ -18,7 +19,6 @@ use Rattle.drm_table.specs.Outside.{ComesBack, IsBack}
 use Rattle.drm_state.specs.Outcomes.{next_packet, ran_device}
 use Rattle.drm_state.specs.State.{DeviceState}
 use Rattle.drm_table.specs.Tables.{state_of}
-use Rattle.drm_state.proofs.Records.{to_map}
 use Rattle.drm_sched.proofs.Marks.{report_is_step}
 use Rattle.drm_sched.proofs.MarksKept.{touches_out}
 use Rattle.drm_sched.proofs.MarksOther.{mark_there}

@@ -5,6 +5,7 @@ use Rattle.std.specs.List.{list_any}
 use Rattle.std.specs.Prelude.{Contains, option_map}
 use Rattle.std.proofs.lemmas.Bool.{both_ways, eqb-true, eq-eqb, cases_eq}
 use Rattle.std.proofs.lemmas.List.{map-set}
+use Rattle.drm_lists.proofs.Places.{stands_within}
 use Rattle.drm_lists.proofs.Changed.{get_set_same, get_set_other}
 use Rattle.drm_job.proofs.Apart.{any_from}
 use Rattle.drm_packet.specs.Touches.{touches}
@@ -17,7 +18,7 @@ use Rattle.drm_sched.specs.Parts.{mark_of_row, marked_of, HasOut, IsWholeMarked}
 use Rattle.drm_table.specs.Outside.{IsBack}
 use Rattle.drm_state.specs.Outcomes.{next_packet, ran_device}
 use Rattle.drm_table.specs.Tables.{state_of, IsWhole}
-use Rattle.drm_state.proofs.Records.{changed_is, stands_within}
+use Rattle.drm_state.proofs.Records.{changed_is}
 use Rattle.drm_state.proofs.RanLawful.{one_more_ran}
 use Rattle.drm_sched.proofs.MarksKept.{touches_out, same_packet, reported_steady}
 use Rattle.drm_sched.proofs.MarksOther.{mark_there}

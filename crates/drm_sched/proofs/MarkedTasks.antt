@@ -3,6 +3,7 @@
 use Rattle.std.proofs.Common.{◌≡◌, ℕ, ◌<◌, ◌∙◌, length, set, Some, None, Option, Result, Ok, Err, sym, ap, subst, slice_get}
 use Rattle.std.specs.Option.{option_map_or}
 use Rattle.std.specs.Prelude.{IfOk, option_map}
+use Rattle.drm_lists.proofs.Places.{stands_within}
 use Rattle.drm_lists.proofs.Changed.{get_set_same, get_set_other}
 use Rattle.drm_state.specs.declared.errors.StepError.{StepError}
 use Rattle.drm_sched.specs.declared.outside.Begun.{Begun}
@@ -12,7 +13,6 @@ use Rattle.drm_sched.specs.Begun.{HasBegun, HasReported, KeepsTasks, MayComeBack
 use Rattle.drm_sched.specs.Calls.{BeginIs}
 use Rattle.drm_packet.specs.Parts.{part_effect}
 use Rattle.drm_sched.specs.Marks.{Mark, MarkedDevice, IsBusy, mark_for, mark_of, packet_at, IsSteadyMarked}
-use Rattle.drm_state.proofs.Records.{stands_within}
 
 -- whatever the mark of the ring becomes
 still_busy : (d new : MarkedDevice) (ring : ℕ) (change : Option Mark) → new.marks ≡ set d.marks ring change → KeepsTasks d ring new

@@ -3,6 +3,7 @@ use Rattle.std.proofs.Common.{◌≡◌, ◌≢◌, ℕ, suc, ◌<◌, Bool, tru
 use Rattle.std.specs.Prelude.{Contains, find, is_none, option_map}
 use Rattle.std.specs.Option.{option_map_or}
 use Rattle.std.proofs.lemmas.List.{get_or-set_other}
+use Rattle.drm_lists.proofs.Places.{contains_at}
 use Rattle.drm_lists.proofs.Changed.{get_set_other}
 use Rattle.drm_types.specs.Firsts.{when}
 use Rattle.drm_buffer.specs.Memory.{bytes_of}
@@ -24,7 +25,6 @@ use Rattle.drm_state.specs.Outcomes.{must_stall, ran_device, stepped_by, step_ou
 use Rattle.drm_state.specs.Steady.{IsSteady}
 use Rattle.drm_sched.specs.Marks.{Mark, mark_for, IsOut}
 use Rattle.drm_state.proofs.Records.{at_test, changed_is}
-use Rattle.drm_state.proofs.Pending.{contains_at}
 use Rattle.drm_state.proofs.RanLawful.{IsCurrent, current_is, ran_steady, one_more_ran, is_going}
 
 -- the device's answer and the state that it leaves

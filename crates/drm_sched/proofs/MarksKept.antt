@@ -6,6 +6,7 @@ use Rattle.std.specs.List.{list_any}
 use Rattle.std.proofs.lemmas.Bool.{both_ways, cases_eq, eq-eqb}
 use Rattle.std.proofs.lemmas.List.{length-set}
 use Rattle.std.proofs.lemmas.Option.{slice_get_within}
+use Rattle.drm_lists.proofs.Places.{stands_within, contains_at}
 use Rattle.drm_lists.proofs.Changed.{get_set_same, get_set_other}
 use Rattle.drm_job.proofs.Apart.{any_from}
 use Rattle.drm_packet.specs.declared.Packet.{Packet}
@@ -15,8 +16,7 @@ use Rattle.drm_state.specs.State.{DeviceState}
 use Rattle.drm_state.specs.Ring.{current_of}
 use Rattle.drm_state.specs.Outcomes.{must_stall, next_packet}
 use Rattle.drm_sched.specs.Marks.{Mark, MarkedDevice, mark_of, packet_at, out_by, is_out, buffer_out, mark_for, begun_device, reported_device, IsOut, IsSteadyMarked}
-use Rattle.drm_state.proofs.Pending.{contains_at}
-use Rattle.drm_state.proofs.Records.{stands_within, changed_is}
+use Rattle.drm_state.proofs.Records.{changed_is}
 use Rattle.drm_state.proofs.RanLawful.{current_is, one_more_ran}
 use Rattle.drm_sched.proofs.Marks.{begun_is_out, report_steady, ran_leaves_out}
 

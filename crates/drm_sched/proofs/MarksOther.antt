@@ -4,6 +4,7 @@ use Rattle.std.specs.Option.{option_map_or}
 use Rattle.std.specs.Prelude.{◌&&◌, ◌==◌, is_none, nat_lt, find, option_map}
 use Rattle.std.proofs.lemmas.Bool.{both_ways, not-false, cases_eq, ne_eqb}
 use Rattle.std.proofs.lemmas.Option.{slice_get_within}
+use Rattle.drm_lists.proofs.Places.{contains_at, to_map, get_before_push}
 use Rattle.drm_lists.proofs.Changed.{get_set_other}
 use Rattle.drm_types.specs.Firsts.{when, first}
 use Rattle.drm_types.specs.declared.outcome.Outcome.TheVariants as outcome
@@ -27,15 +28,13 @@ use Rattle.drm_state.specs.Refusals.{pick_refusal, finish_refusal, reap_refusal,
 use Rattle.drm_state.specs.Outcomes.{hung as hung_record, condemned, at_record, picked_device, finished_device, final_outcome, hung_device, condemned_device, is_too_much, hang_outcome, timeout_at, pick_outcome, finish_outcome, timeout_outcome, reap_outcome, cancelled_device, ended_at}
 use Rattle.drm_state.specs.Steady.{IsSteady}
 use Rattle.drm_sched.specs.Marks.{Mark, MarkedDevice, mark_of, out_by, ring_out, IsOut, IsSteadyMarked}
-use Rattle.drm_state.proofs.Records.{changed_is, to_map}
-use Rattle.drm_state.proofs.Pending.{contains_at}
+use Rattle.drm_state.proofs.Records.{changed_is}
 use Rattle.drm_state.proofs.RanLawful.{current_is, is_going}
 use Rattle.drm_state.proofs.FinishLawful.{IsHead, head_is, finish_is, ended}
 use Rattle.drm_state.proofs.ChoiceIs.{choice_is}
 use Rattle.drm_state.proofs.PickLawful.{pick_is, not_scheduled, given}
 use Rattle.drm_state.proofs.HangLawful.{pending_after_hang}
 use Rattle.drm_state.proofs.ReapLawful.{reapable}
-use Rattle.drm_state.proofs.ArmLawful.{get_before_push}
 use Rattle.drm_state.proofs.DeviceSteps.{at_record_is, not_when, pick_kept, finish_kept, timeout_kept, reap_kept}
 use Rattle.drm_sched.proofs.Marks.{find_agree}
 

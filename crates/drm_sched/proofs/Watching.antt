@@ -11,6 +11,7 @@ use Rattle.std.proofs.lemmas.List.Elements.{All-from_get_or}
 use Rattle.std.proofs.lemmas.List.{length-map, length-take-le, take_more, map-append}
 use Rattle.std.proofs.lemmas.Map.Keys.{apart_from_distinct}
 use Rattle.std.proofs.lemmas.Option.{slice_get_within, slice_get-get_or}
+use Rattle.drm_lists.proofs.Places.{to_map, get_take}
 use Rattle.drm_resv.specs.Latest.{IsPerEntity}
 use Rattle.drm_fence.specs.declared.pair.Pair.{Pair}
 use Rattle.drm_fence.specs.Waiting.{unmet_in, HasNoPair, Waiting, without_entity}
@@ -19,9 +20,7 @@ use Rattle.drm_sched.specs.Heads.{AreWatched}
 use Rattle.drm_state.specs.Journal.{is_at}
 use Rattle.drm_state.specs.Order.{is_met}
 use Rattle.drm_sched.specs.Watching.{pair_of, unmet_pairs}
-use Rattle.drm_state.proofs.ChoiceIs.{get_take}
 use Rattle.drm_state.proofs.Pairs.{sum_by_agree}
-use Rattle.drm_state.proofs.Records.{to_map}
 
 -- tests that agree count alike
 pub count_agree : {X : Type 0} (p q : X → Bool) (xs : List X) → ((x : X) → p x ≡ q x) → count_by p xs ≡ count_by q xs

@@ -1,25 +1,15 @@
 -- Lists that have the same at each place, and the fences of the jobs of a journal.
-use Rattle.std.proofs.Common.{◌≡◌, ℕ, zero, suc, Bool, true, false, ◌||◌, List, [], ◌∷◌, length, map, set, Some, refl, sym, ap, ◌∙◌, inl, inr, arith, slice_get}
+use Rattle.std.proofs.Common.{◌≡◌, ℕ, zero, suc, Bool, true, false, ◌||◌, List, [], ◌∷◌, map, set, Some, refl, sym, ap, ◌∙◌, inl, inr, slice_get}
 use Rattle.std.specs.List.{list_any}
 use Rattle.std.specs.Option.{option_map_or}
 use Rattle.std.proofs.lemmas.List.{map-set}
 use Rattle.std.proofs.lemmas.Bool.{cases_Bool}
+use Rattle.drm_lists.proofs.Places.{to_map}
 use Rattle.drm_fence.specs.declared.timeline.FenceState.{FenceState}
 use Rattle.drm_fence.specs.Fences.{has_ended_at, fence_changed}
 use Rattle.drm_state.specs.declared.journal.JobRecord.{JobRecord}
 use Rattle.drm_state.specs.Reservation.{is_signaled}
 use Rattle.drm_state.specs.Records.{fence_state_of}
-use Rattle.drm_state.proofs.Records.{to_map}
-
--- two lists that have the same at each place are one
-pub list_ext : {X : Type 0} (xs ys : List X) → length xs ≡ length ys → ((k : ℕ) (x : X) → slice_get xs k ≡ Some x → slice_get ys k ≡ Some x) → xs ≡ ys
-list_ext [] [] count each = refl
-list_ext [] (y ∷ ys) count each = absurd (omega (arith, count))
-list_ext (x ∷ xs) [] count each = absurd (omega (arith, count))
-list_ext (x ∷ xs) (y ∷ ys) count each =
-    let first : y ≡ x = (let at = each 0 x refl in cc (at)) in
-    let rest : xs ≡ ys = list_ext xs ys (omega (arith, count)) (λ k z at. each (suc k) z at) in
-    ap (λ z. z ∷ xs) (sym first) ∙ ap (λ zs. y ∷ zs) rest
 
 -- whether a fence has an outcome, by the timeline and by the journal
 pub ended_alike : (js : List JobRecord) (fs : List FenceState) → fs ≡ map fence_state_of js → has_ended_at fs ≡ is_signaled js

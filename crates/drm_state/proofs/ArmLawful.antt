@@ -1,10 +1,11 @@
 -- An arming leads from a steady device to a steady one.
-use Rattle.std.proofs.Common.{◌≡◌, ℕ, zero, suc, ◌+◌, true, false, List, [], ◌∷◌, ◌++◌, length, Some, refl, sym, ap, subst, ◌∙◌, inl, inr, arith, slice_get}
+use Rattle.std.proofs.Common.{◌≡◌, ℕ, suc, ◌+◌, true, false, List, [], ◌∷◌, ◌++◌, length, Some, refl, sym, ap, subst, ◌∙◌, inl, inr, arith, slice_get}
 use Rattle.std.specs.Option.{option_map_or}
 use Rattle.std.specs.Prelude.{sum_by, min, fold}
 use Rattle.std.proofs.lemmas.List.{map-append}
 use Rattle.std.proofs.lemmas.List.Sums.{fold_push}
 use Rattle.std.proofs.lemmas.Option.{slice_get_within}
+use Rattle.drm_lists.proofs.Places.{contains_at, get_before_push, get_push_cases}
 use Rattle.drm_job.specs.declared.Draft.{Draft}
 use Rattle.drm_job.specs.Fault.{IsJob}
 use Rattle.drm_serial.specs.Serial.{after_turn, serial}
@@ -17,16 +18,8 @@ use Rattle.drm_state.specs.Ring.{pending_of, credits_of, credit_limit_of}
 use Rattle.drm_state.specs.Lawful.{EachTwo, IsSound, IsPendingList, ComesInOrder, KeepsEntityOrder}
 use Rattle.drm_state.specs.Steady.{BeginsMet, StandsInOrder, IsSteady, StaysHome, IsRingOf}
 use Rattle.drm_state.proofs.Records.{turn_of}
-use Rattle.drm_state.proofs.Pending.{contains_at}
 use Rattle.drm_state.proofs.RingChange.{ring_lawful_by}
-use Rattle.drm_state.proofs.PickLawful.{get_push_cases}
 use Rattle.drm_state.proofs.Homes.{arming_home, arming_listed}
-
--- what stands in a list stands there with one more at its end
-pub get_before_push : {X : Type 0} (xs : List X) (y : X) (k : ℕ) (x : X) → slice_get xs k ≡ Some x → slice_get (xs ++ y ∷ []) k ≡ Some x
-get_before_push [] y k x is = absurd (cc (is))
-get_before_push (z ∷ zs) y zero x is = is
-get_before_push (z ∷ zs) y (suc k) x is = get_before_push zs y k x is
 
 -- a relation of each two records, with one record more
 pub each_two_push : (journal : List JobRecord) (new : JobRecord) (Related : ℕ → JobRecord → ℕ → JobRecord → Type 0) → EachTwo journal Related

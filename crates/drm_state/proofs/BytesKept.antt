@@ -7,6 +7,7 @@ use Rattle.std.proofs.lemmas.Bool.{cases_Bool, or_left, or_right}
 use Rattle.std.proofs.lemmas.List.{take_more, length-map}
 use Rattle.std.proofs.lemmas.List.Sums.{fold_push, fold-append}
 use Rattle.std.proofs.lemmas.Option.{slice_get_within, get_or_from_slice_get}
+use Rattle.drm_lists.proofs.Places.{stands_within, to_map, from_map, get_numbered}
 use Rattle.drm_types.specs.declared.access.Access.{Access}
 use Rattle.drm_types.specs.declared.access.Access.TheVariants as access
 use Rattle.drm_types.specs.declared.access.Usage.{Usage}
@@ -31,8 +32,8 @@ use Rattle.drm_state.specs.Reservation.{usage_at, arms}
 use Rattle.drm_state.specs.State.{DeviceState}
 use Rattle.drm_state.specs.Readers.{StaysHeld, BytesStay}
 use Rattle.drm_state.specs.Writers.{is_writer, HaveEnded}
-use Rattle.drm_state.proofs.ChoiceIs.{numbered_get, get_numbered}
-use Rattle.drm_state.proofs.Records.{turn_of, from_map, to_map, stands_within}
+use Rattle.drm_state.proofs.ChoiceIs.{numbered_get}
+use Rattle.drm_state.proofs.Records.{turn_of}
 use Rattle.drm_state.proofs.TurnsAlike.{AreAlike, Touched, turn_alike, turn_leaves, turn_count, turns_leave}
 
 -- a job writes a buffer where its packets may

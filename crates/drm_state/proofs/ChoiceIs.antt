@@ -5,6 +5,7 @@ use Rattle.std.specs.Prelude.{Contains, filter, find}
 use Rattle.std.specs.List.{list_all, enumerate_from, flat_map}
 use Rattle.std.proofs.lemmas.Bool.{and_parts, eqb-true, cases_Bool, both_ways, and_from, eq-eqb}
 use Rattle.std.proofs.lemmas.List.Elements.{All-contains, All-filter, All-contains_itself, filter_passes, Contains-append_cases}
+use Rattle.drm_lists.proofs.Places.{contains_at, place_of, from_map, get_numbered, get_take}
 use Rattle.drm_types.specs.declared.spec.Priority.{Priority}
 use Rattle.drm_types.specs.declared.spec.Priority.TheVariants.{Kernel, High, Normal, Low}
 use Rattle.drm_state.specs.declared.journal.JobRecord.{JobRecord}
@@ -14,9 +15,7 @@ use Rattle.drm_fence.specs.Phases.{is_queued}
 use Rattle.drm_state.specs.Order.{comes_after, is_met, is_ready}
 use Rattle.drm_state.specs.Choice.{is_head_of, may_begin, ready_heads, choice}
 use Rattle.drm_types.specs.Firsts.{first}
-use Rattle.drm_state.proofs.Records.{from_map}
 use Rattle.drm_state.proofs.Pairs.{find_first}
-use Rattle.drm_state.proofs.Pending.{contains_at, place_of}
 use Rattle.drm_state.proofs.RingChange.{first_is}
 
 -- a numbered record stands at its number
@@ -27,22 +26,6 @@ numbered_get (x ∷ xs) n zero e is =
     let same : ◌≡◌ {A = ℕ × JobRecord} (n, x) e = cc (is) in (omega (arith, ap (λ (p : ℕ × JobRecord). p.0) same), ap (λ (p : ℕ × JobRecord). Some p.1) same)
 numbered_get (x ∷ xs) n (suc k) e is =
     let r = numbered_get xs (n + 1) k e is in (omega (arith, r.0), r.1)
-
--- and the other way round
-pub get_numbered : {X : Type 0} (xs : List X) (n k : ℕ) (x : X) → slice_get xs k ≡ Some x → slice_get (enumerate_from n xs) k ≡ Some (n + k, x)
-get_numbered [] n k x is = absurd (cc (is))
-get_numbered (y ∷ xs) n zero x is =
-    let same : y ≡ x = cc (is) in
-    let number : n ≡ n + 0 = omega arith in ap (λ z. Some (n, z)) same ∙ ap (λ m. Some (m, x)) number
-get_numbered (y ∷ xs) n (suc k) x is =
-    let number : (n + 1) + k ≡ n + suc k = omega arith in get_numbered xs (n + 1) k x is ∙ ap (λ m. Some (m, x)) number
-
-pub get_take : {X : Type 0} (xs : List X) (n k : ℕ) → k < n → slice_get (take n xs) k ≡ slice_get xs k
-get_take [] zero k lt = absurd (omega (arith, lt))
-get_take [] (suc n) k lt = refl
-get_take (x ∷ xs) zero k lt = absurd (omega (arith, lt))
-get_take (x ∷ xs) (suc n) zero lt = refl
-get_take (x ∷ xs) (suc n) (suc k) lt = get_take xs n k (omega (arith, lt))
 
 -- the first that a filter keeps is the first that is found
 pub first-filter : {X : Type 0} (p : X → Bool) (xs : List X) → first (filter p xs) ≡ find p xs

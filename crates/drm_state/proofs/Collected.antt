@@ -3,6 +3,7 @@ use Rattle.std.proofs.Common.{◌≡◌, ℕ, ◌+◌, ◌<◌, List, [], ◌∷
 use Rattle.std.specs.Prelude.{Contains}
 use Rattle.std.proofs.lemmas.List.{take_more, map-append}
 use Rattle.std.proofs.lemmas.List.Elements.{All-nil, All-weaker, Contains-push, Contains-push_cases, Contains-append_left}
+use Rattle.drm_lists.proofs.Places.{contains_at, place_of}
 use Rattle.drm_types.specs.declared.access.Access.{Access}
 use Rattle.drm_types.specs.Usages.{wanted_usage}
 use Rattle.drm_job.specs.declared.Draft.{Draft}
@@ -15,7 +16,6 @@ use Rattle.drm_state.specs.Collected.{IsAsked, IsCollected}
 use Rattle.drm_state.specs.Held.{kept_of}
 use Rattle.drm_state.proofs.HeldFacts.{kept_with}
 use Rattle.drm_state.proofs.Notes.{each_keeps, each_reaches, each_all}
-use Rattle.drm_state.proofs.Pending.{contains_at, place_of}
 
 abbrev Holds : Type 0
 Holds = List (ℕ × Reservation)

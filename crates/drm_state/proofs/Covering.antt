@@ -7,6 +7,7 @@ use Rattle.std.proofs.lemmas.List.Elements.{All-contains, All-weaker}
 use Rattle.std.proofs.lemmas.List.Folds.{Any-from_list_any}
 use Rattle.std.proofs.lemmas.Map.Keys.{apart_from_distinct, IsDistinct-tail}
 use Rattle.std.proofs.lemmas.Option.{slice_get_within, get_or_from_slice_get}
+use Rattle.drm_lists.proofs.Places.{place_of, to_map}
 use Rattle.drm_types.specs.declared.access.Access.{Access}
 use Rattle.drm_types.specs.declared.access.Usage.{Usage}
 use Rattle.drm_types.specs.declared.spec.DeviceSpec.{DeviceSpec}
@@ -32,8 +33,6 @@ use Rattle.drm_state.specs.Plans.{MeetsPlan, DepsCover}
 use Rattle.drm_state.specs.Reservation.{usage_at, stands_for, IsOfJob, Fits}
 use Rattle.drm_state.proofs.ChoiceIs.{in_filter}
 use Rattle.drm_state.proofs.FitsKept.{usage_trans}
-use Rattle.drm_state.proofs.Pending.{place_of}
-use Rattle.drm_state.proofs.Records.{to_map}
 
 -- ---- what a job declares
 

@@ -4,6 +4,7 @@ use Rattle.std.specs.Option.{option_map_or}
 use Rattle.std.specs.Prelude.{Contains, sum_by, min, if◌then◌else◌}
 use Rattle.std.proofs.lemmas.Bool.{both_ways, and_parts, or_cases, or_right, not-true, cases_Bool, eqb-true, leb-true, cases_eq}
 use Rattle.std.proofs.lemmas.List.Sums.{sum_by-cons}
+use Rattle.drm_lists.proofs.Places.{contains_at, place_of, to_map}
 use Rattle.drm_lists.proofs.Changed.{get_set_other, get_set_cases, set_same}
 use Rattle.drm_types.specs.declared.outcome.Outcome.{Outcome}
 use Rattle.drm_types.specs.declared.outcome.Outcome.TheVariants as outcome
@@ -18,9 +19,9 @@ use Rattle.drm_state.specs.Ring.{pending_of, head_of, credits_of, credit_limit_o
 use Rattle.drm_state.specs.Outcomes.{final_outcome, finished_device}
 use Rattle.drm_state.specs.Lawful.{EachTwo, HasRightOutcome, IsSound, IsPendingList, IsOnce, ComesInOrder, KeepsEntityOrder, IsLawfulRing, IsLawfulDevice}
 use Rattle.drm_state.specs.Steady.{MustFollow, BeginsMet, StandsInOrder, IsSteady, StaysHome, IsRingOf}
-use Rattle.drm_state.proofs.Records.{turn_of, to_map, changed_is, turns_changed}
+use Rattle.drm_state.proofs.Records.{turn_of, changed_is, turns_changed}
 use Rattle.drm_state.proofs.Pairs.{each_two_set, sum_by_agree}
-use Rattle.drm_state.proofs.Pending.{contains_at, place_of, credits_kept}
+use Rattle.drm_state.proofs.Pending.{credits_kept}
 use Rattle.drm_state.proofs.RingChange.{ring_there, ring_changed_count, pending_here, pending_there, ring_lawful_by, first_is}
 use Rattle.drm_state.proofs.RanLawful.{scheduled_from}
 

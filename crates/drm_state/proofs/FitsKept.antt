@@ -7,6 +7,7 @@ use Rattle.std.proofs.lemmas.Bool.{or_cases, or_left, or_right, and_parts, and_f
 use Rattle.std.proofs.lemmas.List.Elements.{All-weaker, All-from_recursion, recursion_from_All, filter_map-append}
 use Rattle.std.proofs.lemmas.Option.{slice_get_within, slice_get-get_or}
 use Rattle.std.proofs.Common.{get_or}
+use Rattle.drm_lists.proofs.Places.{get_before_push, get_push_cases}
 use Rattle.drm_types.specs.declared.access.Usage.{Usage}
 use Rattle.drm_types.specs.declared.access.Usage.TheVariants as usage
 use Rattle.drm_types.specs.Usages.{place_of, is_as_strong}
@@ -25,8 +26,6 @@ use Rattle.drm_state.specs.Arming.{new_record, armed_reservation}
 use Rattle.drm_state.specs.Grows.{GoesOn, RecordGrows, EachInPlace}
 use Rattle.drm_state.specs.Lawful.{EachTwo, KeepsEntityOrder}
 use Rattle.drm_state.proofs.Records.{at_test}
-use Rattle.drm_state.proofs.PickLawful.{get_push_cases}
-use Rattle.drm_state.proofs.ArmLawful.{get_before_push}
 
 -- the armed jobs, numbered from n on
 abbrev pub arms_from : ℕ → ℕ → List JobRecord → List (ℕ × Usage)

@@ -3,6 +3,7 @@ use Rattle.std.proofs.Common.{◌≡◌, ℕ, ◌+◌, ◌≤◌, true, false, �
 use Rattle.std.specs.Option.{option_map_or}
 use Rattle.std.specs.Prelude.{IsTrue}
 use Rattle.std.proofs.lemmas.Bool.{both_ways, or_parts, or_right, cases_eq}
+use Rattle.drm_lists.proofs.Places.{to_map, get_before_push}
 use Rattle.drm_lists.proofs.Changed.{get_set_same, get_set_other}
 use Rattle.drm_packet.specs.declared.Packet.{Packet}
 use Rattle.drm_types.specs.declared.outcome.Outcome.{Outcome}
@@ -20,11 +21,10 @@ use Rattle.drm_types.specs.declared.spec.EntitySpec.{EntitySpec}
 use Rattle.drm_types.specs.Priorities.{rank_of}
 use Rattle.drm_reset.specs.Blame.{one_more, blamed}
 use Rattle.drm_state.specs.Grows.{GoesOn, RecordGrows, EntityGrows, EachInPlace, Grows}
-use Rattle.drm_state.proofs.Records.{to_map, changed_is}
+use Rattle.drm_state.proofs.Records.{changed_is}
 use Rattle.drm_state.proofs.RanLawful.{one_more_ran}
 use Rattle.drm_state.proofs.FinishLawful.{ended}
 use Rattle.drm_state.proofs.PickLawful.{given}
-use Rattle.drm_state.proofs.ArmLawful.{get_before_push}
 
 pub goes_on_itself : (phase : Phase) → GoesOn phase phase
 goes_on_itself Queued = tt

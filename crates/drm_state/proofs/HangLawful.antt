@@ -4,6 +4,7 @@ use Rattle.std.specs.Option.{option_map_or}
 use Rattle.std.specs.Prelude.{sum_by, min}
 use Rattle.std.proofs.lemmas.Bool.{or_cases, or_left, or_right, cases_eq}
 use Rattle.std.proofs.lemmas.List.{length-set}
+use Rattle.drm_lists.proofs.Places.{to_map, from_map}
 use Rattle.drm_lists.proofs.Changed.{get_set_cases, set_same}
 use Rattle.drm_types.specs.declared.outcome.Outcome.TheVariants.{Good, Cancelled, Stopped}
 use Rattle.drm_serial.specs.Serial.{serial}
@@ -17,7 +18,7 @@ use Rattle.drm_state.specs.Ring.{pending_of, credits_of, credit_limit_of, entity
 use Rattle.drm_state.specs.Outcomes.{cancelled_device, hung, hung_device, condemned, condemned_device}
 use Rattle.drm_state.specs.Lawful.{EachTwo, HasRightOutcome, IsSound, IsPendingList, ComesInOrder, KeepsEntityOrder, IsLawfulDevice}
 use Rattle.drm_state.specs.Steady.{BeginsMet, StandsInOrder, IsSteady, StaysHome, IsRingOf}
-use Rattle.drm_state.proofs.Records.{turn_of, from_map, to_map, changed_is, turns_changed}
+use Rattle.drm_state.proofs.Records.{turn_of, changed_is, turns_changed}
 use Rattle.drm_state.proofs.Pairs.{each_two_set, sum_by_agree}
 use Rattle.drm_state.proofs.Pending.{pending_kept, credits_kept}
 use Rattle.drm_state.proofs.RingChange.{ring_there, ring_changed_count, pending_here, pending_there, ring_lawful_by}

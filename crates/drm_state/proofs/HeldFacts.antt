@@ -7,6 +7,7 @@ use Rattle.std.specs.Vec.{with_items}
 use Rattle.std.proofs.lemmas.List.{length-map, with_items_is}
 use Rattle.std.proofs.lemmas.Option.{slice_get_within, slice_get-get_or}
 use Rattle.std.proofs.lemmas.Bool.{cases_eq}
+use Rattle.drm_lists.proofs.Places.{to_map, from_map, list_ext}
 use Rattle.drm_lists.proofs.Changed.{get_set_same, get_set_other}
 use Rattle.drm_types.specs.declared.access.Usage.{Usage}
 use Rattle.drm_job.specs.declared.Draft.{Draft}
@@ -22,9 +23,8 @@ use Rattle.drm_state.specs.Lawful.{EachTwo, KeepsEntityOrder}
 use Rattle.drm_state.specs.Uses.{HasUse, HeldHaveUses}
 use Rattle.drm_state.specs.Reservation.{usage_at, is_signaled, Fits}
 use Rattle.drm_state.specs.Records.{fence_state_of}
-use Rattle.drm_state.proofs.Alike.{ended_alike, list_ext}
+use Rattle.drm_state.proofs.Alike.{ended_alike}
 use Rattle.drm_state.proofs.FitsKept.{armed_fits}
-use Rattle.drm_state.proofs.Records.{to_map, from_map}
 
 -- one more use was added
 pub held_next : (ended : ℕ → Bool) (fence : ℕ) (job : Draft) (old hs : List (ℕ × WithRoom)) (i : ℕ) (h new : ℕ × WithRoom) → slice_get old i ≡ Some h → slice_get hs i ≡ Some h

@@ -4,6 +4,7 @@ use Rattle.std.specs.Prelude.{IsTrue}
 use Rattle.std.specs.List.{list_all}
 use Rattle.std.proofs.lemmas.Bool.{and_parts, and_from, or_left, or_right, cases_eq}
 use Rattle.std.proofs.lemmas.List.Elements.{All-contains}
+use Rattle.drm_lists.proofs.Places.{contains_at, place_of, get_numbered, get_take}
 use Rattle.drm_fence.specs.Phases.{is_queued, has_ended}
 use Rattle.drm_state.specs.declared.journal.JobRecord.{JobRecord}
 use Rattle.drm_state.specs.State.{DeviceState}
@@ -12,8 +13,7 @@ use Rattle.drm_state.specs.Order.{comes_after, is_met, dependencies}
 use Rattle.drm_state.specs.Steady.{IsSteady}
 use Rattle.drm_state.specs.Waits.{IsDependency, DepsStand}
 use Rattle.drm_state.proofs.Records.{at_test}
-use Rattle.drm_state.proofs.Pending.{contains_at, place_of}
-use Rattle.drm_state.proofs.ChoiceIs.{numbered_get, get_numbered, get_take, all_of_filter, in_filter}
+use Rattle.drm_state.proofs.ChoiceIs.{numbered_get, all_of_filter, in_filter}
 
 -- all elements pass where each does, and the other way round
 pub all_from : {X : Type 0} (q : X → Bool) (xs : List X) → ((k : ℕ) (x : X) → slice_get xs k ≡ Some x → q x ≡ true) → list_all q xs ≡ true

@@ -4,6 +4,7 @@ use Rattle.std.specs.Prelude.{filter, replicate}
 use Rattle.std.proofs.lemmas.Bool.{eq-eqb, ne_eqb}
 use Rattle.std.proofs.lemmas.Option.{slice_get_within}
 use Rattle.std.proofs.lemmas.List.{map-set, map-append, length-map, length-set}
+use Rattle.drm_lists.proofs.Places.{stands_within, to_map, get_before_push, get_push_cases}
 use Rattle.drm_lists.proofs.Changed.{get_set_cases}
 use Rattle.drm_types.specs.declared.spec.DeviceSpec.{DeviceSpec}
 use Rattle.drm_fence.specs.Phases.{has_ended}
@@ -11,9 +12,6 @@ use Rattle.drm_state.specs.declared.journal.JobRecord.{JobRecord}
 use Rattle.drm_state.specs.declared.loads.Loads.{Loads}
 use Rattle.drm_state.specs.Arming.{load}
 use Rattle.drm_state.specs.Loads.{Standing, standing_of, is_live_on, owner_of, IsLastOf, LoadsStand, LoadsOf}
-use Rattle.drm_state.proofs.Records.{to_map, stands_within}
-use Rattle.drm_state.proofs.PickLawful.{get_push_cases}
-use Rattle.drm_state.proofs.ArmLawful.{get_before_push}
 
 -- ---- how many elements of a list pass a test
 

@@ -3,8 +3,8 @@ use Rattle.std.proofs.Common.{◌≡◌, ℕ, zero, suc, ◌≤◌, true, false,
 use Rattle.std.specs.Prelude.{Contains, All, fold, nat_le}
 use Rattle.std.proofs.lemmas.Bool.{eqb-true, cases_Bool, leb-true, leb-false}
 use Rattle.std.proofs.lemmas.List.Elements.{All-cons, All-head, All-tail}
+use Rattle.drm_lists.proofs.Places.{contains_at, place_of}
 use Rattle.drm_resv.specs.Latest.{noted}
-use Rattle.drm_state.proofs.Pending.{contains_at, place_of}
 
 -- a fence of the entity, no earlier
 abbrev pub Reaches : List (ℕ × ℕ) → ℕ → ℕ → Type 0

@@ -1,21 +1,11 @@
 -- Pending lists and credits under the change of one record.
 use Rattle.std.proofs.Common.{◌≡◌, ℕ, List, set, min, Some, Option, sym, ap, subst, ◌∙◌, inl, inr, slice_get}
-use Rattle.std.specs.Prelude.{Contains}
 use Rattle.std.specs.Option.{option_map_or}
 use Rattle.std.proofs.lemmas.Bool.{cases_eq}
-use Rattle.std.proofs.lemmas.Option.{slice_get_within, get_or_from_slice_get, slice_get-get_or}
 use Rattle.drm_lists.proofs.Changed.{get_set_same, get_set_other, get_set_cases}
 use Rattle.drm_fence.specs.declared.phase.Phase.TheVariants.{Scheduled}
 use Rattle.drm_state.specs.declared.journal.JobRecord.{JobRecord}
 use Rattle.drm_state.specs.Lawful.{IsPendingList}
-
--- what stands at a place is in the list
-pub contains_at : {X : Type 0} (xs : List X) (k : ℕ) (x : X) → slice_get xs k ≡ Some x → Contains xs x
-contains_at xs k x is = (k, slice_get_within xs k x is, get_or_from_slice_get xs k x x is)
-
--- what is in the list stands at a place
-pub place_of : {X : Type 0} (xs : List X) (x : X) → Contains xs x → (k : ℕ) × (slice_get xs k ≡ Some x)
-place_of xs x c = (c.0, slice_get-get_or xs c.0 x c.1 ∙ ap Some c.2)
 
 -- a record that keeps its phase and its ring stays where it was pending
 pub pending_kept : (journal : List JobRecord) (f : ℕ) (r new : JobRecord) (ring : ℕ) (numbers : List ℕ) → slice_get journal f ≡ Some r

@@ -1,11 +1,12 @@
 -- A pick leads from a steady device to a steady one.
-use Rattle.std.proofs.Common.{◌≡◌, ◌≢◌, ℕ, zero, suc, ◌<◌, ◌≤◌, true, false, not, ◌||◌, ◌&&◌, ◌==◌, List, [], ◌∷◌, ◌++◌, set, length, Some, refl, sym, ap, subst, ◌∙◌, inl, inr, ◌⊎◌, arith, slice_get}
+use Rattle.std.proofs.Common.{◌≡◌, ◌≢◌, ℕ, ◌<◌, ◌≤◌, true, false, not, ◌||◌, ◌&&◌, ◌==◌, List, [], ◌∷◌, ◌++◌, set, length, Some, refl, sym, ap, subst, ◌∙◌, inl, inr, arith, slice_get}
 use Rattle.std.specs.Option.{option_map_or}
 use Rattle.std.specs.Prelude.{Contains, sum_by, min, if◌then◌else◌}
 use Rattle.std.proofs.lemmas.Bool.{both_ways, or_from, cases_Bool, cases_eq}
 use Rattle.std.proofs.lemmas.List.Sums.{sum_by_push}
 use Rattle.std.proofs.lemmas.List.Elements.{Contains-push, Contains-push_cases, Contains-append_left}
 use Rattle.std.proofs.lemmas.Option.{slice_get_within}
+use Rattle.drm_lists.proofs.Places.{contains_at, to_map, get_push_cases}
 use Rattle.drm_lists.proofs.Changed.{get_set_same, get_set_other, get_set_cases, set_same}
 use Rattle.drm_serial.specs.Serial.{serial}
 use Rattle.drm_fence.specs.declared.phase.Phase.{Phase}
@@ -19,9 +20,9 @@ use Rattle.drm_state.specs.Ring.{pending_of, credits_of, credit_limit_of, used_c
 use Rattle.drm_state.specs.Outcomes.{picked_device}
 use Rattle.drm_state.specs.Lawful.{EachTwo, IsSound, IsPendingList, IsOnce, ComesInOrder, KeepsEntityOrder, IsLawfulRing, IsLawfulDevice}
 use Rattle.drm_state.specs.Steady.{MustFollow, BeginsMet, StandsInOrder, IsSteady, StaysHome, IsRingOf}
-use Rattle.drm_state.proofs.Records.{turn_of, to_map, changed_is, turns_changed}
+use Rattle.drm_state.proofs.Records.{turn_of, changed_is, turns_changed}
 use Rattle.drm_state.proofs.Pairs.{each_two_set, sum_by_agree}
-use Rattle.drm_state.proofs.Pending.{contains_at, credits_kept}
+use Rattle.drm_state.proofs.Pending.{credits_kept}
 use Rattle.drm_state.proofs.RingChange.{ring_there, ring_changed_count, pending_here, pending_there, ring_lawful_by}
 use Rattle.drm_state.proofs.ChoiceIs.{IsChosen}
 
@@ -49,15 +50,6 @@ pub not_met : (ring : ℕ) (r : JobRecord) → is_queued r.phase ≡ true → is
 not_met ring r queued =
     or_from (has_ended r.phase) (not (is_queued r.phase) && (r.ring == ring)) (not_ended r.phase queued)
     (ap (λ q. not q && (r.ring == ring)) queued)
-
--- what stands in a list with one more at its end
-pub get_push_cases : {X : Type 0} (xs : List X) (y : X) (k : ℕ) (x : X) → slice_get (xs ++ y ∷ []) k ≡ Some x
-    → (slice_get xs k ≡ Some x) ⊎ ((k ≡ length xs) × (x ≡ y))
-get_push_cases [] y zero x is = inr (refl, let same : y ≡ x = cc (is) in sym same)
-get_push_cases [] y (suc k) x is = absurd (cc (is))
-get_push_cases (z ∷ zs) y zero x is = inl is
-get_push_cases (z ∷ zs) y (suc k) x is =
-    elim (get_push_cases zs y k x is) [ inl old ↦ inl old | inr new ↦ inr (ap suc new.0, new.1) ]
 
 pub once_push : (xs : List ℕ) (f : ℕ) → IsOnce xs → (Contains xs f → ⊥) → IsOnce (xs ++ f ∷ [])
 once_push xs f once absent i j g at_i at_j =

@@ -4,6 +4,7 @@ use Rattle.std.specs.Option.{option_map_or}
 use Rattle.std.specs.Prelude.{find}
 use Rattle.std.specs.List.{list_any}
 use Rattle.std.proofs.lemmas.Bool.{both_ways, or_left, or_from, not-true, cases_Bool, cases_lt}
+use Rattle.drm_lists.proofs.Places.{to_map, from_map}
 use Rattle.drm_packet.specs.declared.Packet.{Packet}
 use Rattle.drm_packet.specs.Effect.{effect}
 use Rattle.drm_job.specs.Conflicts.{conflicts}
@@ -20,7 +21,7 @@ use Rattle.drm_fence.specs.Phases.{has_ended}
 use Rattle.drm_state.specs.Ring.{pending_of}
 use Rattle.drm_state.specs.Outcomes.{must_stall, ran_device, stepped_by, at_record, step_outcome}
 use Rattle.drm_state.specs.Lawful.{IsLawfulDevice, IsSound, ComesInOrder}
-use Rattle.drm_state.proofs.Records.{turn_of, from_map, to_map, at_test, turns_changed}
+use Rattle.drm_state.proofs.Records.{turn_of, at_test, turns_changed}
 
 -- the memory is that of the machine
 abbrev pub IsSerial : DeviceState → Type 0

@@ -6,6 +6,7 @@ use Rattle.std.specs.Option.{option_map_or}
 use Rattle.std.proofs.lemmas.Bool.{cases_Bool, and_parts, and_from, not-true, not-false, not_from_false, eqb-true, leb-true, cases_order}
 use Rattle.std.proofs.lemmas.List.Folds.{Any-from_list_any}
 use Rattle.std.proofs.lemmas.List.Elements.{All-contains, All-weaker, recursion_from_All}
+use Rattle.drm_lists.proofs.Places.{place_of}
 use Rattle.drm_types.specs.declared.access.Usage.{Usage}
 use Rattle.drm_types.specs.declared.access.Usage.TheVariants as usage
 use Rattle.drm_types.specs.Usages.{is_as_strong}
@@ -21,7 +22,6 @@ use Rattle.drm_resv.specs.Active.{least}
 use Rattle.drm_state.specs.Refusals.{busy_fence}
 use Rattle.drm_state.specs.Lawful.{EachTwo, KeepsEntityOrder}
 use Rattle.drm_state.proofs.Records.{at_test}
-use Rattle.drm_state.proofs.Pending.{place_of}
 use Rattle.drm_state.proofs.ChoiceIs.{all_of_filter}
 use Rattle.drm_state.proofs.FitsKept.{ended_none, usage_trans}
 

@@ -1,8 +1,9 @@
 -- Records of a journal, and their turns.
-use Rattle.std.proofs.Common.{◌≡◌, ℕ, zero, suc, ◌<◌, Bool, true, false, Option, None, List, [], ◌∷◌, length, map, set, get_or, Some, refl, sym, ap, ◌∙◌, arith, slice_get}
+use Rattle.std.proofs.Common.{◌≡◌, ℕ, Bool, true, false, Option, None, List, set, get_or, Some, refl, ap, ◌∙◌, slice_get}
 use Rattle.std.specs.Option.{option_map_or}
 use Rattle.std.proofs.lemmas.List.{map-set}
-use Rattle.std.proofs.lemmas.Option.{slice_get_within, slice_get-get_or}
+use Rattle.std.proofs.lemmas.Option.{slice_get_within}
+use Rattle.drm_lists.proofs.Places.{at_index}
 use Rattle.drm_serial.specs.Serial.{Turn}
 use Rattle.drm_state.specs.declared.journal.JobRecord.{JobRecord}
 use Rattle.drm_state.specs.Journal.{turns, is_at, changed_at}
@@ -10,25 +11,6 @@ use Rattle.drm_state.specs.Journal.{turns, is_at, changed_at}
 -- the turn of a record
 abbrev pub turn_of : JobRecord → Turn
 turn_of r = record { job = r.job; ran = r.ran }
-
--- what stands in a mapped list comes from what stands in the list
-pub from_map : {X Y : Type 0} (v : X → Y) (xs : List X) (k : ℕ) (y : Y) → slice_get (map v xs) k ≡ Some y
-    → (x : X) × (slice_get xs k ≡ Some x) × (y ≡ v x)
-from_map v [] k y is = absurd (cc (is))
-from_map v (x ∷ xs) zero y is = (x, refl, cc (is))
-from_map v (x ∷ xs) (suc k) y is = from_map v xs k y is
-
--- and the other way round
-pub to_map : {X Y : Type 0} (v : X → Y) (xs : List X) (k : ℕ) (x : X) → slice_get xs k ≡ Some x → slice_get (map v xs) k ≡ Some (v x)
-to_map v [] k x is = absurd (cc (is))
-to_map v (y ∷ xs) zero x is = let same : y ≡ x = cc (is) in ap (λ z. Some (v z)) same
-to_map v (y ∷ xs) (suc k) x is = to_map v xs k x is
-
--- what stands at a place within the list
-pub stands_within : {X : Type 0} (xs : List X) (i : ℕ) → i < length xs → (x : X) × (slice_get xs i ≡ Some x)
-stands_within [] i lt = absurd (omega (arith, lt))
-stands_within (x ∷ xs) zero lt = (x, refl)
-stands_within (x ∷ xs) (suc i) lt = stands_within xs i (omega (arith, lt))
 
 -- a change of a record that is there
 pub changed_is : (journal : List JobRecord) (f : ℕ) (r : JobRecord) (change : JobRecord → JobRecord) → slice_get journal f ≡ Some r
@@ -44,10 +26,6 @@ at_test journal f r test is = ap (λ o. option_map_or test o false) is
 pub turns_changed : (journal : List JobRecord) (f : ℕ) (r : JobRecord) (change : JobRecord → JobRecord) → slice_get journal f ≡ Some r
     → turns (changed_at journal f change) ≡ set (turns journal) f (turn_of (change r))
 turns_changed journal f r change is = ap turns (changed_is journal f r change is) ∙ map-set turn_of journal f (change r)
-
--- what an index gave stands there
-pub at_index : {X : Type 0} (xs : List X) (i : ℕ) (x : X) → x ≡ get_or xs i x → i < length xs → slice_get xs i ≡ Some x
-at_index xs i x is lt = slice_get-get_or xs i x lt ∙ ap (λ z. Some z) (sym is)
 
 -- a test that is passed at a number finds a record there
 pub passes_at : (js : List JobRecord) (f : ℕ) (test : JobRecord → Bool) → is_at js f test ≡ true → (r : JobRecord) × (slice_get js f ≡ Some r) × (test r ≡ true)

@@ -8,6 +8,7 @@ use Rattle.std.proofs.lemmas.Bool.{cases_Bool, or_left, or_right, eqb-true, eq-e
 use Rattle.std.proofs.lemmas.Option.{slice_get_within}
 use Rattle.std.proofs.lemmas.List.{map-append, length-append}
 use Rattle.std.proofs.lemmas.List.Elements.{All-weaker}
+use Rattle.drm_lists.proofs.Places.{stands_within, get_before_push, get_push_cases}
 use Rattle.drm_types.specs.declared.spec.DeviceSpec.{DeviceSpec}
 use Rattle.drm_types.specs.declared.spec.EntitySpec.{EntitySpec}
 use Rattle.drm_types.specs.Firsts.{when, first}
@@ -36,15 +37,14 @@ use Rattle.drm_state.specs.Loads.{LoadsOf}
 use Rattle.drm_state.specs.Records.{fence_state_of}
 use Rattle.drm_table.specs.Tables.{state_of, IsWhole}
 use Rattle.drm_state.specs.Plans.{MeetsPlan, DepsCover, all_named, entity_at}
-use Rattle.drm_state.proofs.PickLawful.{get_push_cases}
 use Rattle.drm_table.proofs.PickDone.{rings_there}
 use Rattle.drm_state.proofs.Homes.{arming_listed, listed_there}
 use Rattle.drm_state.proofs.LoadsKept.{loads_armed}
-use Rattle.drm_state.proofs.ArmLawful.{arm_steady, get_before_push}
+use Rattle.drm_state.proofs.ArmLawful.{arm_steady}
 use Rattle.drm_state.proofs.DeviceSteps.{not_when}
 use Rattle.drm_table.proofs.TableFacts.{entity_row_there}
 use Rattle.drm_table.proofs.Queues.{marks_pushed, stands_pushed}
-use Rattle.drm_state.proofs.Records.{stands_within, at_test}
+use Rattle.drm_state.proofs.Records.{at_test}
 use Rattle.drm_state.proofs.Notes.{Reaches, each_keeps, each_reaches, each_all}
 use Rattle.drm_state.specs.Rows.{is_open}
 use Rattle.drm_table.proofs.RowsKept.{rows_same}

@@ -2,6 +2,7 @@
 use Rattle.std.proofs.Common.{◌≡◌, ℕ, zero, suc, false, List, [], ◌∷◌, map, length, replicate, Some, None, refl, sym, ap, subst, ◌∙◌, arith, slice_get}
 use Rattle.std.specs.Prelude.{sum_by}
 use Rattle.std.specs.Option.{option_map_or}
+use Rattle.drm_lists.proofs.Places.{map_to_same}
 use Rattle.drm_types.specs.Limits.{spec_fault}
 use Rattle.drm_types.specs.declared.spec.RingSpec.{RingSpec}
 use Rattle.drm_types.specs.declared.spec.DeviceSpec.{DeviceSpec}
@@ -22,11 +23,6 @@ use Rattle.drm_state.proofs.LoadsKept.{loads_blank}
 use Rattle.drm_state.proofs.Opening.{opened_steady}
 use Rattle.drm_ring.specs.Counted.{Counted}
 use Rattle.drm_state.specs.Ring.{credit_limit_of, credits_of}
-
--- the same for each element
-pub map_to_same : {X Y : Type 0} (y : Y) (xs : List X) → map (λ x. y) xs ≡ replicate (length xs) y
-map_to_same y [] = refl
-map_to_same y (x ∷ xs) = ap (λ ys. y ∷ ys) (map_to_same y xs)
 
 pub map_same : {X Y : Type 0} (f : X → Y) (n : ℕ) (x : X) → map f (replicate n x) ≡ replicate n (f x)
 map_same f zero x = refl

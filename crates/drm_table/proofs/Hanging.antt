@@ -30,7 +30,7 @@ use Rattle.drm_state.proofs.CallsAre.{Left, at_record_there}
 use Rattle.drm_state.specs.Events.{IsKept}
 use Rattle.drm_state.proofs.DeviceSteps.{timeout_kept}
 use Rattle.drm_state.proofs.FinishLawful.{IsHead, head_is}
-use Rattle.drm_state.proofs.Records.{stands_within, at_test, changed_is, to_map, at_index}
+use Rattle.drm_state.proofs.Records.{at_test, changed_is}
 use Rattle.drm_state.proofs.Pending.{pending_kept}
 use Rattle.drm_state.proofs.Condemning.{condemned_among}
 use Rattle.drm_state.proofs.LoadsKept.{loads_same, loads_set}
@@ -40,6 +40,7 @@ use Rattle.drm_state.specs.Rows.{is_open, passed_of, passed_row, ring_state_of}
 use Rattle.drm_table.proofs.RowsKept.{open_set, rows_changed, passes_at_row, passed_alike, credits_alike}
 use Rattle.drm_state.proofs.Passing.{passed_grows}
 use Rattle.std.proofs.lemmas.Bool.{cases_eq, ne_eqb}
+use Rattle.drm_lists.proofs.Places.{stands_within, at_index, to_map}
 use Rattle.drm_lists.proofs.Changed.{get_set_same, get_set_other, set_same}
 use Rattle.drm_fence.specs.Phases.{is_scheduled}
 

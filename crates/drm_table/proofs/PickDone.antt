@@ -6,6 +6,7 @@ use Rattle.std.specs.Option.{option_map_or}
 use Rattle.std.proofs.lemmas.Option.{slice_get_within, slice_get-get_or}
 use Rattle.std.proofs.lemmas.List.Sums.{sum_by-cons}
 use Rattle.std.proofs.lemmas.Bool.{cases_Bool, and_parts, leb-true, ltb-false, ltb-true, lt-ltb, eqb-false}
+use Rattle.drm_lists.proofs.Places.{at_index, contains_at}
 use Rattle.drm_lists.proofs.Changed.{get_set_other}
 use Rattle.drm_types.specs.declared.spec.DeviceSpec.{DeviceSpec}
 use Rattle.drm_types.specs.declared.spec.RingSpec.{RingSpec}
@@ -32,8 +33,7 @@ use Rattle.drm_state.specs.Outcomes.{pick_outcome, picked_device}
 use Rattle.drm_state.specs.Loads.{Standing, LoadsOf}
 use Rattle.drm_state.specs.Records.{fence_state_of}
 use Rattle.drm_table.specs.Tables.{state_of, IsWhole}
-use Rattle.drm_state.proofs.Records.{changed_is, at_index}
-use Rattle.drm_state.proofs.Pending.{contains_at}
+use Rattle.drm_state.proofs.Records.{changed_is}
 use Rattle.drm_state.specs.Events.{IsKept}
 use Rattle.drm_state.proofs.DeviceSteps.{pick_kept, not_when}
 use Rattle.drm_state.proofs.ChoiceIs.{IsChosen, choice_is}

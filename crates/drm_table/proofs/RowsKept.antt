@@ -14,11 +14,11 @@ use Rattle.drm_state.specs.Ring.{pending_of, credits_of, credit_limit_of, free_c
 use Rattle.drm_state.specs.Rows.{is_open, RowStands, RowsStand, passed_of, ring_state_of}
 use Rattle.drm_table.specs.Tables.{state_of, IsWhole}
 use Rattle.drm_table.proofs.TableFacts.{row_found}
-use Rattle.drm_state.proofs.Records.{at_test, to_map, at_index}
-use Rattle.drm_state.proofs.Pending.{contains_at}
+use Rattle.drm_state.proofs.Records.{at_test}
 use Rattle.drm_state.proofs.Passing.{passed_same}
 use Rattle.std.specs.Prelude.{sum_by, nat_lt, IfSome}
 use Rattle.std.proofs.lemmas.List.Sums.{sum_by-cons, sum_by_push}
+use Rattle.drm_lists.proofs.Places.{at_index, contains_at, to_map}
 use Rattle.drm_lists.proofs.Changed.{get_set_same, get_set_other, get_set_cases}
 use Rattle.drm_ring.specs.Counted.{Counted, need_of, free_of, taken, given_back}
 use Rattle.drm_types.specs.declared.spec.DeviceSpec.{DeviceSpec}

@@ -13,7 +13,6 @@ use Rattle.drm_state.specs.Ring.{current_of}
 use Rattle.drm_state.specs.Outcomes.{must_stall, step_outcome}
 use Rattle.drm_state.specs.Records.{fence_state_of}
 use Rattle.drm_table.specs.Tables.{state_of, IsWhole}
-use Rattle.drm_state.proofs.Records.{at_index}
 use Rattle.drm_state.specs.Events.{IsKept}
 use Rattle.drm_state.proofs.DeviceSteps.{step_kept}
 use Rattle.drm_state.proofs.Alike.{fence_tie}
@@ -29,6 +28,7 @@ use Rattle.drm_state.proofs.Passing.{passed_grows}
 use Rattle.std.proofs.lemmas.Bool.{or_cases, or_left, or_right, leb-true, le-leb}
 use Rattle.std.specs.Prelude.{nat_le}
 use Rattle.std.specs.Option.{option_map_or}
+use Rattle.drm_lists.proofs.Places.{at_index}
 use Rattle.drm_lists.proofs.Changed.{get_set_other}
 use Rattle.drm_state.specs.Journal.{is_complete}
 

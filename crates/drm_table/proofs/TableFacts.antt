@@ -6,6 +6,7 @@ use Rattle.std.proofs.lemmas.Bool.{leb-false, ltb-false, ltb-true}
 use Rattle.std.proofs.lemmas.Option.{slice_get_within, slice_get-get_or}
 use Rattle.std.proofs.lemmas.List.{map-set, length-map}
 use Rattle.std.proofs.lemmas.List.Elements.{All-contains, All-weaker}
+use Rattle.drm_lists.proofs.Places.{stands_within, at_index, contains_at, to_map}
 use Rattle.drm_lists.proofs.Changed.{get_set_same}
 use Rattle.drm_types.specs.declared.spec.DeviceSpec.{DeviceSpec}
 use Rattle.drm_types.specs.Firsts.{when}
@@ -35,9 +36,7 @@ use Rattle.drm_state.specs.Loads.{LoadsOf}
 use Rattle.drm_state.specs.Rows.{RowsStand, ring_state_of}
 use Rattle.drm_state.specs.Records.{fence_state_of}
 use Rattle.drm_table.specs.Tables.{state_of, IsWhole, HasRooms}
-use Rattle.drm_state.proofs.Records.{to_map, at_index, stands_within}
 use Rattle.drm_state.proofs.RingChange.{ring_changed_is}
-use Rattle.drm_state.proofs.Pending.{contains_at}
 use Rattle.drm_state.proofs.RanLawful.{IsCurrent, current_is}
 use Rattle.drm_state.specs.Events.{IsKept}
 use Rattle.drm_state.proofs.DeviceSteps.{not_when}

@@ -1,6 +1,6 @@
 use Rattle.std.proofs.Common.{◌≡◌, Some, slice_get, refl, rules}
 use Rattle.std.proofs.lemmas.Option.{slice_get_past}
-use Rattle.drm_state.proofs.Records.{at_index}
+use Rattle.drm_lists.proofs.Places.{at_index}
 use Rattle.drm_state.proofs.choice.is_met.Goals as goal
 
 pub returns-then-is_ended : goal.returns-then-is_ended

@@ -1,10 +1,10 @@
 use Rattle.std.proofs.Common.{◌∙◌, sym, ap, subst, ◌++◌, ◌∷◌, []}
+use Rattle.drm_lists.proofs.Places.{place_of}
 use Rattle.drm_resv.specs.Entries.{entries_of}
 use Rattle.drm_resv.specs.Noting.{all_noted}
 use Rattle.drm_state.specs.Collected.{IsCollected}
 use Rattle.drm_state.proofs.Collected.{collected_used}
 use Rattle.drm_state.proofs.Covering.{declared_used}
-use Rattle.drm_state.proofs.Pending.{place_of}
 use Rattle.drm_state.proofs.plans.add_dependencies.Goals as goal
 
 pub returns : goal.returns

@@ -1,5 +1,5 @@
 use Rattle.std.proofs.Common.{◌≡◌, Some, slice_get, rules}
-use Rattle.drm_state.proofs.Records.{at_index}
+use Rattle.drm_lists.proofs.Places.{at_index}
 use Rattle.drm_state.proofs.rows.counted_credits.Goals as goal
 
 pub returns-in-Some : goal.returns-in-Some

@@ -1,6 +1,6 @@
 use Rattle.std.proofs.Common.{slice_get, ap, ◌∙◌}
+use Rattle.drm_lists.proofs.Places.{lent_is}
 use Rattle.drm_ring.specs.RingRows.{RingRow}
-use Rattle.drm_ring.proofs.Passing.{lent_is}
 use Rattle.drm_ring.proofs.pending.PendingList.current.Goals as goal
 
 pub returns : goal.returns

@@ -1,6 +1,6 @@
 use Rattle.std.proofs.Common.{◌≡◌, ◌+◌, ◌-◌, ap, set, arith}
 use Rattle.std.proofs.lemmas.Option.{slice_get_within}
-use Rattle.drm_state.proofs.Records.{at_index}
+use Rattle.drm_lists.proofs.Places.{at_index}
 use Rattle.drm_state.proofs.loads.Loads.end.Goals as goal
 
 pub returns-clause-live : goal.returns-clause-live

@@ -1,10 +1,9 @@
 use Rattle.std.proofs.Common.{◌≡◌, ◌<◌, ◌∙◌, sym, ap, subst, length, slice_get, ◌≤◌}
 use Rattle.std.proofs.lemmas.Option.{slice_get_within}
+use Rattle.drm_lists.proofs.Places.{at_index, contains_at}
 use Rattle.drm_state.specs.declared.journal.JobRecord.{JobRecord}
 use Rattle.drm_table.specs.Tables.{state_of}
-use Rattle.drm_state.proofs.Records.{at_index}
 use Rattle.drm_table.proofs.ArmDone.{few_entities}
-use Rattle.drm_state.proofs.Pending.{contains_at}
 use Rattle.drm_state.proofs.FinishLawful.{head_is}
 use Rattle.drm_table.proofs.Hanging.{is_blamed, rows_there, since_pending, blamed_pending, resumed_done, guilty_done, guilty_passes}
 use Rattle.drm_table.proofs.TableFacts.{entity_there, row_there, vec_holds}

@@ -1,6 +1,6 @@
 use Rattle.std.proofs.Common.{◌<◌, ◌∙◌, sym, ap, subst, Some}
 use Rattle.std.proofs.lemmas.Option.{slice_get_within}
-use Rattle.drm_state.proofs.Records.{at_index}
+use Rattle.drm_lists.proofs.Places.{at_index}
 use Rattle.drm_table.proofs.Balancing.{last_there, last_is, live_of_none, live_of_ended, live_of_last}
 use Rattle.drm_table.proofs.table.Table.live_ring.Goals as goal
 

@@ -1,4 +1,4 @@
-use Rattle.drm_state.proofs.Records.{at_index}
+use Rattle.drm_lists.proofs.Places.{at_index}
 use Rattle.drm_table.proofs.Balancing.{load_kept, load_there}
 use Rattle.drm_table.proofs.table.Table.load.Goals as goal
 

@@ -2,13 +2,13 @@ use Rattle.std.proofs.Common.{◌≡◌, ◌+◌, ◌<◌, ◌∙◌, sym, ap, s
 use Rattle.std.specs.Prelude.{option_map, IfSome, Contains}
 use Rattle.std.specs.Option.{option_map_or}
 use Rattle.std.proofs.lemmas.Option.{slice_get_within}
+use Rattle.drm_lists.proofs.Places.{at_index}
 use Rattle.drm_buffer.specs.Memory.{bytes_of, sizes_of}
 use Rattle.drm_buffer.specs.Stored.{Stored}
 use Rattle.drm_packet.proofs.Sizes.{sizes-effect}
 use Rattle.drm_packet.specs.Touches.{touches}
 use Rattle.drm_packet.specs.Parts.{target_of, part_effect, other_bytes}
 use Rattle.drm_state.specs.declared.journal.JobRecord.{JobRecord}
-use Rattle.drm_state.proofs.Records.{at_index}
 use Rattle.drm_table.proofs.TableFacts.{running_found, next_in_range, few_packets, vec_holds, row_there}
 use Rattle.drm_table.proofs.StepDone.{step_done, ran_passes}
 use Rattle.drm_table.proofs.ComingBack.{packet_back, runs_back, back_state}
