@@ -1,9 +1,7 @@
--- Lists that have the same at each place, and the fences of the jobs of a journal.
-use Rattle.std.proofs.Common.{◌≡◌, ℕ, zero, suc, Bool, true, false, ◌||◌, List, [], ◌∷◌, map, set, Some, refl, sym, ap, ◌∙◌, inl, inr, slice_get}
-use Rattle.std.specs.List.{list_any}
+-- The fences of the jobs of a journal.
+use Rattle.std.proofs.Common.{◌≡◌, ℕ, zero, suc, List, [], ◌∷◌, map, set, Some, refl, sym, ap, ◌∙◌, slice_get}
 use Rattle.std.specs.Option.{option_map_or}
 use Rattle.std.proofs.lemmas.List.{map-set}
-use Rattle.std.proofs.lemmas.Bool.{cases_Bool}
 use Rattle.drm_lists.proofs.Places.{to_map}
 use Rattle.drm_fence.specs.declared.timeline.FenceState.{FenceState}
 use Rattle.drm_fence.specs.Fences.{has_ended_at, fence_changed}
@@ -26,12 +24,3 @@ pub fence_tie : (js : List JobRecord) (fs : List FenceState) (f : ℕ) (r new : 
 fence_tie js fs f r new change tie at same =
     ap (λ o. option_map_or (λ x. set fs f (change x)) o fs) (ap (λ fs. slice_get fs f) tie ∙ to_map fence_state_of js f r at)
     ∙ (ap (λ x. set fs f x) same ∙ (ap (λ fs. set fs f (fence_state_of new)) tie ∙ sym (map-set fence_state_of js f new)))
-
--- a test that some element passes
-pub any_at : {X : Type 0} (p : X → Bool) (xs : List X) → list_any p xs ≡ true → (k : ℕ) × (x : X) × (slice_get xs k ≡ Some x) × (p x ≡ true)
-any_at p [] is = absurd (let never : false ≡ true = is in cc (never))
-any_at p (x ∷ xs) is =
-    elim (cases_Bool (p x)) [
-      | inl here ↦ (0, x, refl, here)
-      | inr no_more ↦ let there = any_at p xs (sym (ap (λ b. b || list_any p xs) no_more) ∙ is) in (suc there.0, there.1, there.2, there.3)
-    ]

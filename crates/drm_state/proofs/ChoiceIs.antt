@@ -5,6 +5,7 @@ use Rattle.std.specs.Prelude.{Contains, filter, find}
 use Rattle.std.specs.List.{list_all, enumerate_from, flat_map}
 use Rattle.std.proofs.lemmas.Bool.{and_parts, eqb-true, cases_Bool, both_ways, and_from, eq-eqb}
 use Rattle.std.proofs.lemmas.List.Elements.{All-contains, All-filter, All-contains_itself, filter_passes, Contains-append_cases}
+use Rattle.drm_lists.proofs.Searches.{find_first}
 use Rattle.drm_lists.proofs.Places.{contains_at, place_of, from_map, get_numbered, get_take}
 use Rattle.drm_types.specs.declared.spec.Priority.{Priority}
 use Rattle.drm_types.specs.declared.spec.Priority.TheVariants.{Kernel, High, Normal, Low}
@@ -15,7 +16,6 @@ use Rattle.drm_fence.specs.Phases.{is_queued}
 use Rattle.drm_state.specs.Order.{comes_after, is_met, is_ready}
 use Rattle.drm_state.specs.Choice.{is_head_of, may_begin, ready_heads, choice}
 use Rattle.drm_types.specs.Firsts.{first}
-use Rattle.drm_state.proofs.Pairs.{find_first}
 use Rattle.drm_state.proofs.RingChange.{first_is}
 
 -- a numbered record stands at its number

@@ -6,6 +6,7 @@ use Rattle.std.specs.Option.{option_map_or}
 use Rattle.std.proofs.lemmas.Bool.{cases_eq, ne_eqb, eq-eqb, eqb-true, and_parts, and_from, or_left, or_right}
 use Rattle.std.proofs.lemmas.List.{length-map}
 use Rattle.std.proofs.lemmas.Option.{slice_get_within}
+use Rattle.drm_lists.proofs.Searches.{any_at}
 use Rattle.drm_lists.proofs.Places.{stands_within, contains_at, place_of, to_map, list_ext}
 use Rattle.drm_lists.proofs.Changed.{get_set_same, get_set_other}
 use Rattle.drm_fence.specs.Phases.{is_scheduled}
@@ -19,7 +20,6 @@ use Rattle.drm_state.specs.Recovery.{skipped_of, all_skipped}
 use Rattle.drm_state.proofs.Records.{changed_is}
 use Rattle.drm_state.proofs.DeviceSteps.{changed_count}
 use Rattle.drm_state.proofs.LatestStands.{same_test}
-use Rattle.drm_state.proofs.Alike.{any_at}
 
 -- a record whose mark is set where this holds
 abbrev marked : Bool → JobRecord → JobRecord

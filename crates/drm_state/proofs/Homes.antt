@@ -4,6 +4,7 @@ use Rattle.std.specs.Prelude.{IsTrue, Contains, option_map, find, fold, nat_lt}
 use Rattle.std.specs.Option.{option_map_or}
 use Rattle.std.specs.List.{list_all}
 use Rattle.std.proofs.lemmas.Bool.{both_ways, and_parts, and_from, cases_Bool, eqb-true, eq-eqb, ltb-true, ltb-false}
+use Rattle.drm_lists.proofs.Searches.{find_first, all_at}
 use Rattle.drm_lists.proofs.Places.{place_of}
 use Rattle.drm_types.specs.Firsts.{first}
 use Rattle.drm_types.specs.Limits.{is_between, are_distinct, are_rings}
@@ -12,8 +13,6 @@ use Rattle.drm_state.specs.declared.journal.JobRecord.{JobRecord}
 use Rattle.drm_state.specs.State.{DeviceState}
 use Rattle.drm_state.specs.Arming.{rings_of, first_ring, load, less_loaded, least_loaded, is_live, arming_ring}
 use Rattle.drm_state.specs.Steady.{IsRingOf, IsSteady}
-use Rattle.drm_state.proofs.Pairs.{find_first}
-use Rattle.drm_state.proofs.LatestStands.{all_at}
 
 -- of two jobs of an entity that have no outcome, each is on the other's ring
 pub one_ring : (d : DeviceState) (i j : ℕ) (x y : JobRecord) → IsSteady d → slice_get d.journal i ≡ Some x → slice_get d.journal j ≡ Some y

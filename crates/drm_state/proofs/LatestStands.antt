@@ -4,6 +4,7 @@ use Rattle.std.specs.Prelude.{IsTrue}
 use Rattle.std.specs.List.{list_all}
 use Rattle.std.proofs.lemmas.Bool.{and_parts, and_from, or_left, or_right, cases_eq}
 use Rattle.std.proofs.lemmas.List.Elements.{All-contains}
+use Rattle.drm_lists.proofs.Searches.{all_at}
 use Rattle.drm_lists.proofs.Places.{contains_at, place_of, get_numbered, get_take}
 use Rattle.drm_fence.specs.Phases.{is_queued, has_ended}
 use Rattle.drm_state.specs.declared.journal.JobRecord.{JobRecord}
@@ -19,11 +20,6 @@ use Rattle.drm_state.proofs.ChoiceIs.{numbered_get, all_of_filter, in_filter}
 pub all_from : {X : Type 0} (q : X → Bool) (xs : List X) → ((k : ℕ) (x : X) → slice_get xs k ≡ Some x → q x ≡ true) → list_all q xs ≡ true
 all_from q [] each = refl
 all_from q (x ∷ xs) each = and_from (q x) (list_all q xs) (each 0 x refl) (all_from q xs (λ k y at. each (suc k) y at))
-
-pub all_at : {X : Type 0} (q : X → Bool) (xs : List X) (k : ℕ) (x : X) → list_all q xs ≡ true → slice_get xs k ≡ Some x → q x ≡ true
-all_at q [] k x all at = absurd (cc (at))
-all_at q (y ∷ ys) zero x all at = let same : y ≡ x = cc (at) in ap q (sym same) ∙ (and_parts (q y) (list_all q ys) all).0
-all_at q (y ∷ ys) (suc k) x all at = all_at q ys k x (and_parts (q y) (list_all q ys) all).1 at
 
 -- two tests of which each follows from the other
 pub same_test : (a b : Bool) → (a ≡ true → b ≡ true) → (b ≡ true → a ≡ true) → a ≡ b

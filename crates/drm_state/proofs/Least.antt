@@ -4,6 +4,7 @@ use Rattle.std.specs.Prelude.{filter, find, option_map}
 use Rattle.std.specs.Option.{option_map_or}
 use Rattle.std.proofs.lemmas.Bool.{and_parts, and_from, eqb-true, eq-eqb, both_ways, cases_Bool, cases_eq, cases_lt}
 use Rattle.std.proofs.lemmas.Option.{slice_get_within}
+use Rattle.drm_lists.proofs.Searches.{find_first}
 use Rattle.drm_lists.proofs.Places.{stands_within, get_numbered}
 use Rattle.drm_types.specs.Firsts.{first}
 use Rattle.drm_types.specs.Priorities.{rank_of}
@@ -20,7 +21,6 @@ use Rattle.drm_state.specs.Chosen.{IsFirstQueued, MayBegin, rank_at, GoesBefore,
 use Rattle.drm_state.specs.Steady.{IsSteady}
 use Rattle.drm_state.proofs.ChoiceIs.{is_ready_head, is_queued_of, numbered_get, first-filter, head_of_queue}
 use Rattle.drm_state.proofs.Found.{find_at, first_map}
-use Rattle.drm_state.proofs.Pairs.{find_first}
 
 -- ---- the first of a list that is found, and that none is found
 

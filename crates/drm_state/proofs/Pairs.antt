@@ -1,6 +1,6 @@
--- Lists in which one element changes, and the first element that passes a test.
-use Rattle.std.proofs.Common.{◌≡◌, ℕ, zero, suc, ◌+◌, ◌<◌, Bool, true, false, cond, List, [], ◌∷◌, set, Some, refl, sym, ap, subst, ◌∙◌, inl, inr, arith, slice_get}
-use Rattle.std.specs.Prelude.{find, fold}
+-- A relation of each two records where one changes, and a sum of equal parts.
+use Rattle.std.proofs.Common.{◌≡◌, ℕ, ◌+◌, ◌<◌, List, [], ◌∷◌, set, Some, refl, sym, ap, subst, ◌∙◌, inl, inr, arith, slice_get}
+use Rattle.std.specs.Prelude.{fold}
 use Rattle.drm_lists.proofs.Changed.{get_set_cases}
 use Rattle.drm_state.specs.declared.journal.JobRecord.{JobRecord}
 use Rattle.drm_state.specs.Lawful.{EachTwo}
@@ -27,24 +27,6 @@ each_two_set journal f r new Related at old first second i j x y lt at_i at_j =
         | inr j_not ↦ old i j x y lt i_not.1 j_not.1
       ]
     ]
-
--- one failing element more in front
-find_before : {X : Type 0} (p : X → Bool) (z : X) (zs : List X) → p z ≡ false → (b : ℕ)
-    → ((a : ℕ) (y : X) → a < b → slice_get zs a ≡ Some y → p y ≡ false)
-    → (a : ℕ) (y : X) → a < suc b → slice_get (z ∷ zs) a ≡ Some y → p y ≡ false
-find_before p z zs fails b rest zero y lt at = let same : z ≡ y = cc (at) in ap p (sym same) ∙ fails
-find_before p z zs fails b rest (suc a) y lt at = rest a y (omega (arith, lt)) at
-
--- the first element that passes: where it stands, and that those before it fail
-pub find_first : {X : Type 0} (p : X → Bool) (xs : List X) (x : X) → find p xs ≡ Some x
-    → (b : ℕ) × (slice_get xs b ≡ Some x) × (p x ≡ true) × ((a : ℕ) (y : X) → a < b → slice_get xs a ≡ Some y → p y ≡ false)
-find_first p [] x e = absurd (cc (e))
-find_first {X} p (z ∷ zs) x e =
-    elim (p z) as (λ t. p z ≡ t → cond t (Some z) (find p zs) ≡ Some x
-    → (b : ℕ) × (slice_get (z ∷ zs) b ≡ Some x) × (p x ≡ true) × ((a : ℕ) (y : X) → a < b → slice_get (z ∷ zs) a ≡ Some y → p y ≡ false)) [
-      | true ↦ λ t is. let same : z ≡ x = cc (is) in (0, is, ap p (sym same) ∙ t, λ a y lt at. absurd (omega (arith, lt)))
-      | false ↦ λ t is. let r = find_first p zs x is in (suc r.0, r.1, r.2, find_before p z zs t r.0 r.3)
-    ] refl e
 
 -- a sum of equal parts
 pub sum_by_agree : {X : Type 0} (f g : X → ℕ) (xs : List X) (a : ℕ) → ((x : X) → f x ≡ g x)

@@ -4,6 +4,7 @@ use Rattle.std.specs.Option.{option_map_or}
 use Rattle.std.specs.Prelude.{min}
 use Rattle.std.proofs.lemmas.Bool.{both_ways, and_parts, or_cases, or_left, or_right, or_from, not-true, not-false, cases_Bool, eqb-true}
 use Rattle.std.proofs.lemmas.Option.{slice_get_within}
+use Rattle.drm_lists.proofs.Searches.{find_first}
 use Rattle.drm_lists.proofs.Places.{contains_at, place_of}
 use Rattle.drm_lists.proofs.Changed.{get_set_cases}
 use Rattle.drm_packet.specs.declared.Packet.{Packet}
@@ -19,7 +20,7 @@ use Rattle.drm_state.specs.Outcomes.{ran_device}
 use Rattle.drm_state.specs.Lawful.{EachTwo, HasRightOutcome, IsSound, IsPendingList, ComesInOrder, KeepsEntityOrder, IsLawfulDevice}
 use Rattle.drm_state.specs.Steady.{BeginsMet, StandsInOrder, IsSteady, StaysHome, IsRingOf}
 use Rattle.drm_state.proofs.Records.{at_test, changed_is}
-use Rattle.drm_state.proofs.Pairs.{each_two_set, find_first, sum_by_agree}
+use Rattle.drm_state.proofs.Pairs.{each_two_set, sum_by_agree}
 use Rattle.drm_state.proofs.Pending.{pending_kept, credits_kept}
 use Rattle.drm_state.proofs.RanKeeps.{ran_keeps}
 

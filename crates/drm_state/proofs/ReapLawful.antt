@@ -5,6 +5,7 @@ use Rattle.std.specs.Prelude.{sum_by, min, filter, find}
 use Rattle.std.specs.List.{list_all}
 use Rattle.std.proofs.lemmas.Bool.{and_parts, or_left, or_right, eq-eqb}
 use Rattle.std.proofs.lemmas.List.Folds.{list_all-append}
+use Rattle.drm_lists.proofs.Searches.{find_first}
 use Rattle.drm_lists.proofs.Places.{to_map, get_numbered, get_take}
 use Rattle.drm_lists.proofs.Changed.{get_set_other, get_set_cases, set_same}
 use Rattle.drm_types.specs.declared.outcome.Outcome.TheVariants as outcome
@@ -23,7 +24,7 @@ use Rattle.drm_state.specs.Outcomes.{ended_at}
 use Rattle.drm_state.specs.Lawful.{EachTwo, IsSound, IsPendingList, ComesInOrder, KeepsEntityOrder}
 use Rattle.drm_state.specs.Steady.{BeginsMet, StandsInOrder, IsSteady, StaysHome, IsRingOf}
 use Rattle.drm_state.proofs.Records.{turn_of, changed_is, turns_changed}
-use Rattle.drm_state.proofs.Pairs.{each_two_set, find_first, sum_by_agree}
+use Rattle.drm_state.proofs.Pairs.{each_two_set, sum_by_agree}
 use Rattle.drm_state.proofs.Pending.{credits_kept}
 use Rattle.drm_state.proofs.RingChange.{ring_lawful_by}
 use Rattle.drm_state.proofs.FinishLawful.{ended}

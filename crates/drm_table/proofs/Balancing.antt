@@ -4,6 +4,7 @@ use Rattle.std.specs.Prelude.{find, fold, option_map, nat_le, Contains}
 use Rattle.std.proofs.lemmas.Option.{slice_get_within, slice_get-get_or}
 use Rattle.std.proofs.lemmas.List.{length-map, drop_more}
 use Rattle.std.proofs.lemmas.Bool.{both_ways, and_parts, and_from, cases_lt, eqb-true, eq-eqb, leb-true}
+use Rattle.drm_lists.proofs.Searches.{find_first}
 use Rattle.drm_lists.proofs.Places.{stands_within, contains_at, to_map}
 use Rattle.drm_types.specs.declared.spec.DeviceSpec.{DeviceSpec}
 use Rattle.drm_types.specs.Limits.{spec_fault, spec_tests, whole, is_between}
@@ -14,7 +15,6 @@ use Rattle.drm_table.specs.declared.table.Table.{Table}
 use Rattle.drm_state.specs.Arming.{load, is_live, less_loaded, live_ring, rings_of}
 use Rattle.drm_state.specs.Loads.{owner_of}
 use Rattle.drm_table.specs.Tables.{state_of, IsWhole}
-use Rattle.drm_state.proofs.Pairs.{find_first}
 use Rattle.drm_table.proofs.ArmDone.{ring_of_entity_there}
 use Rattle.drm_state.proofs.Homes.{one_ring, none_passes}
 use Rattle.drm_state.proofs.LoadsKept.{load_is, few_live, few_ended}

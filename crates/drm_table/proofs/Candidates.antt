@@ -4,6 +4,7 @@ use Rattle.std.specs.Prelude.{option_map}
 use Rattle.std.specs.Option.{option_map_or}
 use Rattle.std.specs.List.{list_all}
 use Rattle.std.proofs.lemmas.Bool.{and_parts, eqb-true, eq-eqb}
+use Rattle.drm_lists.proofs.Searches.{find_first}
 use Rattle.drm_types.specs.Firsts.{first}
 use Rattle.drm_fence.specs.declared.phase.Phase.{Phase}
 use Rattle.drm_fence.specs.declared.phase.Phase.TheVariants.{Queued, Scheduled, Ended}
@@ -16,7 +17,6 @@ use Rattle.drm_state.specs.Choice.{queue_of, is_head_of}
 use Rattle.drm_state.specs.Steady.{IsSteady}
 use Rattle.drm_table.specs.Plain.{WaitsStand}
 use Rattle.drm_state.proofs.ChoiceIs.{first-filter, numbered_get, is_queued_of}
-use Rattle.drm_state.proofs.Pairs.{find_first}
 use Rattle.drm_state.proofs.LatestStands.{latest_stand, met_goes_down, GoesDown}
 
 -- the number of the head of an entity's queue

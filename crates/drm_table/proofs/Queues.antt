@@ -6,6 +6,7 @@ use Rattle.std.specs.List.{enumerate_from}
 use Rattle.std.proofs.lemmas.Bool.{cases_eq, ne_eqb, eq-eqb, eqb-true, cases_Bool, and_parts}
 use Rattle.std.proofs.lemmas.List.{map-set, length-set}
 use Rattle.std.proofs.lemmas.Option.{slice_get_within}
+use Rattle.drm_lists.proofs.Searches.{find_first}
 use Rattle.drm_lists.proofs.Places.{stands_within, place_of, to_map}
 use Rattle.drm_lists.proofs.Changed.{get_set_same, get_set_other, set_same}
 use Rattle.drm_types.specs.Firsts.{first}
@@ -18,7 +19,6 @@ use Rattle.drm_state.specs.Journal.{numbered}
 use Rattle.drm_state.specs.Choice.{queue_of, is_head_of}
 use Rattle.drm_table.specs.Plain.{marks_of, marks, queued_of, QueuesStand}
 use Rattle.drm_state.proofs.ChoiceIs.{first-filter, numbered_get, is_queued_of}
-use Rattle.drm_state.proofs.Pairs.{find_first}
 use Rattle.drm_table.proofs.Candidates.{head_number}
 
 -- ---- the numbers of a queue

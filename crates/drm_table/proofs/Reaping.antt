@@ -7,6 +7,7 @@ use Rattle.std.specs.List.{list_all}
 use Rattle.std.proofs.lemmas.Bool.{cases_Bool, cases_eq, both_ways, eqb-true, eq-eqb, ltb-true, ltb-false}
 use Rattle.std.proofs.lemmas.Option.{slice_get_within}
 use Rattle.std.proofs.lemmas.List.Folds.{list_all-append}
+use Rattle.drm_lists.proofs.Searches.{all_at}
 use Rattle.drm_lists.proofs.Places.{stands_within, at_index, contains_at, place_of, get_numbered, get_take}
 use Rattle.drm_types.specs.Firsts.{when, first, first_of}
 use Rattle.drm_types.specs.declared.outcome.Outcome.TheVariants as outcome
@@ -39,7 +40,7 @@ use Rattle.drm_table.proofs.Candidates.{head_number, head_found, queued_goes_on}
 use Rattle.drm_state.proofs.ChoiceIs.{all_of_filter, in_filter, head_of_queue}
 use Rattle.drm_state.specs.Events.{IsKept}
 use Rattle.drm_state.proofs.DeviceSteps.{cancel_kept, reap_kept}
-use Rattle.drm_state.proofs.LatestStands.{all_at, all_from, same_test, in_front, latest_stand, ended_goes_down}
+use Rattle.drm_state.proofs.LatestStands.{all_from, same_test, in_front, latest_stand, ended_goes_down}
 use Rattle.drm_state.proofs.Records.{at_test, changed_is}
 use Rattle.drm_table.proofs.ArmDone.{few_entities, ring_of_entity_there}
 use Rattle.drm_state.proofs.Homes.{one_ring}
