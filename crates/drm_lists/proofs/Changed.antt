@@ -1,5 +1,5 @@
 -- Lists of which one element changes.
-use Rattle.std.proofs.Common.{◌≡◌, ◌≢◌, ℕ, zero, suc, List, [], ◌∷◌, set, Some, refl, sym, ap, subst, ◌∙◌, inl, inr, ◌⊎◌, slice_get}
+use Rattle.std.proofs.Common.{◌≡◌, ◌≢◌, ℕ, zero, suc, ◌<◌, List, [], ◌∷◌, length, set, Some, refl, sym, ap, subst, ◌∙◌, inl, inr, ◌⊎◌, arith, slice_get}
 use Rattle.std.proofs.lemmas.Bool.{cases_eq}
 
 -- what stands at the changed place
@@ -7,6 +7,11 @@ pub get_set_same : {X : Type 0} (xs : List X) (i : ℕ) (x y : X) → slice_get 
 get_set_same [] i x y is = absurd (cc (is))
 get_set_same (z ∷ xs) zero x y is = refl
 get_set_same (z ∷ xs) (suc i) x y is = get_set_same xs i x y is
+
+pub get_set_within : {X : Type 0} (xs : List X) (i : ℕ) (y : X) → i < length xs → slice_get (set xs i y) i ≡ Some y
+get_set_within [] i y lt = absurd (omega (arith, lt))
+get_set_within (x ∷ xs) zero y lt = refl
+get_set_within (x ∷ xs) (suc i) y lt = get_set_within xs i y (omega (arith, lt))
 
 -- it is the new element
 pub get_set_is : {X : Type 0} (xs : List X) (i : ℕ) (x y z : X) → slice_get xs i ≡ Some x → slice_get (set xs i y) i ≡ Some z → z ≡ y

@@ -4,6 +4,8 @@ use Rattle.std.specs.Prelude.{slice_set, nat_lt, ◌-◌, ◌==◌, is_none, opt
 use Rattle.std.specs.Option.{option_map_or}
 use Rattle.std.proofs.lemmas.Bool.{and_parts, ltb-true, ne_eqb, not-true}
 use Rattle.std.proofs.lemmas.Option.{slice_get-map, slice_get_within}
+use Rattle.drm_lists.proofs.Places.{stands_within}
+use Rattle.drm_lists.proofs.Changed.{get_set_same}
 use Rattle.drm_types.specs.Firsts.{when, first, first_of}
 use Rattle.drm_types.specs.declared.outcome.Outcome.{Outcome}
 use Rattle.drm_types.specs.declared.outcome.Outcome.TheVariants as outcome
@@ -33,7 +35,7 @@ use Rattle.drm_state.specs.Refusals.{pick_refusal, finish_refusal, reap_refusal,
 use Rattle.drm_state.specs.Outcomes.{at_record, picked_device, pick_outcome, must_stall, ran_device, stepped_by, step_outcome, final_outcome, finished_device, finish_outcome, ended_at, hung, hung_device, condemned, condemned_device, is_too_much, hang_outcome, timeout_at, timeout_outcome, reap_outcome}
 use Rattle.drm_state.specs.Steady.{IsSteady}
 use Rattle.drm_progress.specs.Going.{Going, WorkFalls, phases_left, runs_packet, waits_for_reset, is_late, resets_of, resets_asked, work_left}
-use Rattle.drm_progress.proofs.Lists.{none_is, some_within, set_stands, or_true, place_of_first}
+use Rattle.drm_progress.proofs.Lists.{none_is, or_true, place_of_first}
 use Rattle.drm_progress.proofs.Heads.{head_there}
 use Rattle.drm_progress.proofs.Work.{HasLess, asked_at, device_falls, queued_has_two}
 
@@ -42,7 +44,7 @@ changed_stands : (journal : List JobRecord) (n : ℕ) (r : JobRecord) (change : 
     → slice_get (changed_at journal n change) n ≡ Some (change r)
 changed_stands journal n r change at =
     ap (λ o. slice_get (option_map_or (λ q. slice_set journal n (change q)) o journal) n) at
-    ∙ set_stands journal n r (change r) at
+    ∙ get_set_same journal n r (change r) at
 
 -- ---- a pick
 
@@ -172,7 +174,7 @@ entity_there spec job is =
 -- a hang that is still counted counts one reset more
 one_reset_more : (d : DeviceState) (r : JobRecord) → IsJob d.spec r.job → r.karma.resets < 65535 → (hung d r).karma.resets ≡ r.karma.resets + 1
 one_reset_more d r is few =
-    let (e, at) = some_within d.spec.entities r.job.entity (entity_there d.spec r.job is) in
+    let (e, at) = stands_within d.spec.entities r.job.entity (entity_there d.spec r.job is) in
     ap (λ o. (option_map_or (λ (e : EntitySpec). blamed e.priority r.karma) o r.karma).resets) at
     ∙ ap (λ b. cond b r.karma.resets (r.karma.resets + 1)) (ne_eqb r.karma.resets 65535 (λ same. absurd (omega (arith, same, few))))
 

@@ -3,6 +3,7 @@ use Rattle.std.proofs.Common.{◌≡◌, ℕ, ◌<◌, ◌≤◌, Bool, true, fa
 use Rattle.std.specs.Prelude.{IsTrue, nat_lt, nat_le, is_none, find}
 use Rattle.std.specs.Option.{option_map_or}
 use Rattle.std.proofs.lemmas.Bool.{cases_Bool, and_from, lt-ltb, ltb-true}
+use Rattle.drm_lists.proofs.Places.{stands_within}
 use Rattle.drm_types.specs.Firsts.{when, first}
 use Rattle.drm_packet.specs.declared.Packet.{Packet}
 use Rattle.drm_packet.specs.declared.Packet.TheVariants.{Fill, Copy, Add, Stall}
@@ -18,7 +19,7 @@ use Rattle.drm_state.specs.Ring.{head_of, pending_of, current_of}
 use Rattle.drm_state.specs.Refusals.{finish_refusal}
 use Rattle.drm_state.specs.Outcomes.{at_record, must_stall, ran_device, step_outcome, stepped_by}
 use Rattle.drm_progress.specs.Going.{Going, may_come, runs_packet, waits_for_reset, is_late, AskFewResets, FindsAllLate}
-use Rattle.drm_progress.proofs.Lists.{some_within, first_contained, or_true}
+use Rattle.drm_progress.proofs.Lists.{first_contained, or_true}
 
 -- the record of the head
 pub record IsHead (d : DeviceState) (ring head : ℕ) (r : JobRecord) : Type 0 where
@@ -34,7 +35,7 @@ head_there d ring head lawful here is =
 
 -- what is not complete has a packet to run
 packet_left : (r : JobRecord) → is_complete r ≡ false → (p : Packet) × (slice_get r.job.packets r.ran ≡ Some p)
-packet_left r incomplete = some_within r.job.packets r.ran (by_size (cases_Bool (nat_le (length r.job.packets) r.ran)))
+packet_left r incomplete = stands_within r.job.packets r.ran (by_size (cases_Bool (nat_le (length r.job.packets) r.ran)))
   where
     by_size : (nat_le (length r.job.packets) r.ran ≡ true) ⊎ (nat_le (length r.job.packets) r.ran ≡ false) → r.ran < length r.job.packets
     by_size (inl all) = absurd (let never : true ≡ false = sym (or_true r.is_skipped) ∙ sym (ap (λ b. r.is_skipped || b) all) ∙ incomplete in cc (never))

@@ -1,22 +1,10 @@
 -- Elements of lists, and tests of options.
-use Rattle.std.proofs.Common.{◌≡◌, ℕ, zero, suc, ◌+◌, ◌<◌, Bool, true, false, cond, ◌||◌, ◌&&◌, List, [], ◌∷◌, ◌++◌, set, take, length, Some, None, Option, refl, sym, ap, subst, ◌∙◌, inl, inr, arith, slice_get, Contains}
+use Rattle.std.proofs.Common.{◌≡◌, ℕ, zero, suc, ◌+◌, ◌<◌, Bool, true, false, cond, ◌||◌, ◌&&◌, List, [], ◌∷◌, ◌++◌, take, Some, None, Option, refl, sym, ap, subst, ◌∙◌, inl, inr, arith, slice_get, Contains}
 use Rattle.std.specs.Prelude.{is_none}
 use Rattle.std.specs.List.{list_all, filter, enumerate_from}
 use Rattle.std.proofs.lemmas.Bool.{cases_Bool}
 use Rattle.std.proofs.lemmas.Option.{same_Some}
 use Rattle.drm_types.specs.Firsts.{first}
-
--- what stands at a place below the length
-pub some_within : {X : Type 0} (xs : List X) (k : ℕ) → k < length xs → (x : X) × (slice_get xs k ≡ Some x)
-some_within [] k within = absurd (omega (arith, within))
-some_within (x ∷ rest) zero within = (x, refl)
-some_within (x ∷ rest) (suc k) within = some_within rest k (omega (arith, within))
-
--- what is written at a place stands there
-pub set_stands : {X : Type 0} (xs : List X) (n : ℕ) (x y : X) → slice_get xs n ≡ Some x → slice_get (set xs n y) n ≡ Some y
-set_stands [] n x y at = absurd (cc (at))
-set_stands (z ∷ rest) zero x y at = refl
-set_stands (z ∷ rest) (suc n) x y at = set_stands rest n x y at
 
 -- the first element is in the list
 pub first_contained : (xs : List ℕ) (f : ℕ) → first xs ≡ Some f → Contains xs f

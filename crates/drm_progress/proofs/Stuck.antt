@@ -6,6 +6,7 @@ use Rattle.std.specs.Option.{option_map_or}
 use Rattle.std.proofs.lemmas.Bool.{cases_Bool, and_from, and_parts, and_right, eq-eqb, lt-ltb, ltb-true}
 use Rattle.std.proofs.lemmas.List.Elements.{All-contains}
 use Rattle.std.proofs.lemmas.List.Sums.{AllPass-from_list_all}
+use Rattle.drm_lists.proofs.Places.{stands_within}
 use Rattle.drm_types.specs.Firsts.{when, first_of, first}
 use Rattle.drm_types.specs.Limits.{are_distinct, are_rings, each, is_between, spec_fault, spec_tests}
 use Rattle.drm_types.specs.declared.spec.DeviceSpec.{DeviceSpec}
@@ -26,7 +27,7 @@ use Rattle.drm_state.specs.Ring.{pending_of, is_stopped, credits_of, credit_limi
 use Rattle.drm_state.specs.Refusals.{pick_refusal, reap_refusal, must_still_wait}
 use Rattle.drm_state.specs.Steady.{IsRingOf, IsSteady}
 use Rattle.drm_progress.specs.Going.{Going, may_come, AskFewResets, FindsAllLate, NoDeviceIsStuck}
-use Rattle.drm_progress.proofs.Lists.{some_within, all_before, all_append, first_passing}
+use Rattle.drm_progress.proofs.Lists.{all_before, all_append, first_passing}
 use Rattle.drm_progress.proofs.Heads.{head_goes_on}
 use Rattle.drm_progress.proofs.Falls.{entity_there}
 
@@ -81,7 +82,7 @@ listed_there (x ∷ rest) count ring fit listed =
 ring_there : (spec : DeviceSpec) (entity ring : ℕ) → spec_fault spec ≡ None → entity < length spec.entities → IsRingOf spec entity ring
     → ring < length spec.rings
 ring_there spec entity ring limits within listed =
-    let (e, at) = some_within spec.entities entity within in
+    let (e, at) = stands_within spec.entities entity within in
     let fit : are_rings (length spec.rings) e.rings ≡ true =
     passes_at (λ (x : EntitySpec). are_rings (length spec.rings) x.rings) spec.entities (λ i. record { part = 7; index = i }) entity e
     (none_at (spec_tests spec) 7 (each 7 (λ (x : EntitySpec). are_rings (length spec.rings) x.rings) spec.entities) limits refl) at in

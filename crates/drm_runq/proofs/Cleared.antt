@@ -3,6 +3,7 @@ use Rattle.std.proofs.Common.{◌≡◌, ◌≢◌, ℕ, zero, suc, ◌+◌, ◌
 use Rattle.std.specs.Prelude.{count_by, is_some, remove, nat_lt}
 use Rattle.std.proofs.lemmas.Bool.{cases_eq, ltb-true, ltb-false}
 use Rattle.std.proofs.lemmas.List.Sums.{sum_by-cons}
+use Rattle.drm_lists.proofs.Changed.{get_set_other}
 use Rattle.drm_types.specs.Priorities.{rank_of}
 use Rattle.drm_runq.specs.declared.key.Key.{Key}
 use Rattle.drm_runq.specs.declared.queue.Place.{Place}
@@ -56,14 +57,6 @@ count_cleared (k ∷ keys) (suc e) key has =
     let new : count_by is_some (k ∷ set keys e None) ≡ cond (is_some k) 1 0 + count_by is_some (set keys e None) = sum_by-cons (λ (x : Option Key). cond (is_some x) 1 0) k (set keys e None) in
     omega (arith, old, new, count_cleared keys e key has)
 
--- the keys of the others stay
-pub key_kept : (keys : List (Option Key)) (e i : ℕ) (o : Option Key) → i ≢ e → slice_get (set keys e o) i ≡ slice_get keys i
-key_kept [] e i o apart = refl
-key_kept (k ∷ keys) zero zero o apart = absurd (apart refl)
-key_kept (k ∷ keys) zero (suc i) o apart = refl
-key_kept (k ∷ keys) (suc e) zero o apart = refl
-key_kept (k ∷ keys) (suc e) (suc i) o apart = key_kept keys e i o (λ s. apart (ap suc s))
-
 none_at : (keys : List (Option Key)) (e : ℕ) (key : Key) → HasKey (set keys e None) e key → ⊥
 none_at [] e key has = absurd (cc (has))
 none_at (k ∷ keys) zero key has = absurd (cc (has))
@@ -108,10 +101,10 @@ order_cleared keys order place e key is has at = record {
   sorted = λ i j p q lt at_i at_j.
       let a = old_of order place i p at_i in
       let b = old_of order place j q at_j in is.sorted a.0 b.0 p q (monotone place i j a.0 b.0 a.2 b.2 lt) a.1 b.1;
-  sound = λ i p at_i. let a = old_of order place i p at_i in key_kept keys e p.entity None (other a.0 p a.1 (not_there place i a.0 a.2)) ∙ is.sound a.0 p a.1;
+  sound = λ i p at_i. let a = old_of order place i p at_i in get_set_other keys e p.entity None (other a.0 p a.1 (not_there place i a.0 a.2)) ∙ is.sound a.0 p a.1;
   whole = λ entity k is_there.
       let apart : entity ≢ e = λ same. none_at keys e k (subst (λ n. HasKey (set keys e None) n k) same is_there) in
-      let w = is.whole entity k (sym (key_kept keys e entity None apart) ∙ is_there) in
+      let w = is.whole entity k (sym (get_set_other keys e entity None apart) ∙ is_there) in
       let away : w.0 ≢ place = λ same. let one : w.1 ≡ at.0 = cc (w.2, at.1, same) in apart (sym w.3 ∙ (ap (λ (z : Place). z.entity) one ∙ at.2)) in
       moved w.0 w.1 entity k away w.2 w.3 w.4;
   fits = λ i p at_i. let a = old_of order place i p at_i in is.fits a.0 p a.1;

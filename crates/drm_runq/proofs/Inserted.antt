@@ -3,12 +3,12 @@ use Rattle.std.proofs.Common.{◌≡◌, ◌≢◌, ℕ, zero, suc, ◌+◌, ◌
 use Rattle.std.specs.Prelude.{count_by, is_some, insert, nat_lt}
 use Rattle.std.proofs.lemmas.Bool.{cases_eq, ltb-true, ltb-false}
 use Rattle.std.proofs.lemmas.List.Sums.{sum_by-cons, count_by-le-length}
+use Rattle.drm_lists.proofs.Changed.{get_set_same, get_set_other, get_set_within}
 use Rattle.drm_types.specs.Priorities.{rank_of}
 use Rattle.drm_runq.specs.declared.key.Key.{Key}
 use Rattle.drm_runq.specs.declared.queue.Place.{Place}
 use Rattle.drm_runq.specs.Keys.{HasKey}
 use Rattle.drm_runq.specs.Sorted.{weight, weight_of, IsOrderOf}
-use Rattle.drm_runq.proofs.Cleared.{key_kept}
 
 get_before : {X : Type 0} (xs : List X) (k i : ℕ) (y : X) → i < k → k ≤ length xs → slice_get (insert xs k y) i ≡ slice_get xs i
 get_before xs zero i y lt le = absurd (omega (arith, lt))
@@ -74,11 +74,6 @@ count_set (k ∷ keys) (suc e) key none =
     sum_by-cons (λ (x : Option Key). cond (is_some x) 1 0) k (set keys e (Some key)) in
     omega (arith, old, new, count_set keys e key none)
 
-get_set : {X : Type 0} (xs : List X) (e : ℕ) (x y : X) → slice_get xs e ≡ Some x → slice_get (set xs e y) e ≡ Some y
-get_set [] e x y at = absurd (cc (at))
-get_set (z ∷ xs) zero x y at = refl
-get_set (z ∷ xs) (suc e) x y at = get_set xs e x y at
-
 length_insert : {X : Type 0} (xs : List X) (k : ℕ) (y : X) → k ≤ length xs → length (insert xs k y) ≡ length xs + 1
 length_insert xs zero y le = omega arith
 length_insert [] (suc k) y le = absurd (omega (arith, le))
@@ -101,10 +96,10 @@ order_set keys order place e key is none age_fits e_fits le before after = recor
       elim (cases_eq entity e) [
         | inl same ↦
             let there : HasKey (set keys e (Some key)) e k = subst (λ n. HasKey (set keys e (Some key)) n k) same has_k in
-            let one : key ≡ k = cc (there, get_set keys e None (Some key) none) in (place, new, get_at order place new le, sym same, one)
+            let one : key ≡ k = cc (there, get_set_same keys e None (Some key) none) in (place, new, get_at order place new le, sym same, one)
         | inr apart ↦
             let away : entity ≢ e = λ same. apart same in
-            let w = is.whole entity k (sym (key_kept keys e entity (Some key) away) ∙ has_k) in moved w.0 w.1 entity k w.2 w.3 w.4
+            let w = is.whole entity k (sym (get_set_other keys e entity (Some key) away) ∙ has_k) in moved w.0 w.1 entity k w.2 w.3 w.4
       ];
   fits = λ i p at. fit i p (old_or_new order place new i p le at);
   count = omega (arith, is.count, count_set keys e key none, length_insert order place new le);
@@ -143,8 +138,8 @@ order_set keys order place e key is none age_fits e_fits le before after = recor
     in_order i j p q lt (inr x) (inr y) = absurd (omega (arith, lt, x.0, y.0))
 
     has : (i : ℕ) (p : Place) → OldOrNew order place new i p → HasKey (set keys e (Some key)) p.entity p.key
-    has i p (inl x) = key_kept keys e p.entity (Some key) (other x.0 p x.1) ∙ is.sound x.0 p x.1
-    has i p (inr x) = subst (λ (z : Place). HasKey (set keys e (Some key)) z.entity z.key) (sym x.1) (get_set keys e None (Some key) none)
+    has i p (inl x) = get_set_other keys e p.entity (Some key) (other x.0 p x.1) ∙ is.sound x.0 p x.1
+    has i p (inr x) = subst (λ (z : Place). HasKey (set keys e (Some key)) z.entity z.key) (sym x.1) (get_set_same keys e None (Some key) none)
 
     fit : (i : ℕ) (p : Place) → OldOrNew order place new i p → (p.key.age < 2 ^ 32) × (p.entity < 2 ^ 32)
     fit i p (inl x) = is.fits x.0 p x.1
@@ -158,11 +153,6 @@ order_set keys order place e key is none age_fits e_fits le before after = recor
           | false ↦ λ ge. (suc j, p, get_after order place j new (ltb-false j place ge) le ∙ at, e_is, k_is)
         ] refl
 
-set_there : {X : Type 0} (xs : List X) (e : ℕ) (y : X) → e < length xs → slice_get (set xs e y) e ≡ Some y
-set_there [] e y lt = absurd (omega (arith, lt))
-set_there (x ∷ xs) zero y lt = refl
-set_there (x ∷ xs) (suc e) y lt = set_there xs e y (omega (arith, lt))
-
 -- what the code leaves: the entity was taken out, and there is room for it
 pub set_by : (old keys : List (Option Key)) (order seen new : List Place) (place e capacity : ℕ) (key : Key) (done : Bool) → keys ≡ set old e None
     → e < length old → seen ≡ order → IsOrderOf keys order → length keys ≤ capacity → key.age < 2 ^ 32 → e < 2 ^ 32 → place ≤ length seen
@@ -171,7 +161,7 @@ pub set_by : (old keys : List (Option Key)) (order seen new : List Place) (place
     → (length order < capacity → done ≡ true) → new ≡ cond done (insert order place (record { key = key; entity = e })) order
     → IsOrderOf (set keys e (Some key)) new
 set_by old keys order seen new place e capacity key done keys_is lt seen_is is room age_fits e_fits le before after succeeds new_is =
-    let none : slice_get keys e ≡ Some None = subst (λ (l : List (Option Key)). slice_get l e ≡ Some None) (sym keys_is) (set_there old e None lt) in
+    let none : slice_get keys e ≡ Some None = subst (λ (l : List (Option Key)). slice_get l e ≡ Some None) (sym keys_is) (get_set_within old e None lt) in
     let fits : length order < capacity = omega (arith, is.count, count_set keys e key none, count_by-le-length is_some (set keys e (Some key)), length-set keys e (Some key), room) in
     let made : new ≡ insert order place (record { key = key; entity = e }) =
     new_is ∙ ap (λ b. cond b (insert order place (record { key = key; entity = e })) order) (succeeds fits) in

@@ -1,6 +1,7 @@
 use Rattle.std.proofs.Common.{rules, ◌≡◌, ◌<◌, refl, true, false, Some, length, slice_get, ap, ◌∙◌}
 use Rattle.std.proofs.lemmas.Option.{slice_get_within}
-use Rattle.lock_bench.proofs.Flags.{set_here, set_more}
+use Rattle.drm_lists.proofs.Changed.{get_set_within}
+use Rattle.lock_bench.proofs.Flags.{set_more}
 use Rattle.lock_bench.proofs.packets.begin_packet.Goals as goal
 
 pub leave-requires-clause-facts : goal.leave-requires-clause-facts
@@ -22,7 +23,7 @@ leave-requires-2-clause-facts g c =
       (
         ap (λ v. v.task) c.enter-engines.ensures.view ∙ c.requires.1,
         (λ busy. absurd (cc (idle, busy))),
-        set_here flags c.args.engine true inside,
+        get_set_within flags c.args.engine true inside,
         (λ s h. set_more flags c.args.engine s inside h),
       ),
     )

@@ -1,6 +1,6 @@
 use Rattle.std.proofs.Common.{false, true, refl, ap, ◌∙◌, arith}
 use Rattle.std.proofs.lemmas.Option.{slice_get_within}
-use Rattle.lock_bench.proofs.Flags.{set_other}
+use Rattle.drm_lists.proofs.Changed.{get_set_other}
 use Rattle.lock_bench.proofs.packets.report_packet.Goals as goal
 
 pub index_mut-requires : goal.index_mut-requires
@@ -19,7 +19,7 @@ leave-requires-clause-facts g c = (
   (
     c.args.engine,
     ap (λ v. v.task) c.enter-engines.ensures.view ∙ c.requires.1,
-    (λ s away h. set_other c.enter-engines.result.is_busy.items c.args.engine s false away ∙ h),
+    (λ s away h. get_set_other c.enter-engines.result.is_busy.items c.args.engine s false away ∙ h),
   ),
 )
 
