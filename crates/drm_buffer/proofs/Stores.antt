@@ -1,6 +1,7 @@
 -- Buffers that go out and come back.
-use Rattle.std.proofs.Common.{◌≡◌, ℕ, zero, suc, Bool, true, false, List, [], ◌∷◌, set, map, get_or, Some, refl, sym, ap, ◌∙◌, slice_get}
+use Rattle.std.proofs.Common.{◌≡◌, ℕ, zero, suc, true, false, List, [], ◌∷◌, set, map, get_or, Some, refl, ap, ◌∙◌, slice_get}
 use Rattle.std.proofs.lemmas.List.{map-set, set-set}
+use Rattle.drm_lists.proofs.Changed.{set_same}
 use Rattle.drm_buffer.specs.declared.place.Place.{Place}
 use Rattle.drm_buffer.specs.declared.place.Place.TheVariants.{In}
 use Rattle.drm_buffer.specs.Memory.{bytes_of, overwritten, written}
@@ -32,12 +33,6 @@ put_back_in places s n b bytes is num =
     ∙ (ap (λ k. let z : Stored = record { bytes = set (map bytes_at places) k bytes; out = set (map is_out_at places) k false } in z) num
     ∙ ap (λ (t : Stored). let z : Stored = record { bytes = set t.bytes b bytes; out = set t.out b false } in z) is))
 
--- a mark that is set to what it was
-same_mark : (out : List Bool) (b : ℕ) (o : Bool) → slice_get out b ≡ Some o → set out b o ≡ out
-same_mark [] b o is = refl
-same_mark (x ∷ xs) zero o is = let same : x ≡ o = cc (is) in ap (λ y. y ∷ xs) (sym same)
-same_mark (x ∷ xs) (suc b) o is = ap (λ ys. x ∷ ys) (same_mark xs b o is)
-
 -- a buffer that was taken out, written and put back
 pub written_so : (old out new : Stored) (b offset : ℕ) (taken_bytes now bytes : List ℕ) → slice_get old.out b ≡ Some false
     → taken_bytes ≡ bytes_of old.bytes b → out ≡ record old { out = set old.out b true } → now ≡ overwritten taken_bytes offset bytes
@@ -46,5 +41,5 @@ pub written_so : (old out new : Stored) (b offset : ℕ) (taken_bytes now bytes 
 written_so old out new b offset taken_bytes now bytes within was left over back =
     back
     ∙ (ap (λ (t : Stored). let z : Stored = record { bytes = set t.bytes b now; out = set t.out b false } in z) left
-    ∙ (ap (λ os. let z : Stored = record { bytes = set old.bytes b now; out = os } in z) (set-set old.out b true false ∙ same_mark old.out b false within)
+    ∙ (ap (λ os. let z : Stored = record { bytes = set old.bytes b now; out = os } in z) (set-set old.out b true false ∙ set_same old.out b false within)
     ∙ ap (λ bs. let z : Stored = record old { bytes = set old.bytes b bs } in z) (over ∙ ap (λ (r : List ℕ). overwritten r offset bytes) was)))

@@ -3,6 +3,7 @@ use Rattle.std.proofs.Common.{◌≡◌, ◌≢◌, ℕ, zero, suc, Bool, true, 
 use Rattle.std.specs.Prelude.{option_map, Contains}
 use Rattle.std.proofs.lemmas.Bool.{eqb-false}
 use Rattle.std.proofs.lemmas.List.{set-set, get_or-set_other}
+use Rattle.drm_lists.proofs.Changed.{get_set_other, set_same}
 use Rattle.drm_buffer.specs.Memory.{bytes_of}
 use Rattle.drm_buffer.specs.Stored.{Stored, set_out}
 use Rattle.drm_packet.specs.declared.Packet.{Packet}
@@ -48,25 +49,6 @@ apart_buffers (Add source from target to len) t s is_t is_s =
     ] refl is_s
 apart_buffers (Stall resets) t s is_t is_s = absurd (cc (is_s))
 
--- what a list has at other places
-pub get_other : (xs : List Bool) (i k : ℕ) (y : Bool) → k ≢ i → slice_get (set xs i y) k ≡ slice_get xs k
-get_other [] i k y apart = refl
-get_other (x ∷ xs) zero zero y apart = absurd (apart refl)
-get_other (x ∷ xs) zero (suc k) y apart = refl
-get_other (x ∷ xs) (suc i) zero y apart = refl
-get_other (x ∷ xs) (suc i) (suc k) y apart = get_other xs i k y (λ e. apart (ap suc e))
-
-pub get_same : (xs : List Bool) (i : ℕ) (x y : Bool) → slice_get xs i ≡ Some x → slice_get (set xs i y) i ≡ Some y
-get_same [] i x y is = absurd (cc (is))
-get_same (z ∷ xs) zero x y is = refl
-get_same (z ∷ xs) (suc i) x y is = get_same xs i x y is
-
--- a place that is set to what it was
-set_so : (out : List Bool) (b : ℕ) (o : Bool) → slice_get out b ≡ Some o → set out b o ≡ out
-set_so [] b o is = refl
-set_so (x ∷ xs) zero o is = let same : x ≡ o = cc (is) in ap (λ y. y ∷ xs) (sym same)
-set_so (x ∷ xs) (suc b) o is = ap (λ ys. x ∷ ys) (set_so xs b o is)
-
 set_own : (m : List (List ℕ)) (b : ℕ) → set m b (bytes_of m b) ≡ m
 set_own [] b = refl
 set_own (x ∷ xs) zero = refl
@@ -79,7 +61,7 @@ pub ran_alone : (p : Packet) (s one new : Stored) (t : ℕ) (write after : List 
 ran_alone p s one new t write after is_t is_s within was left ran back =
     back
     ∙ (ap (λ (z : Stored). let y : Stored = record { bytes = set z.bytes t after; out = set z.out t false } in y) left
-    ∙ (ap (λ os. let y : Stored = record { bytes = set s.bytes t after; out = os } in y) (set-set s.out t true false ∙ set_so s.out t false within)
+    ∙ (ap (λ os. let y : Stored = record { bytes = set s.bytes t after; out = os } in y) (set-set s.out t true false ∙ set_same s.out t false within)
     ∙ ap (λ bs. let y : Stored = record s { bytes = bs } in y)
     (ap (set s.bytes t) (ran ∙ (ap (λ w. part_effect p w None) was ∙ ap (λ o. part_effect p (bytes_of s.bytes t) (option_map (bytes_of s.bytes) o)) (sym is_s)))
     ∙ sym (parts_make_the_effect p t s.bytes is_t))))
@@ -93,17 +75,17 @@ pub ran_beside : (p : Packet) (s one two three new : Stored) (t b : ℕ) (write 
 ran_beside p s one two three new t b write read after is_t is_b in_t in_b was left read_was left_two ran back_two back =
     let other = apart_buffers p t b is_t is_b in
     let read_is : read ≡ bytes_of s.bytes b = read_was ∙ ap (λ (z : Stored). bytes_of z.bytes b) left in
-    let still : slice_get (set s.out t true) b ≡ Some false = get_other s.out t b true other ∙ in_b in
+    let still : slice_get (set s.out t true) b ≡ Some false = get_set_other s.out t b true other ∙ in_b in
     let both : two ≡ record s { out = set (set s.out t true) b true } = left_two ∙ ap (λ (z : Stored). let y : Stored = record z { out = set z.out b true } in y) left in
     let again : three ≡ record s { out = set s.out t true } =
     back_two
     ∙ (ap (λ (z : Stored). let y : Stored = record { bytes = set z.bytes b read; out = set z.out b false } in y) both
     ∙ (ap (λ os. let y : Stored = record { bytes = set s.bytes b read; out = os } in y)
-    (set-set (set s.out t true) b true false ∙ set_so (set s.out t true) b false still)
+    (set-set (set s.out t true) b true false ∙ set_same (set s.out t true) b false still)
     ∙ ap (λ bs. let y : Stored = record { bytes = bs; out = set s.out t true } in y) (ap (set s.bytes b) read_is ∙ set_own s.bytes b))) in
     back
     ∙ (ap (λ (z : Stored). let y : Stored = record { bytes = set z.bytes t after; out = set z.out t false } in y) again
-    ∙ (ap (λ os. let y : Stored = record { bytes = set s.bytes t after; out = os } in y) (set-set s.out t true false ∙ set_so s.out t false in_t)
+    ∙ (ap (λ os. let y : Stored = record { bytes = set s.bytes t after; out = os } in y) (set-set s.out t true false ∙ set_same s.out t false in_t)
     ∙ ap (λ bs. let y : Stored = record s { bytes = bs } in y)
     (ap (set s.bytes t) (ran ∙ (ap (λ w. part_effect p w (Some read)) was
     ∙ (ap (λ r. part_effect p (bytes_of s.bytes t) (Some r)) read_is ∙ ap (λ o. part_effect p (bytes_of s.bytes t) (option_map (bytes_of s.bytes) o)) (sym is_b))))
@@ -131,7 +113,7 @@ source_touched (Stall resets) t is = absurd (cc (is))
 -- what is marked of other buffers
 pub set_out_other : (out : List Bool) (o : Option ℕ) (b : ℕ) (x : Bool) → ((t : ℕ) → o ≡ Some t → b ≢ t) → slice_get (set_out out o x) b ≡ slice_get out b
 set_out_other out None b x apart = refl
-set_out_other out (Some t) b x apart = get_other out t b x (apart t refl)
+set_out_other out (Some t) b x apart = get_set_other out t b x (apart t refl)
 
 -- the other buffer comes back as it is shown
 read_back : (p : Packet) (t : ℕ) (m : List (List ℕ)) (w : List ℕ) (o : Option ℕ) → target_of p ≡ Some t → source_of p ≡ o

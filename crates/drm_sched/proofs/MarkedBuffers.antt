@@ -10,7 +10,7 @@ use Rattle.drm_packet.specs.declared.Packet.{Packet}
 use Rattle.drm_packet.specs.declared.Packet.TheVariants.{Fill, Copy, Add, Stall}
 use Rattle.drm_packet.specs.Touches.{touches}
 use Rattle.drm_packet.specs.Parts.{target_of, source_of}
-use Rattle.drm_packet.proofs.InStores.{apart_buffers, target_touched, source_touched, set_out_other, get_same}
+use Rattle.drm_packet.proofs.InStores.{apart_buffers, target_touched, source_touched, set_out_other}
 use Rattle.drm_sched.specs.Marks.{Mark, MarkedDevice, mark_of, out_by, begun_device}
 use Rattle.drm_sched.specs.Parts.{HasOut}
 
@@ -44,10 +44,10 @@ set_touched out p b x y touched at =
     elim (touched_cases p b touched) [
       | inl is_t ↦
           set_out_other (set_out out (target_of p) x) (source_of p) b x (λ s is_s e. apart_buffers p b s is_t is_s (sym e))
-          ∙ (ap (λ o. slice_get (set_out out o x) b) is_t ∙ get_same out b y x at)
+          ∙ (ap (λ o. slice_get (set_out out o x) b) is_t ∙ get_set_same out b y x at)
       | inr is_s ↦
           ap (λ o. slice_get (set_out (set_out out (target_of p) x) o x) b) is_s
-          ∙ get_same (set_out out (target_of p) x) b y x (set_out_other out (target_of p) b x (λ t is_t. apart_buffers p t b is_t is_s) ∙ at)
+          ∙ get_set_same (set_out out (target_of p) x) b y x (set_out_other out (target_of p) b x (λ t is_t. apart_buffers p t b is_t is_s) ∙ at)
     ]
 
 pub set_untouched : (out : List Bool) (p : Packet) (b : ℕ) (x : Bool) → (Contains (touches p) b → ⊥) → slice_get (set_both out p x) b ≡ slice_get out b

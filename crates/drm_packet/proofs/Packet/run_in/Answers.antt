@@ -1,7 +1,8 @@
 use Rattle.std.proofs.Common.{◌≡◌, ℕ, Some, true, false, List, set, slice_get, sym, ap, ◌∙◌}
+use Rattle.drm_lists.proofs.Changed.{get_set_other, get_set_same}
 use Rattle.drm_buffer.specs.Stored.{Stored}
 use Rattle.drm_packet.specs.Parts.{target_of, source_of}
-use Rattle.drm_packet.proofs.InStores.{apart_buffers, get_other, get_same, ran_alone, ran_beside}
+use Rattle.drm_packet.proofs.InStores.{apart_buffers, ran_alone, ran_beside}
 use Rattle.drm_packet.proofs.Packet.run_in.Goals as goal
 use Rattle.drm_packet.proofs.Packet.run_in.Goals.{in-None, in-Some-source}
 
@@ -13,7 +14,7 @@ take-read-requires c =
     let b = c.in-Some-source.source in
     let is_t : target_of p ≡ Some t = sym c.target.ensures ∙ c.in-Some.is in
     let is_b : source_of p ≡ Some b = sym c.source.ensures ∙ c.in-Some-source.is in
-    ap (λ (z : Stored). slice_get z.out b) c.take-write.ensures.left ∙ (get_other s.out t b true (apart_buffers p t b is_t is_b) ∙ c.requires.source b is_b)
+    ap (λ (z : Stored). slice_get z.out b) c.take-write.ensures.left ∙ (get_set_other s.out t b true (apart_buffers p t b is_t is_b) ∙ c.requires.source b is_b)
 
 pub put-requires : goal.put-requires
 put-requires c =
@@ -24,8 +25,8 @@ put-requires c =
     let is_t : target_of p ≡ Some t = sym c.target.ensures ∙ c.in-Some.is in
     let is_b : source_of p ≡ Some b = sym c.source.ensures ∙ c.in-Some-source.is in
     let still : slice_get c.take-write.new.self.out b ≡ Some false =
-    ap (λ (z : Stored). slice_get z.out b) c.take-write.ensures.left ∙ (get_other s.out t b true (apart_buffers p t b is_t is_b) ∙ c.requires.source b is_b) in
-    ap (λ (z : Stored). slice_get z.out b) c.take-read.ensures.left ∙ get_same c.take-write.new.self.out b false true still
+    ap (λ (z : Stored). slice_get z.out b) c.take-write.ensures.left ∙ (get_set_other s.out t b true (apart_buffers p t b is_t is_b) ∙ c.requires.source b is_b) in
+    ap (λ (z : Stored). slice_get z.out b) c.take-read.ensures.left ∙ get_set_same c.take-write.new.self.out b false true still
 
 pub put-requires-2 : goal.put-requires-2
 put-requires-2 c =
@@ -34,7 +35,7 @@ put-requires-2 c =
     let t = c.in-Some.target in
     let is_t : target_of p ≡ Some t = sym c.target.ensures ∙ c.in-Some.is in
     let out : slice_get c.take-write.new.self.out t ≡ Some true =
-    ap (λ (z : Stored). slice_get z.out t) c.take-write.ensures.left ∙ get_same s.out t false true (c.requires.target t is_t) in
+    ap (λ (z : Stored). slice_get z.out t) c.take-write.ensures.left ∙ get_set_same s.out t false true (c.requires.target t is_t) in
     elim c.match-source.branch [
       | in-None w ↦ ap (λ (z : Stored). slice_get z.out t) w.store-is ∙ out
       | in-Some-source w ↦
@@ -43,9 +44,9 @@ put-requires-2 c =
           let other = λ (e : t ≡ b). apart_buffers p t b is_t is_b (sym e) in
           ap (λ (z : Stored). slice_get z.out t) w.store-is
           ∙ (ap (λ (z : Stored). slice_get z.out t) w.put.ensures
-          ∙ (get_other w.take-read.new.self.out b t false other
+          ∙ (get_set_other w.take-read.new.self.out b t false other
           ∙ (ap (λ (z : Stored). slice_get z.out t) w.take-read.ensures.left
-          ∙ (get_other c.take-write.new.self.out b t true other ∙ out))))
+          ∙ (get_set_other c.take-write.new.self.out b t true other ∙ out))))
     ]
 
 pub returns : goal.returns
