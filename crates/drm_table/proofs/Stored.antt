@@ -1,5 +1,5 @@
 -- Which buffers of a device are in, and which a packet asks for.
-use Rattle.std.proofs.Common.{◌≡◌, ℕ, zero, suc, ◌+◌, ◌<◌, Bool, true, false, cond, ◌==◌, nat_lt, nat_le, List, [], ◌∷◌, length, map, get_or, Some, None, refl, sym, ap, subst, ◌∙◌, arith, slice_get}
+use Rattle.std.proofs.Common.{◌≡◌, ℕ, zero, suc, ◌+◌, ◌<◌, true, false, nat_lt, nat_le, List, [], ◌∷◌, length, map, get_or, Some, None, refl, sym, ap, subst, ◌∙◌, arith, slice_get}
 use Rattle.std.specs.Prelude.{Contains}
 use Rattle.std.specs.Option.{option_map_or}
 use Rattle.std.proofs.lemmas.Bool.{and_parts, ltb-true, leb-true}
@@ -9,30 +9,12 @@ use Rattle.drm_buffer.specs.Stored.{Stored, all_in, AreIn}
 use Rattle.drm_packet.specs.declared.Packet.{Packet}
 use Rattle.drm_packet.specs.declared.Packet.TheVariants.{Fill, Copy, Add, Stall}
 use Rattle.drm_packet.specs.Touches.{touches, is_within, is_in_range}
-use Rattle.drm_packet.specs.Parts.{target_of, source_of}
 use Rattle.drm_state.specs.declared.journal.JobRecord.{JobRecord}
 use Rattle.drm_table.specs.declared.table.Table.{Table}
 use Rattle.drm_state.specs.Ring.{current_of}
 use Rattle.drm_state.specs.Outcomes.{next_packet}
 use Rattle.drm_table.specs.Tables.{state_of, IsWhole}
 use Rattle.drm_table.proofs.TableFacts.{running_at, next_in_range}
-
--- a packet touches its target and its source
-pub target_touched : (p : Packet) (t : ℕ) → target_of p ≡ Some t → Contains (touches p) t
-target_touched (Fill buffer offset len byte) t is = (0, omega arith, let same : buffer ≡ t = cc (is) in same)
-target_touched (Copy source from target to len) t is = (1, omega arith, let same : target ≡ t = cc (is) in same)
-target_touched (Add source from target to len) t is = (1, omega arith, let same : target ≡ t = cc (is) in same)
-target_touched (Stall resets) t is = absurd (cc (is))
-
-source_there : (b : Bool) (s t : ℕ) → cond b None (Some s) ≡ Some t → s ≡ t
-source_there true s t is = absurd (cc (is))
-source_there false s t is = cc (is)
-
-pub source_touched : (p : Packet) (t : ℕ) → source_of p ≡ Some t → Contains (touches p) t
-source_touched (Fill buffer offset len byte) t is = absurd (cc (is))
-source_touched (Copy source from target to len) t is = (0, omega arith, source_there (source == target) source t is)
-source_touched (Add source from target to len) t is = (0, omega arith, source_there (source == target) source t is)
-source_touched (Stall resets) t is = absurd (cc (is))
 
 -- a buffer that has bytes is there
 has_bytes : (m : List (List ℕ)) (b : ℕ) → 0 < length (get_or m b []) → b < length m

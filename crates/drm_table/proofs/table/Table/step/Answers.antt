@@ -1,11 +1,11 @@
 use Rattle.std.proofs.Common.{◌+◌, ◌<◌, ◌∙◌, sym, ap, subst, Some, None, arith, slice_get, ◌≤◌}
 use Rattle.std.specs.Prelude.{option_map, IfSome}
 use Rattle.std.specs.Option.{option_map_or}
+use Rattle.drm_packet.proofs.InStores.{target_touched, source_touched}
 use Rattle.drm_buffer.specs.Memory.{sizes_of}
 use Rattle.drm_buffer.specs.Stored.{Stored}
 use Rattle.drm_packet.proofs.Sizes.{sizes-effect}
 use Rattle.drm_state.specs.declared.journal.JobRecord.{JobRecord}
-use Rattle.drm_table.proofs.Stored.{target_touched, source_touched}
 use Rattle.drm_state.specs.Outcomes.{must_stall}
 use Rattle.drm_table.specs.Tables.{state_of}
 use Rattle.drm_table.proofs.TableFacts.{running_at, running_found, next_in_range, few_packets, vec_holds, row_there}
