@@ -1,13 +1,12 @@
 -- What holds of a device that was just built.
-use Rattle.std.proofs.Common.{◌≡◌, ◌<◌, ◌≤◌, ◌+◌, ℕ, zero, suc, Bool, true, false, not, List, [], ◌∷◌, length, map, replicate, drop, refl, sym, ap, ◌∙◌, subst, Some, None, Option, arith, slice_get}
+use Rattle.std.proofs.Common.{◌≡◌, ◌<◌, ◌≤◌, ◌+◌, ℕ, zero, suc, true, List, [], ◌∷◌, length, map, replicate, drop, refl, sym, ap, ◌∙◌, subst, None, arith}
 use Rattle.std.specs.Prelude.{nat_le}
 use Rattle.std.proofs.lemmas.Bool.{and_parts, leb-true}
 use Rattle.std.proofs.lemmas.List.Elements.{All-nil}
 use Rattle.std.proofs.lemmas.List.{length-map, length-replicate}
-use Rattle.drm_types.specs.declared.spec.BadSpec.{BadSpec}
+use Rattle.drm_types.proofs.Firsts.{none_at, none_when}
 use Rattle.drm_types.specs.declared.spec.DeviceSpec.{DeviceSpec}
-use Rattle.drm_types.specs.Firsts.{when, first_of}
-use Rattle.drm_types.specs.Limits.{is_between, whole, each, are_rings, spec_fault}
+use Rattle.drm_types.specs.Limits.{is_between, whole, spec_fault, spec_tests}
 use Rattle.drm_resv.specs.Reservation.{Reservation, WithRoom}
 use Rattle.drm_state.specs.Keeps.{word_at}
 use Rattle.drm_state.specs.Reservation.{IsOfJob, Fits}
@@ -15,36 +14,10 @@ use Rattle.ww_lock.specs.Lifetime.{AllFit}
 
 -- ---- its description is within the limits
 
-none_first : {F : Type 0} (o : Option F) (rest : List (Option F)) → first_of (o ∷ rest) ≡ None → (o ≡ None) × (first_of rest ≡ None)
-none_first None rest e = (refl, e)
-none_first (Some f) rest e = absurd (cc (e))
-
-none_at : {F : Type 0} (tests : List (Option F)) (k : ℕ) (o : Option F) → first_of tests ≡ None → slice_get tests k ≡ Some o → o ≡ None
-none_at [] k o none is = absurd (cc (is))
-none_at (t ∷ ts) zero o none is = let same : t ≡ o = cc (is) in sym same ∙ (none_first t ts none).0
-none_at (t ∷ ts) (suc k) o none is = none_at ts k o (none_first t ts none).1 is
-
-none_when : {F : Type 0} (b : Bool) (f : F) → when (not b) f ≡ None → b ≡ true
-none_when true f e = refl
-none_when false f e = absurd (cc (e))
-
-abbrev tests_of : DeviceSpec → List (Option BadSpec)
-tests_of spec =
-    whole 0 (is_between 1 64 (length spec.buffers))
-    ∷ each 1 (λ bytes. is_between 1 4096 (length bytes)) spec.buffers
-    ∷ whole 2 (is_between 1 8 (length spec.rings))
-    ∷ each 3 (λ ring. is_between 1 65535 ring.credit_limit) spec.rings
-    ∷ each 4 (λ ring. is_between 1 4294967295 ring.timeout) spec.rings
-    ∷ each 5 (λ ring. is_between 0 1000 ring.hang_limit) spec.rings
-    ∷ whole 6 (is_between 1 64 (length spec.entities))
-    ∷ each 7 (λ entity. are_rings (length spec.rings) entity.rings) spec.entities
-    ∷ whole 8 (is_between 1 65535 spec.max_jobs)
-    ∷ []
-
 pub few_buffers : (spec : DeviceSpec) → spec_fault spec ≡ None → length spec.buffers ≤ 64
 few_buffers spec none =
     let count : is_between 1 64 (length spec.buffers) ≡ true = none_when (is_between 1 64 (length spec.buffers)) (record { part = 0; index = 0 })
-    (none_at (tests_of spec) 0 (whole 0 (is_between 1 64 (length spec.buffers))) none refl) in
+    (none_at (spec_tests spec) 0 (whole 0 (is_between 1 64 (length spec.buffers))) none refl) in
     leb-true (length spec.buffers) 64 (and_parts (nat_le 1 (length spec.buffers)) (nat_le (length spec.buffers) 64) count).1
 
 pub few_entities : (spec : DeviceSpec) → spec_fault spec ≡ None → length spec.entities ≤ 64
@@ -56,7 +29,7 @@ few_entities spec none =
 pub some_jobs : (spec : DeviceSpec) → spec_fault spec ≡ None → 0 < spec.max_jobs
 some_jobs spec none =
     let count : is_between 1 65535 spec.max_jobs ≡ true = none_when (is_between 1 65535 spec.max_jobs) (record { part = 8; index = 0 })
-    (none_at (tests_of spec) 8 (whole 8 (is_between 1 65535 spec.max_jobs)) none refl) in
+    (none_at (spec_tests spec) 8 (whole 8 (is_between 1 65535 spec.max_jobs)) none refl) in
     let least = leb-true 1 spec.max_jobs (and_parts (nat_le 1 spec.max_jobs) (nat_le spec.max_jobs 65535) count).0 in
     omega (arith, least)
 

@@ -1,31 +1,17 @@
 -- Numbers of a description that is in its limits.
-use Rattle.std.proofs.Common.{◌≡◌, ◌≤◌, ℕ, List, [], ◌∷◌, length, refl, Some, None, Option, slice_get}
+use Rattle.std.proofs.Common.{◌≡◌, ◌≤◌, ℕ, length, refl, Some, None, slice_get}
 use Rattle.std.specs.Prelude.{nat_le}
 use Rattle.std.proofs.lemmas.Bool.{and_parts, leb-true}
-use Rattle.drm_types.specs.declared.spec.BadSpec.{BadSpec}
 use Rattle.drm_types.specs.declared.spec.DeviceSpec.{DeviceSpec}
-use Rattle.drm_types.specs.Limits.{are_rings, each, is_between, spec_fault, whole}
+use Rattle.drm_types.specs.Limits.{is_between, spec_fault, whole, spec_tests}
 use Rattle.drm_types.proofs.Firsts.{none_at, none_when}
 use Rattle.drm_workers.specs.declared.RunFault.{RunFault}
 use Rattle.drm_workers.specs.declared.RunFault.TheVariants.{Spec, Memory, NoThread, GaveUp}
 use Rattle.drm_workers.specs.Faults.{IsFaultOf, IsOfWorkers}
 
-abbrev tests_of : DeviceSpec → List (Option BadSpec)
-tests_of spec =
-    whole 0 (is_between 1 64 (length spec.buffers))
-    ∷ each 1 (λ bytes. is_between 1 4096 (length bytes)) spec.buffers
-    ∷ whole 2 (is_between 1 8 (length spec.rings))
-    ∷ each 3 (λ ring. is_between 1 65535 ring.credit_limit) spec.rings
-    ∷ each 4 (λ ring. is_between 1 4294967295 ring.timeout) spec.rings
-    ∷ each 5 (λ ring. is_between 0 1000 ring.hang_limit) spec.rings
-    ∷ whole 6 (is_between 1 64 (length spec.entities))
-    ∷ each 7 (λ entity. are_rings (length spec.rings) entity.rings) spec.entities
-    ∷ whole 8 (is_between 1 65535 spec.max_jobs)
-    ∷ []
-
-few : (spec : DeviceSpec) (part most n : ℕ) → spec_fault spec ≡ None → slice_get (tests_of spec) part ≡ Some (whole part (is_between 1 most n)) → n ≤ most
+few : (spec : DeviceSpec) (part most n : ℕ) → spec_fault spec ≡ None → slice_get (spec_tests spec) part ≡ Some (whole part (is_between 1 most n)) → n ≤ most
 few spec part most n none at =
-    leb-true n most (and_parts (nat_le 1 n) (nat_le n most) (none_when (is_between 1 most n) (record { part = part; index = 0 }) (none_at (tests_of spec) part (whole part (is_between 1 most n)) none at))).1
+    leb-true n most (and_parts (nat_le 1 n) (nat_le n most) (none_when (is_between 1 most n) (record { part = part; index = 0 }) (none_at (spec_tests spec) part (whole part (is_between 1 most n)) none at))).1
 
 pub few_rings : (spec : DeviceSpec) → spec_fault spec ≡ None → length spec.rings ≤ 8
 few_rings spec none = few spec 2 8 (length spec.rings) none refl
