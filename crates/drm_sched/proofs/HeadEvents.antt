@@ -8,7 +8,7 @@ use Rattle.drm_lists.proofs.Changed.{get_set_same, get_set_other}
 use Rattle.drm_types.specs.declared.outcome.Outcome.{Outcome}
 use Rattle.drm_types.specs.declared.outcome.Outcome.TheVariants as outcome
 use Rattle.drm_types.specs.Firsts.{first, when}
-use Rattle.drm_types.proofs.Firsts.{none_first}
+use Rattle.drm_types.proofs.Firsts.{none_first, false_where}
 use Rattle.drm_fence.specs.declared.pair.Pair.{Pair}
 use Rattle.drm_fence.specs.declared.phase.Phase.{Phase}
 use Rattle.drm_fence.specs.declared.phase.Phase.TheVariants.{Queued, Scheduled, Ended}
@@ -27,7 +27,7 @@ use Rattle.drm_state.specs.Ring.{is_stopped, head_of, current_of, limit_of, age_
 use Rattle.drm_state.specs.State.{EntityState, DeviceState}
 use Rattle.drm_state.specs.Steady.{IsSteady}
 use Rattle.drm_sched.specs.Watching.{watched_of}
-use Rattle.drm_state.proofs.DeviceSteps.{at_record_is, not_when}
+use Rattle.drm_state.proofs.DeviceSteps.{at_record_is}
 use Rattle.drm_state.proofs.FinishLawful.{IsHead, head_is}
 use Rattle.drm_sched.proofs.HeadsLeft.{LeavesHead, LeavesUnmet, SameHead, SameHeads, same_heads_itself, same_heads_set, same_heads_map, same_heads_trans, set_leaves, stand_alike, stand_left, but_left}
 use Rattle.drm_fence.specs.Waiting.{without_early, without_entity, without_fence}
@@ -267,7 +267,7 @@ stopped_of : (d : DeviceState) (entity : ℕ) → reap_refusal d entity ≡ None
 stopped_of d entity may =
     let first_none = (none_first (when (not (is_stopped d entity) || is_none (first (queue_of entity d.journal))) Nothing)
     (option_map_or (λ n. when (must_still_wait d.journal n.0 n.1) Waits) (first (queue_of entity d.journal)) None ∷ []) may).0 in
-    unnot (is_stopped d entity) (neither (not (is_stopped d entity)) (is_none (first (queue_of entity d.journal))) (not_when (not (is_stopped d entity) || is_none (first (queue_of entity d.journal))) Nothing first_none)).0
+    unnot (is_stopped d entity) (neither (not (is_stopped d entity)) (is_none (first (queue_of entity d.journal))) (false_where (not (is_stopped d entity) || is_none (first (queue_of entity d.journal))) Nothing first_none)).0
   where
     unnot : (b : Bool) → not b ≡ false → b ≡ true
     unnot true is = refl

@@ -11,7 +11,7 @@ use Rattle.drm_types.specs.declared.outcome.Outcome.TheVariants as outcome
 use Rattle.drm_buffer.specs.Memory.{bytes_of}
 use Rattle.drm_fence.specs.declared.phase.Phase.TheVariants.{Scheduled}
 use Rattle.drm_fence.specs.Phases.{is_scheduled}
-use Rattle.drm_types.proofs.Firsts.{none_first}
+use Rattle.drm_types.proofs.Firsts.{none_first, false_where}
 use Rattle.drm_job.specs.declared.Draft.{Draft}
 use Rattle.drm_packet.specs.Touches.{touches}
 use Rattle.drm_packet.specs.Parts.{target_of, other_bytes}
@@ -35,7 +35,7 @@ use Rattle.drm_state.proofs.ChoiceIs.{choice_is}
 use Rattle.drm_state.proofs.PickLawful.{pick_is, not_scheduled, given}
 use Rattle.drm_state.proofs.HangLawful.{pending_after_hang}
 use Rattle.drm_state.proofs.ReapLawful.{reapable}
-use Rattle.drm_state.proofs.DeviceSteps.{at_record_is, not_when, pick_kept, finish_kept, timeout_kept, reap_kept}
+use Rattle.drm_state.proofs.DeviceSteps.{at_record_is, pick_kept, finish_kept, timeout_kept, reap_kept}
 use Rattle.drm_sched.proofs.Marks.{find_agree}
 
 -- the ring's pending jobs stay as they are, and so does the memory; more may be pending behind them
@@ -252,7 +252,7 @@ reap_leaves d e ring steady here may =
         → LeavesRing d (option_map_or {U = Answer × DeviceState} (λ (n : ℕ × JobRecord). (answer.Reaped n.0, record d { journal = ended_at d.journal n.0 outcome.Stopped })) o (answer.Ok, d)).1 ring
     by_head None is may = leaves_itself d ring
     by_head (Some n) is may =
-        let reap = reapable d e n is (not-false _ (not_when (must_still_wait d.journal n.0 n.1) Waits may)) in
+        let reap = reapable d e n is (not-false _ (false_where (must_still_wait d.journal n.0 n.1) Waits may)) in
         record {
           memory = refl;
           extra = [];

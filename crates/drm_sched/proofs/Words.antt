@@ -6,7 +6,7 @@ use Rattle.std.proofs.lemmas.Bool.{not-false}
 use Rattle.drm_types.specs.declared.outcome.Outcome.{Outcome}
 use Rattle.drm_types.specs.declared.outcome.Outcome.TheVariants as outcome
 use Rattle.drm_types.specs.Firsts.{first, when}
-use Rattle.drm_types.proofs.Firsts.{none_first}
+use Rattle.drm_types.proofs.Firsts.{none_first, false_where}
 use Rattle.drm_job.specs.declared.Draft.{Draft}
 use Rattle.drm_fence.specs.declared.phase.Phase.{Phase}
 use Rattle.drm_fence.specs.declared.phase.Phase.TheVariants.{Queued, Scheduled, Ended}
@@ -33,7 +33,6 @@ use Rattle.drm_table.proofs.ArmDone.{may_arm}
 use Rattle.drm_state.proofs.ChoiceIs.{choice_is}
 use Rattle.drm_state.proofs.Covering.{not_declared}
 use Rattle.drm_state.specs.Events.{IsKept}
-use Rattle.drm_state.proofs.DeviceSteps.{not_when}
 use Rattle.drm_state.proofs.FitsKept.{fits_kept, unused_fits, get_at_push}
 use Rattle.drm_state.proofs.PickLawful.{given}
 use Rattle.drm_state.proofs.ReapLawful.{reapable}
@@ -193,7 +192,7 @@ reap_words d new e f may is =
         → EndsAt d new f 4
     by_head None at may is = let never : answer.Ok ≡ answer.Reaped f = ap (λ (z : Answer × DeviceState). z.0) is in absurd (cc (never))
     by_head (Some n) at may is =
-        let reap = reapable d e n at (not-false _ (not_when (must_still_wait d.journal n.0 n.1) Waits may)) in
+        let reap = reapable d e n at (not-false _ (false_where (must_still_wait d.journal n.0 n.1) Waits may)) in
         let told : answer.Reaped n.0 ≡ answer.Reaped f = ap (λ (z : Answer × DeviceState). z.0) is in
         let fence : n.0 ≡ f = cc (told) in
         subst (λ k. EndsAt d new k 4) fence (ended_at_is d new n.0 n.1 outcome.Stopped reap.at (ap (λ (z : Answer × DeviceState). z.1.journal) (sym is)))

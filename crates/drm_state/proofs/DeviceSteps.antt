@@ -1,11 +1,11 @@
 -- Each call of a device, where it is not refused, leads from a steady device to a steady one that it grows to.
-use Rattle.std.proofs.Common.{◌≡◌, ℕ, ◌-◌, ◌<◌, Bool, true, false, not, cond, ◌||◌, List, [], ◌∷◌, set, length, Some, None, Option, refl, sym, ap, subst, ◌∙◌, slice_get}
+use Rattle.std.proofs.Common.{◌≡◌, ℕ, ◌-◌, ◌<◌, true, false, not, cond, ◌||◌, List, [], ◌∷◌, set, length, Some, None, Option, refl, sym, ap, subst, ◌∙◌, slice_get}
 use Rattle.std.specs.Option.{option_map_or}
 use Rattle.std.specs.Prelude.{is_none, nat_lt}
 use Rattle.std.proofs.lemmas.Bool.{ltb-false, not-false}
 use Rattle.std.proofs.lemmas.List.{length-set, length-map}
 use Rattle.drm_types.specs.Firsts.{when}
-use Rattle.drm_types.proofs.Firsts.{none_first}
+use Rattle.drm_types.proofs.Firsts.{none_first, false_where}
 use Rattle.drm_packet.specs.declared.Packet.{Packet}
 use Rattle.drm_types.specs.declared.outcome.Outcome.TheVariants as outcome
 use Rattle.drm_state.specs.declared.answer.Answer.{Answer}
@@ -42,11 +42,6 @@ changed_count journal f change =
 pub kept_itself : (d : DeviceState) → IsSteady d → IsKept d d
 kept_itself d steady = record { steady = steady; grows = grows_itself d; count = refl }
 
--- a cause that was not told does not hold
-pub not_when : {F : Type 0} (b : Bool) (f : F) → when b f ≡ None → b ≡ false
-not_when true f e = absurd (cc (e))
-not_when false f e = refl
-
 -- what is done at a record that is there
 pub at_record_is : (P : Answer × DeviceState → Type 0) (d : DeviceState) (F : ℕ → JobRecord → Answer × DeviceState) (none : Answer × DeviceState) (f : ℕ) (r : JobRecord)
     → slice_get d.journal f ≡ Some r → P (F f r) → P (at_record d F none (Some f))
@@ -62,7 +57,7 @@ pick_kept d ring now steady here may = by_choice (choice d ring) refl may
     by_choice (Some f) is fits =
         let c = choice_is d ring f is in
         let room = ltb-false (free_credits d ring) (credits_of d ring f)
-        (not_when (nat_lt (free_credits d ring) (credits_of d ring f)) (NoCredit (credits_of d ring f) (free_credits d ring)) fits) in
+        (false_where (nat_lt (free_credits d ring) (credits_of d ring f)) (NoCredit (credits_of d ring f) (free_credits d ring)) fits) in
         at_record_is (λ p. IsKept d p.1) d (λ number r. (answer.Picked number (is_guilty d r.job.entity), picked_device d ring now number)) (answer.Ok, d) f c.0 c.1.at
         (record { steady = pick_steady d ring f now c.0 steady here c.1 room; grows = pick_grows d ring now f c.0 c.1.at c.1.queued; count = changed_count d.journal f (given d) })
 
@@ -99,7 +94,7 @@ finish_kept d ring now steady here may = by_head (head_of d ring) refl may
     by_head (Some f) is may =
         let h = head_is d ring f steady.lawful here is in
         let complete : is_complete h.0 ≡ true =
-        sym (at_test d.journal f h.0 is_complete h.1.at) ∙ not-false (is_at d.journal f is_complete) (not_when (not (is_at d.journal f is_complete)) NotComplete may) in
+        sym (at_test d.journal f h.0 is_complete h.1.at) ∙ not-false (is_at d.journal f is_complete) (false_where (not (is_at d.journal f is_complete)) NotComplete may) in
         at_record_is (λ p. IsKept d p.1) d (λ number r. (answer.Finished number (final_outcome r), finished_device d ring now number (final_outcome r))) (answer.Ok, d) f h.0 h.1.at
         (record {
           steady = finish_steady d ring f now h.0 steady here h.1 complete;
@@ -156,7 +151,7 @@ reap_kept d e steady may =
         → IsKept d (option_map_or {U = Answer × DeviceState} (λ (n : ℕ × JobRecord). (answer.Reaped n.0, record d { journal = ended_at d.journal n.0 outcome.Stopped })) o (answer.Ok, d)).1
     by_head None is may = kept_itself d steady
     by_head (Some n) is may =
-        let reap = reapable d e n is (not-false _ (not_when (must_still_wait d.journal n.0 n.1) Waits may)) in
+        let reap = reapable d e n is (not-false _ (false_where (must_still_wait d.journal n.0 n.1) Waits may)) in
         record {
           steady = reap_steady d n.0 n.1 steady reap;
           grows = end_grows d (reaped_device d n.0) n.0 n.1 outcome.Stopped reap.at (not_ended n.1.phase reap.queued) refl refl refl;

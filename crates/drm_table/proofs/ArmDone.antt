@@ -17,7 +17,7 @@ use Rattle.drm_job.specs.declared.Draft.{Draft}
 use Rattle.drm_job.specs.declared.JobFault.TheVariants.{NoEntity}
 use Rattle.drm_job.specs.Conflicts.{conflicts}
 use Rattle.drm_job.specs.Fault.{job_tests, IsJob}
-use Rattle.drm_types.proofs.Firsts.{none_first, none_at, none_when}
+use Rattle.drm_types.proofs.Firsts.{none_first, none_at, none_when, false_where}
 use Rattle.drm_fence.specs.declared.phase.Phase.TheVariants.{Queued}
 use Rattle.drm_fence.specs.Fences.{Fences}
 use Rattle.drm_resv.specs.Stored.{ListsWithPlaces}
@@ -41,7 +41,6 @@ use Rattle.drm_table.proofs.PickDone.{rings_there}
 use Rattle.drm_state.proofs.Homes.{arming_listed, listed_there}
 use Rattle.drm_state.proofs.LoadsKept.{loads_armed}
 use Rattle.drm_state.proofs.ArmLawful.{arm_steady}
-use Rattle.drm_state.proofs.DeviceSteps.{not_when}
 use Rattle.drm_table.proofs.TableFacts.{entity_row_there}
 use Rattle.drm_table.proofs.Queues.{marks_pushed, stands_pushed}
 use Rattle.drm_state.proofs.Records.{at_test}
@@ -87,7 +86,7 @@ may_arm d job may =
     let two = none_first (when (nat_le d.spec.max_jobs (length d.journal)) Full) (option_map NoFence (find (λ f. nat_le (length d.journal) f) job.after) ∷ []) rest in
     let three = (none_first (option_map NoFence (find (λ f. nat_le (length d.journal) f) job.after)) [] two.1).0 in
     record {
-      place = leb-false d.spec.max_jobs (length d.journal) (not_when (nat_le d.spec.max_jobs (length d.journal)) Full two.0);
+      place = leb-false d.spec.max_jobs (length d.journal) (false_where (nat_le d.spec.max_jobs (length d.journal)) Full two.0);
       named = λ k f at. leb-false (length d.journal) f (each_fails (λ f. nat_le (length d.journal) f) job.after k f (not_found (find (λ f. nat_le (length d.journal) f) job.after) three) at);
     }
   where

@@ -16,7 +16,7 @@ use Rattle.drm_types.specs.Limits.{spec_fault, spec_tests, each, is_between, are
 use Rattle.drm_job.specs.declared.Draft.{Draft}
 use Rattle.drm_job.specs.declared.JobFault.TheVariants.{NoCredits}
 use Rattle.drm_job.specs.Fault.{job_tests, IsJob}
-use Rattle.drm_types.proofs.Firsts.{none_at, passes_at}
+use Rattle.drm_types.proofs.Firsts.{none_at, passes_at, false_where}
 use Rattle.drm_fence.specs.declared.phase.Phase.TheVariants.{Scheduled}
 use Rattle.drm_fence.specs.Fences.{Fences}
 use Rattle.drm_fence.specs.Phases.{is_queued}
@@ -35,7 +35,7 @@ use Rattle.drm_state.specs.Records.{fence_state_of}
 use Rattle.drm_table.specs.Tables.{state_of, IsWhole}
 use Rattle.drm_state.proofs.Records.{changed_is}
 use Rattle.drm_state.specs.Events.{IsKept}
-use Rattle.drm_state.proofs.DeviceSteps.{pick_kept, not_when}
+use Rattle.drm_state.proofs.DeviceSteps.{pick_kept}
 use Rattle.drm_state.proofs.ChoiceIs.{IsChosen, choice_is}
 use Rattle.drm_table.proofs.Candidates.{head_number, queued_goes_on}
 use Rattle.drm_state.proofs.LoadsKept.{loads_set}
@@ -70,7 +70,7 @@ rings_there spec entity e none at =
 -- a job counts a credit at least
 pub some_credits : (spec : DeviceSpec) (job : Draft) → IsJob spec job → 0 < job.credits
 some_credits spec job is =
-    let no_zero = not_when (job.credits == 0) NoCredits (none_at (job_tests spec job) 1 (when (job.credits == 0) NoCredits) is refl) in
+    let no_zero = false_where (job.credits == 0) NoCredits (none_at (job_tests spec job) 1 (when (job.credits == 0) NoCredits) is refl) in
     let ne = eqb-false job.credits 0 no_zero in
     elim (zero_or_more job.credits) [
       | inl none ↦ absurd (ne none)

@@ -18,7 +18,7 @@ use Rattle.drm_job.specs.declared.Draft.{Draft}
 use Rattle.drm_job.specs.declared.DraftList.TheVariants.{Packets}
 use Rattle.drm_job.specs.declared.JobFault.TheVariants.{NoEntity, TooMany}
 use Rattle.drm_job.specs.Fault.{job_tests, IsJob}
-use Rattle.drm_types.proofs.Firsts.{none_at, none_when}
+use Rattle.drm_types.proofs.Firsts.{none_at, none_when, false_where}
 use Rattle.drm_job.proofs.InRange.{runs_in}
 use Rattle.drm_fence.specs.declared.phase.Phase.{Phase}
 use Rattle.drm_fence.specs.declared.phase.Phase.TheVariants.{Queued, Scheduled, Ended}
@@ -39,7 +39,6 @@ use Rattle.drm_table.specs.Tables.{state_of, IsWhole, HasRooms}
 use Rattle.drm_state.proofs.RingChange.{ring_changed_is}
 use Rattle.drm_state.proofs.RanLawful.{IsCurrent, current_is}
 use Rattle.drm_state.specs.Events.{IsKept}
-use Rattle.drm_state.proofs.DeviceSteps.{not_when}
 
 -- neither part of a choice that fails holds
 pub neither : (a b : Bool) → (a || b) ≡ false → (a ≡ false) × (b ≡ false)
@@ -69,7 +68,7 @@ entity_there t f r w at =
 -- a job has at most 64 packets
 pub few_packets : (spec : DeviceSpec) (job : Draft) → IsJob spec job → length job.packets ≤ 64
 few_packets spec job is =
-    ltb-false 64 (length job.packets) (not_when (nat_lt 64 (length job.packets)) (TooMany Packets)
+    ltb-false 64 (length job.packets) (false_where (nat_lt 64 (length job.packets)) (TooMany Packets)
     (none_at (job_tests spec job) 4 (when (nat_lt 64 (length job.packets)) (TooMany Packets)) is refl))
 
 -- what is known of the job that a step runs
