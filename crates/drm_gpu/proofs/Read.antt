@@ -1,7 +1,6 @@
 -- What a readback tells.
-use Rattle.std.proofs.Common.{◌≡◌, ℕ, List, [], length, get_or, false, refl, sym, ap, ◌∙◌, Some, None, Option, Result, Ok, Err}
+use Rattle.std.proofs.Common.{◌≡◌, ℕ, List, length, false, refl, sym, ap, ◌∙◌, Some, None, Option, Result, Ok, Err}
 use Rattle.std.specs.Prelude.{OnOk, IfErr, option_map}
-use Rattle.std.proofs.Math.ListN.{get_or-map}
 use Rattle.std.proofs.lemmas.List.{length-map}
 use Rattle.drm_buffer.specs.Memory.{bytes_of, sizes_of}
 use Rattle.drm_resv.specs.Reservation.{Reservation}
@@ -16,11 +15,6 @@ use Rattle.drm_state.specs.Refusals.{busy_fence}
 use Rattle.ww_lock.specs.Rule.{In}
 use Rattle.drm_gpu.specs.Reading.{ReadingState, HoldsFitting, ReadIs}
 use Rattle.drm_gpu.proofs.Packets.{not_out}
-
--- the size of a buffer by the sizes of all
-pub size_by_sizes : (memory other : List (List ℕ)) (buffer : ℕ) → sizes_of memory ≡ sizes_of other → length (bytes_of memory buffer) ≡ length (bytes_of other buffer)
-size_by_sizes memory other buffer same =
-    sym (get_or-map length memory buffer []) ∙ (ap (λ (sizes : List ℕ). get_or sizes buffer 0) same ∙ get_or-map length other buffer [])
 
 pub count_by_sizes : (memory other : List (List ℕ)) → sizes_of memory ≡ sizes_of other → length memory ≡ length other
 count_by_sizes memory other same = sym (length-map memory length) ∙ (ap length same ∙ length-map other length)

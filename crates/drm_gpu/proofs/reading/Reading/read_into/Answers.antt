@@ -1,5 +1,6 @@
 use Rattle.std.proofs.Common.{◌≡◌, ◌<◌, ◌∷◌, [], ◌∙◌, refl, inl, ap, sym, subst, length}
 use Rattle.std.specs.Prelude.{slice_index_or}
+use Rattle.drm_buffer.proofs.Sizes.{size_by_sizes}
 use Rattle.ww_lock.specs.Acquiring.{view}
 use Rattle.ww_lock.specs.Rule.{In}
 use Rattle.ww_lock.specs.Seats.{sees}
@@ -13,7 +14,7 @@ use Rattle.drm_gpu.specs.Passes.{Fitting, GrowsTo}
 use Rattle.drm_gpu.specs.Reading.{ReadingState, HoldsFitting, ReadIs}
 use Rattle.drm_gpu.proofs.Grown.{grows_itself, keeps_itself}
 use Rattle.drm_gpu.proofs.Holders.{called_with}
-use Rattle.drm_gpu.proofs.Read.{size_by_sizes, count_by_sizes, read_is}
+use Rattle.drm_gpu.proofs.Read.{count_by_sizes, read_is}
 use Rattle.drm_gpu.proofs.reading.Reading.read_into.Goals as goal
 
 pub read_into-answer-requires-clause-buffer : goal.read_into-answer-requires-clause-buffer
