@@ -3,10 +3,11 @@ use Rattle.std.proofs.Common.{◌≡◌, ◌∙◌, ℕ, List, [], ◌∷◌, �
 use Rattle.std.specs.List.{enumerate_from}
 use Rattle.std.specs.Option.{option_or}
 use Rattle.std.proofs.lemmas.List.{get_or_default}
+use Rattle.drm_picture.proofs.Places.{take-more}
 use Rattle.drm_picture.specs.Commands.{moment_of}
 use Rattle.drm_picture.specs.declared.command.Command.{Command}
 use Rattle.drm_svg.specs.Head.{column_text, last_moment}
-use Rattle.drm_svg.proofs.Places.{take-more, told_more}
+use Rattle.drm_svg.proofs.Places.{told_more}
 
 -- the text of the columns before a place, of all of these
 abbrev pub columns_before : ℕ → List Command → ℕ → List ℕ

@@ -3,13 +3,13 @@ use Rattle.std.proofs.Common.{◌≡◌, ◌∙◌, ℕ, List, [], ◌∷◌, �
 use Rattle.std.specs.Prelude.{Any}
 use Rattle.std.proofs.lemmas.List.{get_or_default, map-append}
 use Rattle.std.proofs.lemmas.List.Elements.{All-push, All-weaker}
+use Rattle.drm_picture.proofs.Places.{take-more}
 use Rattle.drm_picture.specs.declared.bars.Lane.{Lane}
 use Rattle.drm_picture.specs.declared.picture.Picture.{Picture}
 use Rattle.drm_svg.specs.declared.layout.LaneRows.{LaneRows}
 use Rattle.drm_svg.specs.declared.placing.Placed.{Placed}
 use Rattle.drm_svg.specs.Layout.{AreLanes, AreStacked, IsLaneRows, bars_of_kind}
 use Rattle.drm_svg.specs.Placing.{ArePlaced}
-use Rattle.drm_svg.proofs.Places.{take-more}
 
 stacked_more : (top : ℕ) (rows : List LaneRows) (middle : ℕ) (next : LaneRows) → AreStacked top rows middle → next.top ≡ middle → AreStacked top (rows ++ next ∷ []) next.bottom
 stacked_more top [] middle next so at = (at ∙ sym so, refl)

@@ -1,32 +1,9 @@
 -- Lists with their places, one element more.
-use Rattle.std.proofs.Common.{◌≡◌, ◌∙◌, ℕ, suc, List, [], ◌∷◌, ◌++◌, ◌+◌, ◌<◌, ◌≤◌, ap, append-nil, refl, sym, subst, arith, below_more, flat_map, length, map, take, get_or}
+use Rattle.std.proofs.Common.{◌≡◌, ◌∙◌, ℕ, List, [], ◌∷◌, ◌++◌, ◌+◌, ◌<◌, ◌≤◌, ap, append-nil, refl, sym, subst, arith, below_more, flat_map, length, map, take, get_or}
 use Rattle.std.specs.List.{enumerate_from}
-use Rattle.std.proofs.Math.Seq.{take-suc}
 use Rattle.std.proofs.lemmas.Grind.{flat_map-append}
-use Rattle.std.proofs.lemmas.List.{get_or_append_left, get_or_at, get_or_default, length-append, length-take-le, map-append, take-append-le, take_at}
-
-pub enumerate_from-snoc : {X : Type 0} (n : ℕ) (xs : List X) (x : X) → enumerate_from n (xs ++ x ∷ []) ≡ enumerate_from n xs ++ (n + length xs, x) ∷ []
-enumerate_from-snoc n [] x = let e : n + 0 ≡ n = omega arith in rw e refl
-enumerate_from-snoc n (y ∷ ys) x =
-    let e : n + 1 + length ys ≡ n + length (y ∷ ys) = omega arith in
-    ap (λ l. (n, y) ∷ l) (enumerate_from-snoc (n + 1) ys x ∙ ap (λ (m : ℕ). enumerate_from (n + 1) ys ++ (m, x) ∷ []) e)
-
--- what is taken, and one element more
-pub take-more : {X : Type 0} (xs : List X) (place : ℕ) (x : X) → place < length xs → x ≡ get_or xs place x → take (place + 1) xs ≡ take place xs ++ x ∷ []
-take-more xs place x within found =
-    let one : place + 1 ≡ suc place = omega arith in
-    ap (λ n. take n xs) one ∙ take-suc xs place x within ∙ ap (λ y. take place xs ++ y ∷ []) (sym found)
-
--- one element more, with its place
-pub placed_more : {X : Type 0} (xs : List X) (place : ℕ) (x : X) → place < length xs → x ≡ get_or xs place x
-    → enumerate_from 0 (take (place + 1) xs) ≡ enumerate_from 0 (take place xs) ++ (place, x) ∷ []
-placed_more xs place x within found =
-    let le : place ≤ length xs = omega arith in
-    let same : length (take place xs) ≡ place = length-take-le place xs le in
-    let few : 0 + length (take place xs) ≡ place = omega (arith, same) in
-    ap (enumerate_from 0) (take-more xs place x within found)
-    ∙ enumerate_from-snoc 0 (take place xs) x
-    ∙ ap (λ (n : ℕ). enumerate_from 0 (take place xs) ++ (n, x) ∷ []) few
+use Rattle.std.proofs.lemmas.List.{get_or_append_left, get_or_at, get_or_default, length-append, map-append, take-append-le, take_at}
+use Rattle.drm_picture.proofs.Places.{placed_more}
 
 -- the next element, of which something is made
 pub made_next : {X Y : Type 0} (h : ℕ × X → Y) (xs : List X) (place : ℕ) (d : X) (ys : List Y) → place < length xs

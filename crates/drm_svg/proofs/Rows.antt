@@ -5,13 +5,14 @@ use Rattle.std.proofs.lemmas.Bool.{cases_eq}
 use Rattle.std.proofs.lemmas.List.{get_or_append_left, get_or_default, length-append, map-append}
 use Rattle.std.proofs.lemmas.List.Elements.{All-nil, All-push, All-weaker, filter-append}
 use Rattle.std.proofs.lemmas.List.Quantifiers.{Any-push, all_pairs_push}
+use Rattle.drm_picture.proofs.Places.{take-more}
 use Rattle.drm_picture.specs.declared.bars.Bar.{Bar}
 use Rattle.drm_picture.specs.declared.bars.Lane.{Lane}
 use Rattle.drm_picture.specs.declared.picture.Picture.{Picture}
 use Rattle.drm_svg.specs.declared.placing.Placed.{Placed}
 use Rattle.drm_svg.specs.Layout.{AreApart, IsTaken, end_of, is_in, left_of, placed_at, width_of}
 use Rattle.drm_svg.specs.Placing.{ArePlaced, AreRowed, PlacesAt, PlacesIn}
-use Rattle.drm_svg.proofs.Places.{each_more, take-more}
+use Rattle.drm_svg.proofs.Places.{each_more}
 
 -- what holds of some element holds of some of more
 Any-more : {X : Type 0} (P : X → Type 0) (xs ys : List X) → Any P xs → Any P (xs ++ ys)
