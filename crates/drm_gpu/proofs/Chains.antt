@@ -1,6 +1,7 @@
 -- What a seat knows goes on to hold.
 use Rattle.std.proofs.Common.{◌≡◌, ℕ, List, [], ◌∷◌, ◌++◌, refl, sym, ap, ◌∙◌, subst, ⊎_elim, inl, inr}
 use Rattle.std.specs.Prelude.{true, false, not, ◌&&◌, None}
+use Rattle.ww_lock.proofs.Lists.{in_last}
 use Rattle.atomic_table.specs.Seated.{TableId}
 use Rattle.ww_lock.specs.Rule.{In}
 use Rattle.ww_lock.specs.Steps.{IsChain, right_half, with_exit, with_post, calls_with}
@@ -11,7 +12,6 @@ use Rattle.drm_resv.specs.Reservation.{WithRoom}
 use Rattle.drm_sched.specs.Marks.{MarkedDevice, Task, IsBusy, mark_of}
 use Rattle.drm_gpu.specs.Passes.{Seeing, DeviceSeat, GpuState, GrowsTo, Knows, Seated, FitsDevice, HoldsOn, IsPassSeat, IsSameBut, Adds, first_or, blank, last_of, gpu_of, noted}
 use Rattle.drm_gpu.proofs.Grown.{grows_itself, grows_trans}
-use Rattle.drm_gpu.proofs.Lists.{in_last}
 
 chain_last : (cs : List (MarkedDevice × MarkedDevice)) (d : MarkedDevice × MarkedDevice) → IsChain GrowsTo cs → ((c : MarkedDevice × MarkedDevice) → In c cs → GrowsTo c.1 d.0) → IsChain GrowsTo (cs ++ d ∷ [])
 chain_last [] d chain up = ((λ e t. absurd t), tt)

@@ -3,6 +3,7 @@ use Rattle.std.proofs.Common.{◌≡◌, ◌<◌, ℕ, List, [], ◌∷◌, ◌+
 use mathlib.Core.List.{map-append}
 use Rattle.std.specs.Prelude.{true, false}
 use Rattle.std.proofs.lemmas.List.{length-map}
+use Rattle.ww_lock.proofs.Lists.{at_in, in_last, in_left}
 use Rattle.ww_lock.specs.declared.locks.TryLockError.{TryLockError}
 use Rattle.ww_lock.specs.declared.locks.TryLockError.TheVariants.{Sealed, Already, Older, Younger}
 use Rattle.ww_lock.specs.declared.locks.LockError.{LockError}
@@ -21,7 +22,7 @@ use Rattle.drm_gpu.specs.Rounds.{Declares, IsGivenUp, IsRound, Lock, Round, Take
 use Rattle.drm_gpu.specs.Submissions.{Submission, DeviceAcquire, BacksOff, HasTaken, Holding, HoldsNoMore, LocksAll, LocksFirst, LocksOn, TriesLock, MayWait, Claims, Locks, claims_one, numbers_of, submission_of}
 use Rattle.drm_gpu.proofs.Chains.{knows_same}
 use Rattle.drm_gpu.proofs.Holders.{in_kept, in_kept_of, still_holds}
-use Rattle.drm_gpu.proofs.Lists.{at_in, in_last, in_left, lacks_same}
+use Rattle.drm_gpu.proofs.Lists.{lacks_same}
 use Rattle.drm_gpu.proofs.Rounds.{buffers_append, claims_append, claims_anew, claims_more, held_anew, held_declared, held_more, holders_append, met_anew, met_append, met_more, round_append, takes_anew, takes_more}
 
 -- ---- the caller goes on to hold

@@ -1,6 +1,7 @@
 -- What a caller that holds values knows goes on to hold.
 use Rattle.std.proofs.Common.{◌≡◌, ◌<◌, ◌≤◌, ◌+◌, ℕ, length, slice_index_or, arith, List, [], ◌∷◌, map, refl, sym, ap, ◌∙◌, subst, ⊎_elim, inl, inr, false, vec_capacity}
 use Rattle.std.specs.Prelude.{Bool, true, None, ◌==◌, if◌then◌else◌}
+use Rattle.ww_lock.proofs.Lists.{key_in, in_without}
 use Rattle.ww_lock.specs.Acquiring.{HasTicket, Holds, HoldsOutside, view}
 use Rattle.ww_lock.specs.Held.{IsSameKeys, HasAt}
 use Rattle.ww_lock.specs.Rule.{In}
@@ -16,7 +17,7 @@ use Rattle.drm_gpu.specs.Passes.{IsPassSeat, Seeing, DeviceSeat, GpuState, PassS
 use Rattle.drm_gpu.specs.Submissions.{DeviceAcquire, Holding, KeepsOthers}
 use Rattle.drm_gpu.proofs.Chains.{knows_same, owes_nothing}
 use Rattle.drm_gpu.proofs.Called.{calls_of, of_gpu}
-use Rattle.drm_gpu.proofs.Lists.{elem_of, key_in, in_without, at_of, in_of, contained_in}
+use Rattle.drm_gpu.proofs.Lists.{elem_of, at_of, in_of, contained_in}
 
 -- ---- what is held, with its room and without
 

@@ -1,8 +1,8 @@
 -- Rounds of locks, one after another.
 use Rattle.std.proofs.Common.{◌≡◌, ◌⊎◌, ℕ, List, [], ◌∷◌, ◌++◌, refl, sym, ap, ◌∙◌, subst, ⊎_elim, inl, inr, append-nil, append_assoc}
+use Rattle.ww_lock.proofs.Lists.{in_both}
 use Rattle.ww_lock.specs.Rule.{In}
 use Rattle.drm_job.specs.declared.Draft.{Draft}
-use Rattle.drm_gpu.proofs.Lists.{in_both}
 use Rattle.drm_gpu.specs.Rounds.{Lock, Round, buffers_of, claims_of, holders_of, met_last, met_of, all_claims, all_met, held_after, BeginsWith, Declares, IsRound, IsGivenUp, TakesAll}
 
 -- ---- lists of locks that follow one another

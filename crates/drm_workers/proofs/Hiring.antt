@@ -1,45 +1,17 @@
 -- Workers are hired one by one.
-use Rattle.std.proofs.Common.{◌≡◌, ◌+◌, ◌-◌, ◌^◌, ◌∙◌, ℕ, suc, List, [], ◌∷◌, ◌++◌, map, ap, sym, subst, arith}
+use Rattle.std.proofs.Common.{◌≡◌, ◌∙◌, ℕ, suc, List, [], ◌∷◌, ◌++◌, map, ap, sym, subst, arith}
+use Rattle.ww_lock.proofs.Sharing.{finer, finer_within, half, half_within, both_weights, both_within}
 use Rattle.drm_job.specs.declared.Draft.{Draft}
 use Rattle.drm_gpu.specs.Passes.{GpuState}
 use Rattle.drm_workers.specs.declared.work.Worker.{Worker}
 use Rattle.drm_workers.specs.Works.{HaveAll, Hires, jobs_of, parts_of}
-use Rattle.ww_lock.specs.Parts.{AreWithin, IsWhole, halved, weight}
+use Rattle.ww_lock.specs.Parts.{AreWithin, IsWhole, halved}
 use Rattle.drm_workers.proofs.Lists.{joined, unit}
 
 pub hires_then : (gpu : GpuState) (more less : List (List Draft)) (a b c : List Worker) → Hires gpu more a b → Hires gpu less b c → Hires gpu (more ++ less) a c
 hires_then gpu more less a b c x y = (y.0 ∙ (ap (λ js. js ++ less) x.0 ∙ joined (map (λ w. jobs_of w.duty) a) more less), λ all. y.1 (x.1 all))
 
 -- ---- what they have of the device
-
--- pieces in finer parts
-finer : (n : ℕ) (ds : List ℕ) → AreWithin n ds → weight (suc n) ds ≡ weight n ds + weight n ds
-finer n [] h = omega arith
-finer n (d ∷ ds) h =
-    let r = finer n ds h.1 in let low = h.0 in
-    let e : suc n - d ≡ suc (n - d) = omega arith in
-    let p : 2 ^ (suc n - d) ≡ 2 ^ suc (n - d) = ap (λ k. 2 ^ k) e in
-    omega arith
-
-half : (n : ℕ) (ds : List ℕ) → weight (suc n) (halved ds) ≡ weight n ds
-half n [] = omega arith
-half n (d ∷ ds) = let r = half n ds in let e : suc n - (d + 1) ≡ n - d = omega arith in let p : 2 ^ (suc n - (d + 1)) ≡ 2 ^ (n - d) = ap (λ k. 2 ^ k) e in omega arith
-
-half_within : (n : ℕ) (ds : List ℕ) → AreWithin n ds → AreWithin (suc n) (halved ds)
-half_within n [] h = tt
-half_within n (d ∷ ds) h = (let low = h.0 in omega arith, half_within n ds h.1)
-
-finer_within : (n : ℕ) (ds : List ℕ) → AreWithin n ds → AreWithin (suc n) ds
-finer_within n [] h = tt
-finer_within n (d ∷ ds) h = (let low = h.0 in omega arith, finer_within n ds h.1)
-
-both_weights : (n : ℕ) (ds es : List ℕ) → weight n (ds ++ es) ≡ weight n ds + weight n es
-both_weights n [] es = omega arith
-both_weights n (d ∷ ds) es = let r = both_weights n ds es in omega arith
-
-both_within : (n : ℕ) (ds es : List ℕ) → AreWithin n ds → AreWithin n es → AreWithin n (ds ++ es)
-both_within n [] es h k = k
-both_within n (d ∷ ds) es h k = (h.0, both_within n ds es h.1 k)
 
 left_within : (n : ℕ) (ds es : List ℕ) → AreWithin n (ds ++ es) → AreWithin n ds
 left_within n [] es h = tt

@@ -1,4 +1,4 @@
-mod Lists
+pub mod Lists
 mod LocksKept
 mod PivotsKept
 mod LooksKept
@@ -12,5 +12,5 @@ mod Finding
 mod Closing
 mod Releasing
 mod Crosses
-mod Sharing
+pub mod Sharing
 mod Ready

@@ -17,29 +17,29 @@ twice : (n : ℕ) → 2 ^ suc n ≡ 2 ^ n + 2 ^ n
 twice n = let e = pow-suc 2 n in omega arith
 
 -- told in pieces half as large, the same pieces weigh twice as much
-finer : (n : ℕ) (ds : List ℕ) → AreWithin n ds → weight (suc n) ds ≡ weight n ds + weight n ds
+pub finer : (n : ℕ) (ds : List ℕ) → AreWithin n ds → weight (suc n) ds ≡ weight n ds + weight n ds
 finer n [] h = refl
 finer n (d ∷ ds) h = let r = finer n ds h.1 in let low = h.0 in let e : suc n - d ≡ suc (n - d) = omega arith in
     let p : 2 ^ (suc n - d) ≡ 2 ^ (n - d) + 2 ^ (n - d) = ap (λ (k : ℕ). 2 ^ k) e ∙ twice (n - d) in omega arith
 
-finer_within : (n : ℕ) (ds : List ℕ) → AreWithin n ds → AreWithin (suc n) ds
+pub finer_within : (n : ℕ) (ds : List ℕ) → AreWithin n ds → AreWithin (suc n) ds
 finer_within n [] h = tt
 finer_within n (d ∷ ds) h = (let low = h.0 in omega arith, finer_within n ds h.1)
 
 -- told in pieces half as large, halved pieces weigh as much as the whole ones did
-half : (n : ℕ) (ds : List ℕ) → weight (suc n) (halved ds) ≡ weight n ds
+pub half : (n : ℕ) (ds : List ℕ) → weight (suc n) (halved ds) ≡ weight n ds
 half n [] = refl
 half n (d ∷ ds) = let r = half n ds in let e : suc n - (d + 1) ≡ n - d = omega arith in let p : 2 ^ (suc n - (d + 1)) ≡ 2 ^ (n - d) = ap (λ (k : ℕ). 2 ^ k) e in omega arith
 
-half_within : (n : ℕ) (ds : List ℕ) → AreWithin n ds → AreWithin (suc n) (halved ds)
+pub half_within : (n : ℕ) (ds : List ℕ) → AreWithin n ds → AreWithin (suc n) (halved ds)
 half_within n [] h = tt
 half_within n (d ∷ ds) h = (let low = h.0 in omega arith, half_within n ds h.1)
 
-both_weights : (n : ℕ) (ds es : List ℕ) → weight n (ds ++ es) ≡ weight n ds + weight n es
+pub both_weights : (n : ℕ) (ds es : List ℕ) → weight n (ds ++ es) ≡ weight n ds + weight n es
 both_weights n [] es = omega arith
 both_weights n (d ∷ ds) es = let r = both_weights n ds es in omega arith
 
-both_within : (n : ℕ) (ds es : List ℕ) → AreWithin n ds → AreWithin n es → AreWithin n (ds ++ es)
+pub both_within : (n : ℕ) (ds es : List ℕ) → AreWithin n ds → AreWithin n es → AreWithin n (ds ++ es)
 both_within n [] es h k = k
 both_within n (d ∷ ds) es h k = (h.0, both_within n ds es h.1 k)
 

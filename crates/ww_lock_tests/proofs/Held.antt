@@ -1,15 +1,10 @@
 -- What follows for a list of what is held from the numbers in it.
 use Rattle.std.proofs.Common.{◌≡◌, ℕ, zero, suc, List, [], ◌∷◌, length, set, map, drop, get_or, sym, refl, ap, ◌∙◌, subst, ⊎_elim, inl, inr, arith}
-use mathlib.Core.Option.{some, some-injective, some-ne-none}
+use mathlib.Core.Option.{some, some-injective}
 use lib.ListN.{get_elem?}
 use Rattle.ww_lock.specs.Rule.{In}
 use Rattle.ww_lock.specs.Steps.{number_of}
 use Rattle.ww_lock.specs.Held.{IsApart, IsSameKeys, Lacks}
-
-pub at_in : {A : Type 0} (xs : List A) (i : ℕ) (x : A) → get_elem? xs i ≡ some x → In x xs
-at_in [] i x e = absurd (some-ne-none x (sym e))
-at_in (y ∷ xs) zero x e = inl (sym (some-injective y x e))
-at_in (y ∷ xs) (suc i) x e = inr (at_in xs i x e)
 
 module _ {A B : Type 0} where
   pub key_in : (xs : List (ℕ × A)) (ys : List (ℕ × B)) → IsSameKeys xs ys → (b : ℕ) (x : A) → In (b, x) xs → (y : B) × In (b, y) ys

@@ -6,11 +6,11 @@ use mathlib.Core.Logic.{dite}
 use mathlib.Core.Option.{some, some-injective, some-ne-none}
 use native.Mathlib.Decide.{ℕ_discrete}
 use lib.ListN.{get_elem?}
+use Rattle.ww_lock.proofs.Lists.{at_in}
 use Rattle.ww_lock.specs.Rule.{In}
 use Rattle.ww_lock.specs.Steps.{number_of}
 use Rattle.ww_lock.specs.Held.{IsApart, IsSameKeys}
 use Rattle.ww_lock_tests.specs.Numbers.{Counts, count_of}
-use Rattle.ww_lock_tests.proofs.Held.{at_in}
 
 pub count_most : (b : ℕ) (ns : List ℕ) → count_of b ns ≤ length ns
 count_most b [] = omega arith

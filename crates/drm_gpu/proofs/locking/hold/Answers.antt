@@ -1,9 +1,9 @@
 use Rattle.std.proofs.Common.{ap, sym, subst}
+use Rattle.ww_lock.proofs.Lists.{now_last}
 use Rattle.ww_lock.specs.Acquiring.{HoldsOutside}
 use Rattle.ww_lock.specs.Rule.{In}
 use Rattle.drm_gpu.specs.Passes.{GpuState}
 use Rattle.drm_gpu.proofs.Claims.{held_already, numbers_in, off_told, on_already, on_claimed}
-use Rattle.drm_gpu.proofs.Lists.{now_last}
 use Rattle.drm_gpu.proofs.locking.hold.Goals as goal
 
 pub returns-in-Ok-clause-held : goal.returns-in-Ok-clause-held

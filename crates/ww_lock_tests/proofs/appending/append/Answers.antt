@@ -1,5 +1,6 @@
 use Rattle.std.proofs.Common.{rules, arith, refl}
-use Rattle.ww_lock_tests.proofs.Held.{at_in, keys_set}
+use Rattle.ww_lock.proofs.Lists.{at_in}
+use Rattle.ww_lock_tests.proofs.Held.{keys_set}
 use Rattle.ww_lock_tests.proofs.Numbers.{count_most, counted}
 use Rattle.ww_lock_tests.proofs.appending.append.Goals as goal
 

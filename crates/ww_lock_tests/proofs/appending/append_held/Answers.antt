@@ -2,9 +2,10 @@ use Rattle.std.proofs.Common.{rules, arith, ap, sym, subst, ◌∙◌, ◌<◌, 
 use mathlib.Core.Option.{some}
 use Rattle.atomic_table.proofs.Lists.{at_index}
 use Rattle.std.proofs.lemmas.List.{length_push}
+use Rattle.ww_lock.proofs.Lists.{at_in}
 use Rattle.ww_lock_tests.specs.Numbers.{prefix_twice, count_of}
 use Rattle.ww_lock.specs.Rule.{In}
-use Rattle.ww_lock_tests.proofs.Held.{apart_same, at_in, key_in}
+use Rattle.ww_lock_tests.proofs.Held.{apart_same, key_in}
 use Rattle.ww_lock_tests.proofs.Numbers.{keys_long, count_else}
 use Rattle.ww_lock_tests.proofs.appending.append_held.Goals as goal
 
