@@ -22,6 +22,7 @@ ghost use Rattle.drm_sched.specs.Calls.{PickIs, StepIs, FinishIs, TimeoutIs, Can
 ghost use Rattle.drm_sched.specs.Marks.{is_step_blocked, is_out, ring_out, unmarked, IsSteadyMarked};
 ghost use Rattle.drm_state.specs.Steady.{IsSteady};
 ghost use Rattle.drm_state.specs.Records.{fence_state_of};
+ghost use Rattle.drm_state.specs.Ring.{is_guilty, is_stopped, pending_of};
 ghost use Rattle.drm_state.specs.Errors.{refusal_of_arm, refusal_of_read};
 
 use crate::outside::Begun;
@@ -37,6 +38,7 @@ use drm_state::{
 use drm_table::{BuildError, Closed, Table};
 use drm_types::{BufferId, DeviceSpec, EntityId, FenceId, Moment, RingId, Sequence};
 use std::alloc::{AllocError, Global};
+use std::collections::VecDeque;
 use std::marker::Model;
 
 /// A device: its memory, its armed jobs, its rings and its entities (`drm_gpu_scheduler`, without the reservations
@@ -370,6 +372,30 @@ impl Device {
         ensures { result ≡ load_of self.now.state.journal ring }
     {
         self.parts.table.load(ring)
+    }
+
+    /// The numbers of the ring's pending jobs, in their order (`pending_list` of `struct drm_gpu_scheduler`).
+    pub fn pending(&self, ring: RingId) -> &VecDeque<FenceId>
+        requires there { ring < length self.now.state.spec.rings }
+        ensures { result.now.items ≡ pending_of self.now.state ring }
+    {
+        &self.parts.table.rings[ring as usize].pending
+    }
+
+    /// Whether the entity takes no more jobs (`stopped` of `struct drm_sched_entity`).
+    pub fn is_stopped(&self, entity: EntityId) -> bool
+        requires there { entity < length self.now.state.spec.entities }
+        ensures { result ≡ is_stopped self.now.state entity }
+    {
+        self.parts.table.is_stopped(entity)
+    }
+
+    /// Whether the entity is guilty of a hang, so that its jobs are skipped (`guilty` of `struct drm_sched_entity`).
+    pub fn is_guilty(&self, entity: EntityId) -> bool
+        requires there { entity < length self.now.state.spec.entities }
+        ensures { result ≡ is_guilty self.now.state entity }
+    {
+        self.parts.table.entities.is_guilty(entity)
     }
 
     /// What is known of the job of this number.
