@@ -1,5 +1,6 @@
 ghost use Rattle.std.specs.Prelude.{◌≡◌, ◌<◌, ℕ, length, Some, None, IfOk, IfErr, OnOk, MatchResult, map, option_map, slice_get, false};
 ghost use Rattle.std.specs.List.{filter};
+ghost use Rattle.std.specs.Option.{option_map_or};
 ghost use Rattle.drm_types.specs.Limits.{spec_fault};
 ghost use Rattle.drm_buffer.specs.Memory.{bytes_of, sizes_of};
 ghost use Rattle.drm_buffer.specs.Stored.{is_out_of};
@@ -374,12 +375,27 @@ impl Device {
         self.parts.table.load(ring)
     }
 
+    /// What is known of each armed job, by its number.
+    pub fn records(&self) -> &[JobRecord]
+        ensures { result.now ≡ self.now.state.journal }
+    {
+        self.parts.table.journal.as_slice()
+    }
+
     /// The numbers of the ring's pending jobs, in their order (`pending_list` of `struct drm_gpu_scheduler`).
     pub fn pending(&self, ring: RingId) -> &VecDeque<FenceId>
         requires there { ring < length self.now.state.spec.rings }
         ensures { result.now.items ≡ pending_of self.now.state ring }
     {
         &self.parts.table.rings[ring as usize].pending
+    }
+
+    /// The moment from which the age of the ring's head counts.
+    pub fn since(&self, ring: RingId) -> Moment
+        requires there { ring < length self.now.state.spec.rings }
+        ensures { result ≡ option_map_or (λ r. r.since) (slice_get self.now.state.rings ring) 0 }
+    {
+        self.parts.table.rings[ring as usize].since
     }
 
     /// Whether the entity takes no more jobs (`stopped` of `struct drm_sched_entity`).
