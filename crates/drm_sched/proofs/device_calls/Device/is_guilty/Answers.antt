@@ -13,5 +13,7 @@ is_guilty-requires c =
 
 pub returns : goal.returns
 returns c =
+    let there = subst (λ (d : MarkedDevice). c.args.entity < length d.state.spec.entities) (sym (view_read c.deref.ensures c.self.view_is)) c.requires.there in
+    let row = entity_row_there c.deref.result.now.table c.args.entity (whole_read c.deref.ensures c.self.invariant.0).table there in
     subst (λ (d : MarkedDevice). c.is_guilty.result ≡ is_guilty d.state c.args.entity) (view_read c.deref.ensures c.self.view_is)
-    (guilty_is c.deref.result.now.table.entities c.args.entity c.is_guilty.result (is_guilty-requires c) c.is_guilty.ensures)
+    (guilty_is c.deref.result.now.table.entities c.args.entity c.is_guilty.result row c.is_guilty.ensures)
