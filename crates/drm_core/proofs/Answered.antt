@@ -1,5 +1,6 @@
 -- What the device answers to an event the core replies, and it stays a core.
 use Rattle.std.proofs.Common.{◌≡◌, None, Option, Result, Ok, Err, sym, ap, subst, ◌∙◌}
+use Rattle.drm_job.specs.declared.Draft.{Draft}
 use Rattle.drm_state.specs.declared.answer.Answer.{Answer}
 use Rattle.drm_state.specs.declared.answer.Answer.TheVariants as answer
 use Rattle.drm_state.specs.declared.answer.Refusal.{Refusal}
@@ -23,13 +24,13 @@ abbrev pub with_left : CoreTable → MarkedDevice → CoreTable
 with_left t u = record t { device = u }
 
 -- an event that the device does not refuse, and one that it refuses
-pub reply_done : {X E : Type 0} {refusal : Option Refusal} {outcome : Answer × DeviceState} {why : E → Refusal} {told : X → Answer} (t : CoreTable) (u : MarkedDevice) (event : Event) (x : X)
+pub reply_done : {X E : Type 0} {refusal : Option Refusal} {outcome : Answer × DeviceState} {why : E → Refusal} {told : X → Answer} (t : CoreTable) (u : MarkedDevice) (event : Event Draft) (x : X)
     → IsAnswered refusal outcome why told (Ok x) t.device u
     → early_refusal (core_state t) event ≡ refusal → late_refusal (core_state t) event ≡ None → outcome_of_event (core_state t) event ≡ with_device (core_state t) outcome
     → reply (core_state t) event ≡ (told x, core_state (with_left t u))
 reply_done t u event x is early late leads = reply_is (core_state t) event (early ∙ is.done.0) late ∙ (leads ∙ ap (with_device (core_state t)) is.done.1)
 
-pub reply_refused : {X E : Type 0} {refusal : Option Refusal} {outcome : Answer × DeviceState} {why : E → Refusal} {told : X → Answer} (t : CoreTable) (u : MarkedDevice) (event : Event) (r : E)
+pub reply_refused : {X E : Type 0} {refusal : Option Refusal} {outcome : Answer × DeviceState} {why : E → Refusal} {told : X → Answer} (t : CoreTable) (u : MarkedDevice) (event : Event Draft) (r : E)
     → IsAnswered refusal outcome why told (Err r) t.device u → early_refusal (core_state t) event ≡ refusal → reply (core_state t) event ≡ (answer.Refused (why r), core_state (with_left t u))
 reply_refused {why = why} t u event r is early =
     reply_early (core_state t) event (why r) (early ∙ is.refused.0) ∙ ap (λ (d : MarkedDevice). (answer.Refused (why r), core_state (with_left t d))) (sym is.refused.1)

@@ -8,6 +8,7 @@ use Rattle.drm_types.specs.Firsts.{when, first_of}
 use Rattle.drm_types.specs.declared.spec.DeviceSpec.{DeviceSpec}
 use Rattle.drm_buffer.specs.Memory.{bytes_of}
 use Rattle.drm_types.proofs.Firsts.{none_first}
+use Rattle.drm_job.specs.declared.Draft.{Draft}
 use Rattle.drm_state.specs.declared.answer.Answer.{Answer}
 use Rattle.drm_state.specs.declared.answer.Answer.TheVariants as answer
 use Rattle.drm_core.specs.declared.event.Event.{Event}
@@ -86,7 +87,7 @@ no_holder None e = refl
 no_holder (Some b) e = absurd (cc (e))
 
 -- an event that is not refused
-pub outcome_begun : (s : CoreState) (e : Event) → HoldersBegun s → early_refusal s e ≡ None → HoldersBegun (outcome_of_event s e).1
+pub outcome_begun : (s : CoreState) (e : Event Draft) → HoldersBegun s → early_refusal s e ≡ None → HoldersBegun (outcome_of_event s e).1
 outcome_begun s (event.Submit draft) begun early = begun
 outcome_begun s (event.Begin ctx) begun early = λ k b held. begun_stays s.contexts ctx k _ (begun k b held)
 outcome_begun s (event.Try ctx c) begun early =
@@ -128,13 +129,13 @@ outcome_begun s (event.Read ctx c) begun early = begun
 outcome_begun s (event.Status f) begun early = begun
 outcome_begun s (event.Dump c) begun early = begun
 
-pub holders_stay_begun : (s : CoreState) (e : Event) (a : Answer) (n : CoreState) → HoldersBegun s → Step s e a n → HoldersBegun n
+pub holders_stay_begun : (s : CoreState) (e : Event Draft) (a : Answer) (n : CoreState) → HoldersBegun s → Step s e a n → HoldersBegun n
 holders_stay_begun s e a n begun step = elim (cases_step s e a n step) [
   | inl refused ↦ subst HoldersBegun (sym refused.keeps) begun
   | inr had ↦ subst HoldersBegun (sym had.leaves) (outcome_begun s e begun had.early)
 ]
 
-pub run_holders_begun : (s : CoreState) (events : List Event) (answers : List Answer) (n : CoreState) → HoldersBegun s → Run s events answers n → HoldersBegun n
+pub run_holders_begun : (s : CoreState) (events : List (Event Draft)) (answers : List Answer) (n : CoreState) → HoldersBegun s → Run s events answers n → HoldersBegun n
 run_holders_begun s [] [] n begun run = subst HoldersBegun (sym run) begun
 run_holders_begun s [] (a ∷ rest) n begun run = absurd run
 run_holders_begun s (e ∷ es) [] n begun run = absurd run

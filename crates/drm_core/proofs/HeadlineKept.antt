@@ -11,6 +11,7 @@ use Rattle.drm_buffer.specs.Memory.{bytes_of}
 use Rattle.drm_serial.specs.Serial.{serial}
 use Rattle.drm_job.specs.Fault.{IsJob}
 use Rattle.drm_types.proofs.Firsts.{none_first, none_when}
+use Rattle.drm_job.specs.declared.Draft.{Draft}
 use Rattle.drm_fence.specs.declared.phase.Phase.{Phase}
 use Rattle.drm_fence.specs.declared.phase.Phase.TheVariants.{Queued, Scheduled, Ended}
 use Rattle.drm_fence.specs.Phases.{has_ended, status_of}
@@ -46,7 +47,7 @@ use Rattle.drm_core.proofs.HeadlineSteps.{is_refusal, cases_step, ended_stays, r
 use Rattle.drm_core.specs.Laws.{DeviceLaws}
 
 -- where a run leads is steady, and of the same description
-pub run_is_steady : (laws : DeviceLaws) → (s : CoreState) (spec : DeviceSpec) (events : List Event) (answers : List Answer) (new : CoreState) → IsSteadyCore s → s.device.spec ≡ spec
+pub run_is_steady : (laws : DeviceLaws) → (s : CoreState) (spec : DeviceSpec) (events : List (Event Draft)) (answers : List Answer) (new : CoreState) → IsSteadyCore s → s.device.spec ≡ spec
     → AllNamesExist spec events → Run s events answers new → IsSteadyCore new × (new.device.spec ≡ spec)
 run_is_steady laws s spec [] [] new steady same names run = (subst IsSteadyCore (sym run) steady, ap (λ (n : CoreState). n.device.spec) run ∙ same)
 run_is_steady laws s spec [] (a ∷ rest) new steady same names run = absurd run
@@ -61,7 +62,7 @@ pub memory_is : (s : CoreState) (spec : DeviceSpec) → IsSteadyCore s → s.dev
 memory_is s spec steady same = subst (λ (p : DeviceSpec). s.device.memory ≡ serial p.buffers (turns s.device.journal)) same steady.device.lawful.memory
 
 -- a look at a buffer
-pub look_gives : (s : CoreState) (spec : DeviceSpec) (e : Event) (a : Answer) (n : CoreState) (b : ℕ) → IsSteadyCore s → s.device.spec ≡ spec
+pub look_gives : (s : CoreState) (spec : DeviceSpec) (e : Event Draft) (a : Answer) (n : CoreState) (b : ℕ) → IsSteadyCore s → s.device.spec ≡ spec
     → Step s e a n → ((given : Answer) → given ≡ (outcome_of_event s e).0 → given ≡ answer.Bytes (bytes_of s.device.memory b))
     → IsRefused a ⊎ (a ≡ answer.Bytes (serial_bytes spec s b))
 look_gives s spec e a n b steady same step looks = elim (cases_step s e a n step) [
@@ -90,12 +91,12 @@ read_after_writers laws s b steady here free f r at writer =
     (laws.reads s.device b resv.0 steady.device resv.2).0 not_busy f r at writer
 
 -- the buffer of a read whose names exist
-pub buffer_there : (s : CoreState) (ctx b : ℕ) → names_exist s.device.spec (event.Read ctx b) ≡ true → b < length s.device.spec.buffers
+pub buffer_there : (s : CoreState) (ctx b : ℕ) → names_exist {J = Draft} s.device.spec (event.Read ctx b) ≡ true → b < length s.device.spec.buffers
 buffer_there s ctx b names =
     ltb-true b (length s.device.spec.buffers) (and_parts (nat_lt ctx 64) (nat_lt b (length s.device.spec.buffers)) names).1
 
 -- a read that gave bytes
-pub read_waits : (laws : DeviceLaws) → (s : CoreState) (ctx b : ℕ) (bytes : List ℕ) (n : CoreState) → IsSteadyCore s → names_exist s.device.spec (event.Read ctx b) ≡ true
+pub read_waits : (laws : DeviceLaws) → (s : CoreState) (ctx b : ℕ) (bytes : List ℕ) (n : CoreState) → IsSteadyCore s → names_exist {J = Draft} s.device.spec (event.Read ctx b) ≡ true
     → Step s (event.Read ctx b) (answer.Bytes bytes) n → MayRead s ctx b
 read_waits laws s ctx b bytes n steady names step = elim (cases_step s (event.Read ctx b) (answer.Bytes bytes) n step) [
   | inl refused ↦ let never : false ≡ true = ap is_refusal refused.answers in absurd (cc (never))
@@ -206,7 +207,7 @@ promises_kept laws spec s steady plans begun places same = record {
     law : IsLawfulDevice s.device
     law = steady.device.lawful
 
-    of_device : (e : Event) → names_exist spec e ≡ true → names_exist s.device.spec e ≡ true
+    of_device : (e : Event Draft) → names_exist spec e ≡ true → names_exist s.device.spec e ≡ true
     of_device e names = subst (λ p. names_exist p e ≡ true) (sym same) names
 
 pub headline : (laws : DeviceLaws) → Headline

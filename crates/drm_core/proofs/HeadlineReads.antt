@@ -71,7 +71,7 @@ other_holder s k o ctx b apart held =
     ap (λ x. option_map_or (λ h. h == ctx) (option_and_then (λ (o : Option ℕ). o) x) false) (get_set_other s.holders k b o apart) ∙ held
 
 -- a holder stays, until it drops the buffer
-pub holder_stays : (s : CoreState) (e : Event) (ctx b : ℕ) → holds s ctx b ≡ true → early_refusal s e ≡ None → (e ≡ event.Drop ctx b → ⊥)
+pub holder_stays : (s : CoreState) (e : Event Draft) (ctx b : ℕ) → holds s ctx b ≡ true → early_refusal s e ≡ None → (e ≡ event.Drop ctx b → ⊥)
     → holds (outcome_of_event s e).1 ctx b ≡ true
 holder_stays s e ctx b held early stays = by_event e early stays
   where
@@ -89,7 +89,7 @@ holder_stays s e ctx b held early stays = by_event e early stays
     by_try k c None is = other_holder s k (Some c) ctx b (λ same.
         let never : false ≡ true = sym (ap (λ o. option_map_or (λ h. h == ctx) o false) (ap (holder_of s) same ∙ is)) ∙ held in cc (never)) held
 
-    by_event : (e : Event) → early_refusal s e ≡ None → (e ≡ event.Drop ctx b → ⊥) → Holds (outcome_of_event s e)
+    by_event : (e : Event Draft) → early_refusal s e ≡ None → (e ≡ event.Drop ctx b → ⊥) → Holds (outcome_of_event s e)
     by_event (event.Submit draft) early stays = held
     by_event (event.Begin k) early stays = held
     by_event (event.Try k c) early stays = by_try c k (holder_of s c) refl
@@ -116,7 +116,7 @@ holder_stays s e ctx b held early stays = by_event e early stays
 -- ---- a plan's buffers are held by its context
 
 -- where a plan after an event comes from: it was there, and its context dropped nothing, or it was planned now
-abbrev pub ComesFrom : CoreState → Event → ℕ → Draft → Type 0
+abbrev pub ComesFrom : CoreState → Event Draft → ℕ → Draft → Type 0
 ComesFrom s e k job = ((plan_of s k ≡ Some job) × ((b : ℕ) → e ≡ event.Drop k b → ⊥)) ⊎ (e ≡ event.Plan k job)
 
 pub get_set_here : {X : Type 0} (xs : List X) (i : ℕ) (y : X) → (slice_get (set xs i y) i ≡ Some y) ⊎ (slice_get (set xs i y) i ≡ None)
@@ -137,14 +137,14 @@ plan_cases contexts ctx k c job is = elim (cases_eq k ctx) [
       ]
 ]
 
-pub plan_from : (s : CoreState) (e : Event) (k : ℕ) (job : Draft) → early_refusal s e ≡ None → plan_of (outcome_of_event s e).1 k ≡ Some job → ComesFrom s e k job
+pub plan_from : (s : CoreState) (e : Event Draft) (k : ℕ) (job : Draft) → early_refusal s e ≡ None → plan_of (outcome_of_event s e).1 k ≡ Some job → ComesFrom s e k job
 plan_from s e k job early is = by_event e early is
   where
-    From : Event → Answer × CoreState → Type 0
+    From : Event Draft → Answer × CoreState → Type 0
     From e p = plan_of p.1 k ≡ Some job → ComesFrom s e k job
 
     -- the plan of a context that was changed to one without a plan
-    without : (e : Event) (ctx : ℕ) (c : Option Context) → option_map_or (λ (c : Context). c.plan) c None ≡ None → ((b : ℕ) → k ≢ ctx → e ≡ event.Drop k b → ⊥)
+    without : (e : Event Draft) (ctx : ℕ) (c : Option Context) → option_map_or (λ (c : Context). c.plan) c None ≡ None → ((b : ℕ) → k ≢ ctx → e ≡ event.Drop k b → ⊥)
         → plan_in (slice_get (set s.contexts ctx c) k) ≡ Some job → ComesFrom s e k job
     without e ctx c none stays is = elim (plan_cases s.contexts ctx k c job is) [
       | inl here ↦ let never : None ≡ Some job = sym none ∙ here.1 in absurd (cc (never))
@@ -192,7 +192,7 @@ plan_from s e k job early is = by_event e early is
         spent None is = inl (is, λ b e. absurd (cc (e)))
         spent (Some x) is = without (event.Arm ctx) ctx (Some (record x { plan = None })) refl (λ b apart e. absurd (cc (e))) is
 
-    by_event : (e : Event) → early_refusal s e ≡ None → From e (outcome_of_event s e)
+    by_event : (e : Event Draft) → early_refusal s e ≡ None → From e (outcome_of_event s e)
     by_event (event.Submit draft) early is = inl (is, λ b e. absurd (cc (e)))
     by_event (event.Begin ctx) early is = without (event.Begin ctx) ctx _ refl (λ b apart e. absurd (cc (e))) is
     by_event (event.Try ctx c) early is =
@@ -223,7 +223,7 @@ planned_held s k job b early has =
     All-contains (λ x. holds s k x ≡ true) (buffers_of job) b (AllPass-from_list_all (holds s k) (buffers_of job) all) has
 
 -- a step leaves the plans held
-pub plans_stay_held : (s : CoreState) (e : Event) (a : Answer) (n : CoreState) → PlansHeld s → Step s e a n → PlansHeld n
+pub plans_stay_held : (s : CoreState) (e : Event Draft) (a : Answer) (n : CoreState) → PlansHeld s → Step s e a n → PlansHeld n
 plans_stay_held s e a n held step = elim (cases_step s e a n step) [
   | inl refused ↦ subst PlansHeld (sym refused.keeps) held
   | inr had ↦ subst PlansHeld (sym had.leaves) (λ k job is b has. elim (plan_from s e k job had.early is) [
@@ -235,7 +235,7 @@ plans_stay_held s e a n held step = elim (cases_step s e a n step) [
 ]
 
 -- so they are after a run
-pub run_plans_held : (s : CoreState) (events : List Event) (answers : List Answer) (n : CoreState) → PlansHeld s → Run s events answers n → PlansHeld n
+pub run_plans_held : (s : CoreState) (events : List (Event Draft)) (answers : List Answer) (n : CoreState) → PlansHeld s → Run s events answers n → PlansHeld n
 run_plans_held s [] [] n held run = subst PlansHeld (sym run) held
 run_plans_held s [] (a ∷ rest) n held run = absurd run
 run_plans_held s (e ∷ es) [] n held run = absurd run
@@ -247,18 +247,18 @@ opened_plans_held spec ctx job is = let none : None ≡ Some job = sym (no_plans
 -- ---- the jobs of a journal
 
 -- an event armed this job
-pub record Arms (s : CoreState) (e : Event) (n : CoreState) (job : Draft) : Type 0 where
+pub record Arms (s : CoreState) (e : Event Draft) (n : CoreState) (job : Draft) : Type 0 where
   pub journal : n.device.journal ≡ s.device.journal ++ new_record s.device job ∷ []
   pub by_event : (e ≡ event.Submit job) ⊎ ((ctx : ℕ) × (e ≡ event.Arm ctx) × (plan_of s ctx ≡ Some job))
 
 -- an event keeps the number of jobs, or arms one
-abbrev pub CountsOn : CoreState → Event → CoreState → Type 0
+abbrev pub CountsOn : CoreState → Event Draft → CoreState → Type 0
 CountsOn s e n = (length n.device.journal ≡ length s.device.journal) ⊎ ((job : Draft) × Arms s e n job)
 
 abbrev pub KeepsCount : DeviceState → Answer × DeviceState → Type 0
 KeepsCount d p = length p.1.journal ≡ length d.journal
 
-pub counts_on : (s : CoreState) (e : Event) → CountsOn s e (outcome_of_event s e).1
+pub counts_on : (s : CoreState) (e : Event Draft) → CountsOn s e (outcome_of_event s e).1
 counts_on s (event.Submit draft) = inr (draft, record { journal = refl; by_event = inl refl })
 counts_on s (event.Begin ctx) = inl refl
 counts_on s (event.Try ctx c) =
@@ -313,7 +313,7 @@ writer_declares job b writer = by_usage (usage_at b job) refl writer
         contains_at (buffers_of job) d.0 b (to_map (λ (x : ℕ × Access). x.0) job.declared d.0 d.1 d.2 ∙ ap (λ x. Some x) d.3)
 
 -- a job that was armed now does not write what the context may read
-pub arms_no_writer : (s : CoreState) (e : Event) (n : CoreState) (ctx b : ℕ) (job : Draft) → PlansHeld s → holds s ctx b ≡ true → early_refusal s e ≡ None
+pub arms_no_writer : (s : CoreState) (e : Event Draft) (n : CoreState) (ctx b : ℕ) (job : Draft) → PlansHeld s → holds s ctx b ≡ true → early_refusal s e ≡ None
     → (GivesUp s ctx b e → ⊥) → Arms s e n job → is_writer job b ≡ true → ⊥
 arms_no_writer s e n ctx b job plans held early keeps arms writer = elim (arms.by_event) [
   | inl submits ↦
@@ -333,7 +333,7 @@ arms_no_writer s e n ctx b job plans held early keeps arms writer = elim (arms.b
     none_held (Some f) e = absurd (cc (e))
 
 -- what a context may read it may read after an event with which it does not give it up
-pub may_read_on : (s : CoreState) (e : Event) (a : Answer) (n : CoreState) (ctx b : ℕ) → PlansHeld s → EachInPlace RecordGrows s.device.journal n.device.journal
+pub may_read_on : (s : CoreState) (e : Event Draft) (a : Answer) (n : CoreState) (ctx b : ℕ) → PlansHeld s → EachInPlace RecordGrows s.device.journal n.device.journal
     → Step s e a n → MayRead s ctx b → (GivesUp s ctx b e → ⊥) → MayRead n ctx b
 may_read_on s e a n ctx b plans grows step may keeps = elim (cases_step s e a n step) [
   | inl refused ↦ subst (λ m. MayRead m ctx b) (sym refused.keeps) may

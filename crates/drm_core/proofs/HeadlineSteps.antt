@@ -58,13 +58,13 @@ pub record WasRefused (old : CoreState) (given : Answer) (new : CoreState) : Typ
   pub keeps : new ≡ old
 
 -- an event that was not refused
-pub record HadOutcome (old : CoreState) (further : Event) (given : Answer) (new : CoreState) : Type 0 where
+pub record HadOutcome (old : CoreState) (further : Event Draft) (given : Answer) (new : CoreState) : Type 0 where
   pub early : early_refusal old further ≡ None
   pub late : late_refusal old further ≡ None
   pub answers : given ≡ (outcome_of_event old further).0
   pub leaves : new ≡ (outcome_of_event old further).1
 
-pub cases_step : (s : CoreState) (e : Event) (a : Answer) (n : CoreState) → Step s e a n → WasRefused s a n ⊎ HadOutcome s e a n
+pub cases_step : (s : CoreState) (e : Event Draft) (a : Answer) (n : CoreState) → Step s e a n → WasRefused s a n ⊎ HadOutcome s e a n
 cases_step s e a n (inr lacks) = inl (record { why = Memory; answers = lacks.answers; keeps = lacks.keeps })
 cases_step s e a n (inl is) = by_refusal (first_of (early_refusal s e ∷ late_refusal s e ∷ [])) refl is
   where
@@ -117,7 +117,7 @@ is_refusal (answer.Refused why) = true
 is_refusal _ = false
 
 -- an outcome is no refusal
-pub outcome_given : (s : CoreState) (e : Event) → is_refusal (outcome_of_event s e).0 ≡ false
+pub outcome_given : (s : CoreState) (e : Event Draft) → is_refusal (outcome_of_event s e).0 ≡ false
 outcome_given s (event.Submit draft) = refl
 outcome_given s (event.Begin ctx) = refl
 outcome_given s (event.Try ctx b) =
@@ -146,7 +146,7 @@ outcome_given s (event.Status f) = refl
 outcome_given s (event.Dump b) = refl
 
 -- an event that is refused changes nothing
-pub refused_keeps : (s : CoreState) (e : Event) (why : Refusal) (n : CoreState) → Step s e (answer.Refused why) n → n ≡ s
+pub refused_keeps : (s : CoreState) (e : Event Draft) (why : Refusal) (n : CoreState) → Step s e (answer.Refused why) n → n ≡ s
 refused_keeps s e why n step = elim (cases_step s e (answer.Refused why) n step) [
   | inl refused ↦ refused.keeps
   | inr had ↦ absurd (both_ways (is_refusal (outcome_of_event s e).0) (outcome_given s e) (ap is_refusal (sym had.answers)))
@@ -200,7 +200,7 @@ step_leaves d ring b law here writers = by_current (current_of d ring) refl
         (by_packet f c.0 c.1 (slice_get c.0.job.packets c.0.ran) refl)
 
 -- an event leaves a buffer whose writers have all ended
-pub outcome_leaves : (s : CoreState) (e : Event) (b : ℕ) → IsLawfulDevice s.device → names_exist s.device.spec e ≡ true → WritersEnded s b
+pub outcome_leaves : (s : CoreState) (e : Event Draft) (b : ℕ) → IsLawfulDevice s.device → names_exist s.device.spec e ≡ true → WritersEnded s b
     → bytes_of (outcome_of_event s e).1.device.memory b ≡ bytes_of s.device.memory b
 outcome_leaves s e b law names writers = by_event e names
   where
@@ -211,7 +211,7 @@ outcome_leaves s e b law names writers = by_event e names
         → bytes_of (context_changed m ctx change).device.memory b ≡ bytes_of s.device.memory b
     by_context m ctx change is = at_option (λ (n : CoreState). bytes_of n.device.memory b ≡ bytes_of s.device.memory b) _ (context_of m ctx) m is (λ c. is)
 
-    by_event : (e : Event) → names_exist s.device.spec e ≡ true → Leaves (outcome_of_event s e)
+    by_event : (e : Event Draft) → names_exist s.device.spec e ≡ true → Leaves (outcome_of_event s e)
     by_event (event.Submit draft) names = refl
     by_event (event.Begin ctx) names = refl
     by_event (event.Try ctx k) names =
@@ -234,7 +234,7 @@ outcome_leaves s e b law names writers = by_event e names
     by_event (event.Status f) names = refl
     by_event (event.Dump k) names = refl
 
-pub step_leaves_bytes : (s : CoreState) (e : Event) (a : Answer) (n : CoreState) (b : ℕ) → IsLawfulDevice s.device → names_exist s.device.spec e ≡ true
+pub step_leaves_bytes : (s : CoreState) (e : Event Draft) (a : Answer) (n : CoreState) (b : ℕ) → IsLawfulDevice s.device → names_exist s.device.spec e ≡ true
     → Step s e a n → WritersEnded s b → bytes_of n.device.memory b ≡ bytes_of s.device.memory b
 step_leaves_bytes s e a n b law names step writers = elim (cases_step s e a n step) [
   | inl refused ↦ ap (λ (m : CoreState). bytes_of m.device.memory b) refused.keeps

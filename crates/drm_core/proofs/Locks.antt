@@ -64,7 +64,7 @@ held_place holders ctx =
     ∙ sym (find_numbered (λ (o : Option ℕ). option_map_or (λ h. h == ctx) o false) 0 holders)
 
 -- an event that is not refused
-pub reply_is : (s : CoreState) (e : Event) → early_refusal s e ≡ None → late_refusal s e ≡ None → reply s e ≡ outcome_of_event s e
+pub reply_is : (s : CoreState) (e : Event Draft) → early_refusal s e ≡ None → late_refusal s e ≡ None → reply s e ≡ outcome_of_event s e
 reply_is s e early late =
     ap (λ o. unless_refused (first_of (o ∷ late_refusal s e ∷ [])) s (outcome_of_event s e)) early
     ∙ ap (λ o. unless_refused (first_of (None ∷ o ∷ [])) s (outcome_of_event s e)) late

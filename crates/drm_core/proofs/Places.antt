@@ -56,7 +56,7 @@ arm_place d job none =
     unnamed (Some f) e = absurd (cc (e))
 
 -- an event that armed a job was not refused by the device
-arms_in_place : (s : CoreState) (e : Event) (a : Answer) (n : CoreState) (job : Draft) → HadOutcome s e a n → Arms s e n job → arm_refusal s.device job ≡ None
+arms_in_place : (s : CoreState) (e : Event Draft) (a : Answer) (n : CoreState) (job : Draft) → HadOutcome s e a n → Arms s e n job → arm_refusal s.device job ≡ None
 arms_in_place s e a n job had arms = elim (arms.by_event) [
   | inl submits ↦ subst (λ x. late_refusal s x ≡ None) submits had.late
   | inr planned ↦
@@ -70,7 +70,7 @@ arms_in_place s e a n job had arms = elim (arms.by_event) [
     at_plan s o job is none = subst (λ p. option_map_or (arm_refusal s.device) p None ≡ None) is none
 
 -- each job keeps its place over an event, and a job that it arms gets one
-pub places_kept : (s : CoreState) (e : Event) (a : Answer) (n : CoreState) → JobsHavePlace s.device → Grows s.device n.device → Step s e a n → JobsHavePlace n.device
+pub places_kept : (s : CoreState) (e : Event Draft) (a : Answer) (n : CoreState) → JobsHavePlace s.device → Grows s.device n.device → Step s e a n → JobsHavePlace n.device
 places_kept s e a n places grows step f r at = elim (cases_step s e a n step) [
   | inl refused ↦ subst (λ (m : CoreState). JobsHavePlace m.device) (sym refused.keeps) places f r at
   | inr had ↦ elim (subst (CountsOn s e) (sym had.leaves) (counts_on s e)) [
@@ -94,7 +94,7 @@ places_kept s e a n places grows step f r at = elim (cases_step s e a n step) [
         let job : r.job ≡ old.0.job = ap (λ (x : JobRecord). x.job) (sym same) ∙ new.2.job in
         subst (λ spec. HasPlace spec f r.job) (sym grows.spec) (subst (λ j. HasPlace s.device.spec f j) (sym job) (places f old.0 old.1))
 
-pub run_places_kept : (laws : DeviceLaws) → (s : CoreState) (spec : DeviceSpec) (events : List Event) (answers : List Answer) (n : CoreState) → IsSteadyCore s → s.device.spec ≡ spec
+pub run_places_kept : (laws : DeviceLaws) → (s : CoreState) (spec : DeviceSpec) (events : List (Event Draft)) (answers : List Answer) (n : CoreState) → IsSteadyCore s → s.device.spec ≡ spec
     → AllNamesExist spec events → JobsHavePlace s.device → Run s events answers n → JobsHavePlace n.device
 run_places_kept laws s spec [] [] n steady same names places run = subst (λ (m : CoreState). JobsHavePlace m.device) (sym run) places
 run_places_kept laws s spec [] (a ∷ rest) n steady same names places run = absurd run

@@ -42,10 +42,10 @@ use Rattle.drm_core.proofs.Lists.{list_ext}
 use Rattle.drm_core.proofs.CoreArmed.{used_declared}
 
 -- the refusals of an event, one after the other
-pub reply_early : (s : CoreState) (e : Event) (r : Refusal) → early_refusal s e ≡ Some r → reply s e ≡ (answer.Refused r, s)
+pub reply_early : (s : CoreState) (e : Event Draft) (r : Refusal) → early_refusal s e ≡ Some r → reply s e ≡ (answer.Refused r, s)
 reply_early s e r is = ap (λ o. unless_refused (first_of (o ∷ late_refusal s e ∷ [])) s (outcome_of_event s e)) is
 
-pub reply_late : (s : CoreState) (e : Event) (r : Refusal) → early_refusal s e ≡ None → late_refusal s e ≡ Some r → reply s e ≡ (answer.Refused r, s)
+pub reply_late : (s : CoreState) (e : Event Draft) (r : Refusal) → early_refusal s e ≡ None → late_refusal s e ≡ Some r → reply s e ≡ (answer.Refused r, s)
 reply_late s e r early late =
     ap (λ o. unless_refused (first_of (o ∷ late_refusal s e ∷ [])) s (outcome_of_event s e)) early
     ∙ ap (λ o. unless_refused (first_of (o ∷ [])) s (outcome_of_event s e)) late

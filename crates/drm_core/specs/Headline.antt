@@ -53,7 +53,7 @@ pub record MayRead (state : CoreState) (ctx buffer : ℕ) : Type 0 where
   pub writers : WritersEnded state buffer
 
 -- with this event the context gives up reading the buffer: it drops it, or arms a job that writes it
-abbrev pub GivesUp : CoreState → ℕ → ℕ → Event → Type 0
+abbrev pub GivesUp : CoreState → ℕ → ℕ → Event Draft → Type 0
 GivesUp state ctx buffer further =
     (further ≡ event.Drop ctx buffer)
     ⊎ ((further ≡ event.Arm ctx) × ((job : Draft) × (plan_of state ctx ≡ Some job) × IsTrue (is_writer job buffer)))
@@ -93,10 +93,10 @@ pub record Promises (spec : DeviceSpec) (state : CoreState) : Type 0 where
   pub reads : (ctx buffer : ℕ) (given : Answer) (next : CoreState) → Step state (event.Read ctx buffer) given next
       → IsRefused given ⊎ (given ≡ answer.Bytes (serial_bytes spec state buffer))
   -- a read is given only to the context that holds the buffer, and only after every armed writer of it
-  pub reads_wait : (ctx buffer : ℕ) (bytes : List ℕ) (next : CoreState) → IsTrue (names_exist spec (event.Read ctx buffer))
+  pub reads_wait : (ctx buffer : ℕ) (bytes : List ℕ) (next : CoreState) → IsTrue (names_exist {J = Draft} spec (event.Read ctx buffer))
       → Step state (event.Read ctx buffer) (answer.Bytes bytes) next → MayRead state ctx buffer
   -- and there it is refused for want of memory alone
-  pub reads_given : (ctx buffer : ℕ) (given : Answer) (next : CoreState) → IsTrue (names_exist spec (event.Read ctx buffer))
+  pub reads_given : (ctx buffer : ℕ) (given : Answer) (next : CoreState) → IsTrue (names_exist {J = Draft} spec (event.Read ctx buffer))
       → Step state (event.Read ctx buffer) given next → MayRead state ctx buffer
       → (given ≡ answer.Refused Memory) ⊎ (given ≡ answer.Bytes (serial_bytes spec state buffer))
   -- a status is that of the armed job's fence
@@ -113,7 +113,7 @@ pub record Promises (spec : DeviceSpec) (state : CoreState) : Type 0 where
   pub packet_order : (i j : ℕ) (earlier later : JobRecord) → AreArmed state i earlier j later → IsTrue (comes_after later.job i earlier.job)
       → 0 < later.ran → IsTrue (is_over earlier)
   -- across a further event a fence's outcome stays, and so do the packets of a job that has one or is skipped
-  pub fences_final : (further : Event) (given : Answer) (next : CoreState) → IsTrue (names_exist spec further) → Step state further given next
+  pub fences_final : (further : Event Draft) (given : Answer) (next : CoreState) → IsTrue (names_exist spec further) → Step state further given next
       → (fence : ℕ) (old : JobRecord) → IsArmed state fence old → (new : JobRecord) × IsArmed next fence new × StaysFinal old new
   -- a ring's pending jobs count no more credits than its limit
   pub credits : (ring : ℕ) (limits : RingSpec) → slice_get spec.rings ring ≡ Some limits → used_credits state.device ring ≤ limits.credit_limit
@@ -129,16 +129,16 @@ pub record Promises (spec : DeviceSpec) (state : CoreState) : Type 0 where
   pub end_order : (i j : ℕ) (earlier later : JobRecord) → AreArmed state i earlier j later → earlier.job.entity ≡ later.job.entity
       → IsTrue (has_ended later.phase) → IsTrue (has_ended earlier.phase)
   -- an event that is refused changes nothing
-  pub refusals : (further : Event) (why : Refusal) (next : CoreState) → Step state further (answer.Refused why) next → next ≡ state
+  pub refusals : (further : Event Draft) (why : Refusal) (next : CoreState) → Step state further (answer.Refused why) next → next ≡ state
   -- what a context may read it may read on, whatever happens, until it gives it up itself
-  pub reads_stay : (further : Event) (given : Answer) (next : CoreState) (ctx buffer : ℕ) → IsTrue (names_exist spec further)
+  pub reads_stay : (further : Event Draft) (given : Answer) (next : CoreState) (ctx buffer : ℕ) → IsTrue (names_exist spec further)
       → Step state further given next → MayRead state ctx buffer → (GivesUp state ctx buffer further → ⊥) → MayRead next ctx buffer
   -- and finds the same bytes: while every armed writer of a buffer has its outcome, no event changes the buffer's bytes
-  pub bytes_stay : (further : Event) (given : Answer) (next : CoreState) (buffer : ℕ) → IsTrue (names_exist spec further)
+  pub bytes_stay : (further : Event Draft) (given : Answer) (next : CoreState) (buffer : ℕ) → IsTrue (names_exist spec further)
       → Step state further given next → WritersEnded state buffer → serial_bytes spec next buffer ≡ serial_bytes spec state buffer
 
 -- whatever events a core has met since it was opened, and whatever it answered, it keeps its promises
 abbrev pub Headline : Type 0
 Headline =
-    (spec : DeviceSpec) (events : List Event) (answers : List Answer) (state : CoreState) → AllNamesExist spec events
+    (spec : DeviceSpec) (events : List (Event Draft)) (answers : List Answer) (state : CoreState) → AllNamesExist spec events
     → Run (opened spec) events answers state → Promises spec state

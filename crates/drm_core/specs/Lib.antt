@@ -5,6 +5,7 @@ pub mod Refusals
 pub mod Outcomes
 pub mod Step
 pub mod Names
+pub mod Jobs
 pub mod Run
 pub mod Lawful
 pub mod Steady

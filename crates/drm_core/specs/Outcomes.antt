@@ -41,7 +41,7 @@ try_outcome s ctx buffer =
     (answer.Held, with_holder s buffer (Some ctx))
 
 -- the answer to an event that is not refused, and the state that it leaves
-abbrev pub outcome_of_event : CoreState → Event → Answer × CoreState
+abbrev pub outcome_of_event : CoreState → Event Draft → Answer × CoreState
 outcome_of_event s (event.Submit draft) = (answer.Armed (length s.device.journal), armed_core s draft)
 outcome_of_event s (event.Begin ctx) = (
   answer.Ticket s.next_ticket,

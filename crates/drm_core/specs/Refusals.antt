@@ -26,7 +26,7 @@ abbrev pub plan_of : CoreState → ℕ → Option Draft
 plan_of state ctx = option_map_or (λ c. c.plan) (context_of state ctx) None
 
 -- the refusal that comes before the event takes memory, if it takes any
-abbrev pub early_refusal : CoreState → Event → Option Refusal
+abbrev pub early_refusal : CoreState → Event Draft → Option Refusal
 early_refusal s (event.Submit draft) =
     first_of (option_map Faulty (job_fault s.device.spec draft) ∷ option_map Held (find (is_held s) (buffers_of draft)) ∷ [])
 early_refusal s (event.Begin ctx) =
@@ -58,12 +58,12 @@ early_refusal s (event.Status fence) = status_refusal s.device fence
 early_refusal s (event.Dump buffer) = None
 
 -- the refusal that comes after the event has taken memory
-abbrev pub late_refusal : CoreState → Event → Option Refusal
+abbrev pub late_refusal : CoreState → Event Draft → Option Refusal
 late_refusal s (event.Submit draft) = arm_refusal s.device draft
 late_refusal s _ = None
 
 -- whether the event takes memory
-abbrev pub takes_memory : Event → Bool
+abbrev pub takes_memory : Event Draft → Bool
 takes_memory (event.Submit draft) = true
 takes_memory (event.Plan ctx draft) = true
 takes_memory (event.Read ctx buffer) = true

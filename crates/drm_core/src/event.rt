@@ -1,11 +1,13 @@
-use drm_job::Draft;
 use drm_types::{BufferId, CtxId, EntityId, FenceId, Moment, RingId};
 
 /// What can happen to the core. Each is one atomic step.
-#[derive(Drop)]
-pub enum Event {
+///
+/// `J` is what stands for the job of a submission or a plan. An `Event<Draft>` happens, an `Event<()>` is kept beside its
+/// job, and an `Event<EntityId>` tells of the job its entity alone.
+#[derive(Clone, Copy, Drop)]
+pub enum Event<J> {
     /// Plans and arms a job at once, where no context holds what it declares (a `DRM_IOCTL_*_SUBMIT`).
-    Submit { draft: Draft },
+    Submit { job: J },
     /// Draws a context's ticket (`ww_acquire_init`).
     Begin { ctx: CtxId },
     /// One attempt to lock a buffer's reservation (`ww_mutex_lock`, without the wait).
@@ -18,7 +20,7 @@ pub enum Event {
     End { ctx: CtxId },
     /// Checks a job, collects what it waits for and takes room for its fences
     /// (`drm_sched_job_add_implicit_dependencies`, `dma_resv_reserve_fences`), and seals the context.
-    Plan { ctx: CtxId, draft: Draft },
+    Plan { ctx: CtxId, job: J },
     /// Arms the planned job, pushes it, and adds its fence to the reservations
     /// (`drm_sched_job_arm`, `drm_sched_entity_push_job`, `dma_resv_add_fence`).
     Arm { ctx: CtxId },

@@ -5,6 +5,7 @@ ghost use Rattle.drm_core.specs.Cores.{core_state, IsCore};
 
 use crate::cores::CoreTable;
 use crate::event::Event;
+use drm_job::Draft;
 use drm_resv::Deps;
 use drm_sched::Answer;
 use std::alloc::Global;
@@ -13,20 +14,25 @@ impl CoreTable {
     /// One event. It names only what the device has. A submission collects what its job waits for in the list that is
     /// handed to it; what stands there before and after is nobody's matter.
     #[inline(always)]
-    pub(crate) fn apply(&mut self, alloc: Global, event: Event, dependencies: &mut Deps) -> Answer
+    pub(crate) fn apply(
+        &mut self,
+        alloc: Global,
+        event: Event<Draft>,
+        dependencies: &mut Deps,
+    ) -> Answer
         requires names { IsTrue (names_exist_in self.old.device.state.spec event) }
         requires core { IsCore self.old }
         ensures step { Step (core_state self.old) event result (core_state self.new) }
         ensures core { IsCore self.new }
     {
         match event {
-            Event::Submit { draft } => self.submit(draft, dependencies),
+            Event::Submit { job } => self.submit(job, dependencies),
             Event::Begin { ctx } => self.begin(ctx),
             Event::Try { ctx, buffer } => self.try_claim(ctx, buffer),
             Event::Done { ctx } => self.done(ctx),
             Event::Drop { ctx, buffer } => self.drop_held(ctx, buffer),
             Event::End { ctx } => self.end(ctx),
-            Event::Plan { ctx, draft } => self.plan(ctx, draft),
+            Event::Plan { ctx, job } => self.plan(ctx, job),
             Event::Arm { ctx } => self.arm(ctx),
             Event::Pick { ring, now } => self.pick(ring, now),
             Event::Step { ring } => self.step(ring),

@@ -11,6 +11,7 @@ mod cores;
 mod device_events;
 mod event;
 mod events;
+mod jobs;
 mod laws;
 mod locking;
 mod looking;

@@ -5,9 +5,9 @@ use crate::cores::CONTEXTS;
 use crate::event::Event;
 use drm_types::DeviceSpec;
 
-impl Event {
+impl<J> Event<J> {
     /// Whether the ring, the entity, the context and the buffer that the event names are there: what `Core::apply`
-    /// asks for. Drafts and fences are not looked at, since an event that names one that is not there is refused.
+    /// asks for. Jobs and fences are not looked at, since an event that names one that is not there is refused.
     pub fn names_exist(&self, spec: &DeviceSpec) -> bool
         ensures { result ≡ names_exist_in spec.now self.now }
     {

@@ -1,8 +1,0 @@
-use Rattle.std.proofs.Common.{rules}
-use Rattle.drm_script.proofs.kept.next_job.Goals as goal
-
-pub unreachable-requires : goal.unreachable-requires
-unreachable-requires c = search rules
-
-pub returns : goal.returns
-returns c = search rules
