@@ -2,6 +2,7 @@
 use Rattle.std.proofs.Common.{◌≡◌, ℕ, ◌+◌, ◌≤◌, Bool, true, false, cond, List, [], ◌∷◌, ◌++◌, refl, sym, ap, subst, ◌∙◌, arith}
 use Rattle.drm_types.specs.Limits.{spec_fault}
 use Rattle.drm_types.specs.declared.spec.DeviceSpec.{DeviceSpec}
+use Rattle.drm_job.specs.declared.Draft.{Draft}
 use Rattle.drm_state.specs.declared.answer.Answer.{Answer}
 use Rattle.drm_state.specs.Chosen.{ChoiceIsLeast}
 use Rattle.drm_state.specs.Events.{DevicesStaySteady}
@@ -20,24 +21,24 @@ use Rattle.drm_progress.proofs.Stuck.{never_stuck}
 
 -- a run of a core that was opened leads to the state
 record Reached (spec : DeviceSpec) (s : CoreState) : Type 0 where
-  events : List Event
+  events : List (Event Draft)
   answers : List Answer
   names : AllNamesExist spec events
   run : Run (opened spec) events answers s
 
 -- one event more
-run_push : (s u : CoreState) (events : List Event) (answers : List Answer) (e : Event) (a : Answer) (t : CoreState) → Run s events answers u → Step u e a t
+run_push : (s u : CoreState) (events : List (Event Draft)) (answers : List Answer) (e : Event Draft) (a : Answer) (t : CoreState) → Run s events answers u → Step u e a t
     → Run s (events ++ e ∷ []) (answers ++ a ∷ []) t
 run_push s u [] [] e a t run step = (t, subst (λ (n : CoreState). Step n e a t) run step, refl)
 run_push s u [] (b ∷ answers) e a t run step = absurd run
 run_push s u (f ∷ events) [] e a t run step = absurd run
 run_push s u (f ∷ events) (b ∷ answers) e a t run step = (run.0, run.1, run_push run.0 u events answers e a t run.2 step)
 
-names_push : (spec : DeviceSpec) (events : List Event) (e : Event) → AllNamesExist spec events → names_exist spec e ≡ true → AllNamesExist spec (events ++ e ∷ [])
+names_push : (spec : DeviceSpec) (events : List (Event Draft)) (e : Event Draft) → AllNamesExist spec events → names_exist spec e ≡ true → AllNamesExist spec (events ++ e ∷ [])
 names_push spec [] e names one = (one, tt)
 names_push spec (f ∷ events) e names one = (names.0, names_push spec events e names.1 one)
 
-step_reached : (spec : DeviceSpec) (s : CoreState) (e : Event) (a : Answer) (t : CoreState) → Reached spec s → names_exist spec e ≡ true → Step s e a t
+step_reached : (spec : DeviceSpec) (s : CoreState) (e : Event Draft) (a : Answer) (t : CoreState) → Reached spec s → names_exist spec e ≡ true → Step s e a t
     → Reached spec t
 step_reached spec s e a t reached one step = record {
   events = reached.events ++ e ∷ [];
@@ -47,7 +48,7 @@ step_reached spec s e a t reached one step = record {
 }
 
 -- the state at the end of a lawful run
-lawful_end : (old : CoreState) (events : List Event) (answers : List Answer) (new : CoreState) → LawfulRun old events answers new → IsLawful new
+lawful_end : (old : CoreState) (events : List (Event Draft)) (answers : List Answer) (new : CoreState) → LawfulRun old events answers new → IsLawful new
 lawful_end old [] [] new run = subst IsLawful (sym run.1) run.0
 lawful_end old [] (a ∷ answers) new run = absurd run
 lawful_end old (e ∷ events) [] new run = absurd run
@@ -58,7 +59,7 @@ plans_are_jobs every spec s reached =
     (lawful_end (opened spec) reached.events reached.answers s (every spec reached.events reached.answers s reached.names reached.run)).plans
 
 -- one event leaves no more than it finds, and less where it lets a job go on
-one_event : ChoiceIsLeast → (s : CoreState) (e : Event) (a : Answer) (t : CoreState) → IsSteady s.device → Moved s.device t.device → Step s e a t
+one_event : ChoiceIsLeast → (s : CoreState) (e : Event Draft) (a : Answer) (t : CoreState) → IsSteady s.device → Moved s.device t.device → Step s e a t
     → cond (lets_go_on s.device e) 1 0 + all_left t.device.journal + all_work s.device.journal ≤ all_left s.device.journal + all_work t.device.journal
 one_event choices s e a t steady moved step = by_going (lets_go_on s.device e) refl
   where
@@ -74,7 +75,7 @@ record Leads (spec : DeviceSpec) (s t : CoreState) (count : ℕ) : Type 0 where
   same : t.device.spec ≡ spec
   left : count + all_left t.device.journal + all_work s.device.journal ≤ all_left s.device.journal + all_work t.device.journal
 
-run_leads : DevicesStaySteady → ChoiceIsLeast → EveryRunIsLawful → (spec : DeviceSpec) (s : CoreState) (events : List Event) (answers : List Answer) (t : CoreState)
+run_leads : DevicesStaySteady → ChoiceIsLeast → EveryRunIsLawful → (spec : DeviceSpec) (s : CoreState) (events : List (Event Draft)) (answers : List Answer) (t : CoreState)
     → Reached spec s → IsSteady s.device → s.device.spec ≡ spec → AllNamesExist spec events → (run : Run s events answers t)
     → Leads spec s t (goings s events answers t run)
 run_leads laws choices every spec s [] [] t reached steady same names run =

@@ -100,7 +100,7 @@ try_keeps s ctx buffer = by_holder (holder_of s buffer)
 abbrev pub PlansAreJobs : CoreState → Type 0
 PlansAreJobs s = (ctx : ℕ) (job : Draft) → plan_of s ctx ≡ Some job → IsJob s.device.spec job
 
-outcome_moves : DevicesStaySteady → (s : CoreState) (e : Event) → IsSteady s.device → PlansAreJobs s → names_exist s.device.spec e ≡ true
+outcome_moves : DevicesStaySteady → (s : CoreState) (e : Event Draft) → IsSteady s.device → PlansAreJobs s → names_exist s.device.spec e ≡ true
     → early_refusal s e ≡ None → Moved s.device (outcome_of_event s e).1.device
 outcome_moves laws s (event.Submit draft) steady plans names early =
     let first = none_first (option_map Faulty (job_fault s.device.spec draft)) (option_map Held (find (is_held s) (buffers_of draft)) ∷ []) early in
@@ -144,7 +144,7 @@ outcome_moves laws s (event.Dump buffer) steady plans names early = unmoved s.de
 -- ---- an event
 
 -- it changed nothing, or had its outcome
-step_cases : (s : CoreState) (e : Event) (a : Answer) (t : CoreState) → Step s e a t
+step_cases : (s : CoreState) (e : Event Draft) (a : Answer) (t : CoreState) → Step s e a t
     → (t ≡ s) ⊎ ((early_refusal s e ≡ None) × (t ≡ (outcome_of_event s e).1))
 step_cases s e a t (inr lacks) = inl lacks.keeps
 step_cases s e a t (inl is) = by_refusal (first_of (early_refusal s e ∷ late_refusal s e ∷ [])) refl is
@@ -155,7 +155,7 @@ step_cases s e a t (inl is) = by_refusal (first_of (early_refusal s e ∷ late_r
     by_refusal None none same =
         inr ((none_first (early_refusal s e) (late_refusal s e ∷ []) none).0, ap (λ (p : Answer × CoreState). p.1) same)
 
-pub step_moves : DevicesStaySteady → (s : CoreState) (e : Event) (a : Answer) (t : CoreState) → IsSteady s.device → PlansAreJobs s
+pub step_moves : DevicesStaySteady → (s : CoreState) (e : Event Draft) (a : Answer) (t : CoreState) → IsSteady s.device → PlansAreJobs s
     → names_exist s.device.spec e ≡ true → Step s e a t → Moved s.device t.device
 step_moves laws s e a t steady plans names step =
     elim (step_cases s e a t step) [
@@ -164,7 +164,7 @@ step_moves laws s e a t steady plans names step =
     ]
 
 -- an event that takes no memory and is not refused has its outcome
-not_refused : (s : CoreState) (e : Event) (a : Answer) (t : CoreState) → takes_memory e ≡ false → early_refusal s e ≡ None → late_refusal s e ≡ None
+not_refused : (s : CoreState) (e : Event Draft) (a : Answer) (t : CoreState) → takes_memory e ≡ false → early_refusal s e ≡ None → late_refusal s e ≡ None
     → Step s e a t → t ≡ (outcome_of_event s e).1
 not_refused s e a t forgoes early late (inr lacks) = absurd (let never : false ≡ true = sym forgoes ∙ lacks.takes in cc (never))
 not_refused s e a t forgoes early late (inl is) =
@@ -172,7 +172,7 @@ not_refused s e a t forgoes early late (inl is) =
     ∙ ap (λ o. (unless_refused (first_of (o ∷ late_refusal s e ∷ [])) s (outcome_of_event s e)).1) early
     ∙ ap (λ o. (unless_refused (first_of (None ∷ o ∷ [])) s (outcome_of_event s e)).1) late
 
-led_by_outcome : (s : CoreState) (e : Event) (a : Answer) (t : CoreState) → takes_memory e ≡ false → early_refusal s e ≡ None → late_refusal s e ≡ None
+led_by_outcome : (s : CoreState) (e : Event Draft) (a : Answer) (t : CoreState) → takes_memory e ≡ false → early_refusal s e ≡ None → late_refusal s e ≡ None
     → Step s e a t → HasLess s.device.journal (outcome_of_event s e).1.device.journal → HasLess s.device.journal t.device.journal
 led_by_outcome s e a t forgoes early late step less =
     subst (λ (n : CoreState). HasLess s.device.journal n.device.journal) (sym (not_refused s e a t forgoes early late step)) less
@@ -186,7 +186,7 @@ not_idle d ring ran = by_current (current_of d ring) ran
     by_current (Some f) ran = refl
 
 -- where the event lets a job go on, one record has less left
-pub going_lessens : ChoiceIsLeast → (s : CoreState) (e : Event) (a : Answer) (t : CoreState) → IsSteady s.device → lets_go_on s.device e ≡ true
+pub going_lessens : ChoiceIsLeast → (s : CoreState) (e : Event Draft) (a : Answer) (t : CoreState) → IsSteady s.device → lets_go_on s.device e ≡ true
     → Step s e a t → HasLess s.device.journal t.device.journal
 going_lessens choices s (event.Pick ring now) a t steady comes step =
     let free = none_is (pick_refusal s.device ring) (and_parts (nat_lt ring (length s.device.spec.rings)) (is_none (pick_refusal s.device ring)) comes).1 in
