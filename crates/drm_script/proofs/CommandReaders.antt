@@ -7,6 +7,7 @@ use Rattle.std.proofs.lemmas.List.{append-nil}
 use Rattle.drm_core.specs.declared.event.Event.{Event}
 use Rattle.drm_core.specs.declared.event.Event.TheVariants as event
 use Rattle.drm_types.specs.declared.spec.DeviceSpec.{DeviceSpec}
+use Rattle.drm_job.specs.declared.Draft.{Draft}
 use Rattle.drm_text.specs.Cut.{Words}
 use Rattle.drm_text.specs.Grammar.{IsName}
 use Rattle.drm_text.specs.declared.fault.Fault.{Fault}
@@ -82,37 +83,37 @@ rings_and_moments spec = record {
 -- ---- one command
 
 -- the words behind a command's name spell the event
-abbrev Spelled : DeviceSpec → Command → List (List ℕ) → Event → Type 0
+abbrev Spelled : DeviceSpec → Command → List (List ℕ) → Event Draft → Type 0
 Spelled spec c parts e = ((command_text c ∷ parts) ≡ command_words e) × CommandFits spec e
 
 made : {X : Type 0} (read : Words → Result X Fault) (spell : X → List (List ℕ)) (Fits : X → Type 0) (reads : ReadsLine read spell Fits)
-    → (spec : DeviceSpec) (c : Command) (make : X → Event) (words : Words) (x : Event) → ((y : X) → (command_text c ∷ spell y) ≡ command_words (make y))
+    → (spec : DeviceSpec) (c : Command) (make : X → Event Draft) (words : Words) (x : Event Draft) → ((y : X) → (command_text c ∷ spell y) ≡ command_words (make y))
     → ((y : X) → Fits y → CommandFits spec (make y)) → (read words >>= λ y. Ok (make y)) ≡ Ok x → Spelled spec c words.rest.parts x
 made read spell Fits reads spec c make words x spelled fit e =
     let a = bind_ok (read words) (λ y. Ok (make y)) x e in
     let t = reads.takes words a.0 a.1 in
-    subst (λ (z : Event). Spelled spec c words.rest.parts z) (ok_is (make a.0) x a.2) (ap (λ (r : List (List ℕ)). command_text c ∷ r) t.0 ∙ spelled a.0, fit a.0 t.1)
+    subst (λ (z : Event Draft). Spelled spec c words.rest.parts z) (ok_is (make a.0) x a.2) (ap (λ (r : List (List ℕ)). command_text c ∷ r) t.0 ∙ spelled a.0, fit a.0 t.1)
 
-one_name : (spec : DeviceSpec) (count : ℕ) (c : Command) (make : ℕ → Event) (words : Words) (x : Event) → ((n : ℕ) → (command_text c ∷ decimal n ∷ []) ≡ command_words (make n))
+one_name : (spec : DeviceSpec) (count : ℕ) (c : Command) (make : ℕ → Event Draft) (words : Words) (x : Event Draft) → ((n : ℕ) → (command_text c ∷ decimal n ∷ []) ≡ command_words (make n))
     → ((n : ℕ) → IsName count n → CommandFits spec (make n)) → (last_name_at count words >>= λ n. Ok (make n)) ≡ Ok x → Spelled spec c words.rest.parts x
 one_name spec count c make words x spelled fit e = made (last_name_at count) (λ n. decimal n ∷ []) (IsName count) (last_names_read count) spec c make words x spelled fit e
 
-two_names : (spec : DeviceSpec) (c : Command) (make : ℕ → ℕ → Event) (words : Words) (x : Event) → ((a b : ℕ) → (command_text c ∷ decimal a ∷ decimal b ∷ []) ≡ command_words (make a b))
+two_names : (spec : DeviceSpec) (c : Command) (make : ℕ → ℕ → Event Draft) (words : Words) (x : Event Draft) → ((a b : ℕ) → (command_text c ∷ decimal a ∷ decimal b ∷ []) ≡ command_words (make a b))
     → ((a b : ℕ) → IsName 64 a → IsName (length spec.buffers) b → CommandFits spec (make a b)) → (context_and_buffer_at spec words >>= λ p. Ok (make p.0 p.1)) ≡ Ok x → Spelled spec c words.rest.parts x
 two_names spec c make words x spelled fit e =
     made (context_and_buffer_at spec) pair_words (λ pair. IsName 64 pair.0 × IsName (length spec.buffers) pair.1) (contexts_and_buffers spec) spec c (λ p. make p.0 p.1) words x (λ p. spelled p.0 p.1) (λ p fits. fit p.0 p.1 fits.0 fits.1) e
 
-ring_and_moment : (spec : DeviceSpec) (c : Command) (make : ℕ → ℕ → Event) (words : Words) (x : Event) → ((a b : ℕ) → (command_text c ∷ decimal a ∷ decimal b ∷ []) ≡ command_words (make a b))
+ring_and_moment : (spec : DeviceSpec) (c : Command) (make : ℕ → ℕ → Event Draft) (words : Words) (x : Event Draft) → ((a b : ℕ) → (command_text c ∷ decimal a ∷ decimal b ∷ []) ≡ command_words (make a b))
     → ((a b : ℕ) → IsName (length spec.rings) a → IsMoment b → CommandFits spec (make a b)) → (ring_and_moment_at spec words >>= λ p. Ok (make p.0 p.1)) ≡ Ok x → Spelled spec c words.rest.parts x
 ring_and_moment spec c make words x spelled fit e =
     made (ring_and_moment_at spec) pair_words (λ pair. IsName (length spec.rings) pair.0 × IsMoment pair.1) (rings_and_moments spec) spec c (λ p. make p.0 p.1) words x (λ p. spelled p.0 p.1) (λ p fits. fit p.0 p.1 fits.0 fits.1) e
 
-plan_takes : (spec : DeviceSpec) (words : Words) (x : Event) → plan_at words ≡ Ok x → Spelled spec command.Plan words.rest.parts x
+plan_takes : (spec : DeviceSpec) (words : Words) (x : Event Draft) → plan_at words ≡ Ok x → Spelled spec command.Plan words.rest.parts x
 plan_takes spec words x e =
     let t = two_take (name_at 64) decimal (IsName 64) (names_read 64) job_at job_words JobFits jobs_read event.Plan words x e in
-    subst (λ (z : Event). Spelled spec command.Plan words.rest.parts z) t.5 (ap (λ (r : List (List ℕ)). codes "plan" ∷ r) t.2, (t.3, t.4))
+    subst (λ (z : Event Draft). Spelled spec command.Plan words.rest.parts z) t.5 (ap (λ (r : List (List ℕ)). codes "plan" ∷ r) t.2, (t.3, t.4))
 
-event_takes : (spec : DeviceSpec) (c : Command) (words : Words) (x : Event) → event_at spec c words ≡ Ok x → Spelled spec c words.rest.parts x
+event_takes : (spec : DeviceSpec) (c : Command) (words : Words) (x : Event Draft) → event_at spec c words ≡ Ok x → Spelled spec c words.rest.parts x
 unfolding event_at
 event_takes spec command.Submit words x e = made job_at job_words JobFits jobs_read spec command.Submit event.Submit words x (λ y. refl) (λ y fits. fits) e
 event_takes spec command.Begin words x e = one_name spec 64 command.Begin event.Begin words x (λ n. refl) (λ n fits. fits) e
@@ -134,7 +135,7 @@ event_takes spec command.Fence words x e =
 event_takes spec command.Dump words x e = one_name spec (length spec.buffers) command.Dump event.Dump words x (λ n. refl) (λ n fits. fits) e
 
 -- the words of an event are those of its command, and these are read as the event
-record Written (spec : DeviceSpec) (e : Event) : Type 0 where
+record Written (spec : DeviceSpec) (e : Event Draft) : Type 0 where
   name : Command
   fields : List (List ℕ)
   spelled : command_words e ≡ command_text name ∷ fields
@@ -144,21 +145,21 @@ record Written (spec : DeviceSpec) (e : Event) : Type 0 where
 name_graphic : (count n : ℕ) → IsName count n → list_all is_graphic (decimal n) ≡ true
 name_graphic count n fits = number_graphic n fits.0
 
-one_again : (spec : DeviceSpec) (count n : ℕ) (make : ℕ → Event) (words : Words) → IsName count n → words.rest.parts ≡ decimal n ∷ [] → (last_name_at count words >>= λ n. Ok (make n)) ≡ Ok (make n)
+one_again : (spec : DeviceSpec) (count n : ℕ) (make : ℕ → Event Draft) (words : Words) → IsName count n → words.rest.parts ≡ decimal n ∷ [] → (last_name_at count words >>= λ n. Ok (make n)) ≡ Ok (make n)
 one_again spec count n make words fits is = rw ((last_names_read count).again words n is fits) refl
 
-names_again : (spec : DeviceSpec) (a b : ℕ) (make : ℕ → ℕ → Event) (words : Words) → IsName 64 a → IsName (length spec.buffers) b → words.rest.parts ≡ decimal a ∷ decimal b ∷ []
+names_again : (spec : DeviceSpec) (a b : ℕ) (make : ℕ → ℕ → Event Draft) (words : Words) → IsName 64 a → IsName (length spec.buffers) b → words.rest.parts ≡ decimal a ∷ decimal b ∷ []
     → (context_and_buffer_at spec words >>= λ p. Ok (make p.0 p.1)) ≡ Ok (make a b)
 names_again spec a b make words p q is = rw ((contexts_and_buffers spec).again words (a, b) is (p, q)) refl
 
-moments_again : (spec : DeviceSpec) (a b : ℕ) (make : ℕ → ℕ → Event) (words : Words) → IsName (length spec.rings) a → IsMoment b → words.rest.parts ≡ decimal a ∷ decimal b ∷ []
+moments_again : (spec : DeviceSpec) (a b : ℕ) (make : ℕ → ℕ → Event Draft) (words : Words) → IsName (length spec.rings) a → IsMoment b → words.rest.parts ≡ decimal a ∷ decimal b ∷ []
     → (ring_and_moment_at spec words >>= λ p. Ok (make p.0 p.1)) ≡ Ok (make a b)
 moments_again spec a b make words p q is = rw ((rings_and_moments spec).again words (a, b) is (p, q)) refl
 
 moment_graphic : (n : ℕ) → IsMoment n → list_all is_graphic (decimal n) ≡ true
 moment_graphic n small = decimal_graphic n (omega arith)
 
-written : (spec : DeviceSpec) (e : Event) → CommandFits spec e → Written spec e
+written : (spec : DeviceSpec) (e : Event Draft) → CommandFits spec e → Written spec e
 unfolding event_at
 written spec (event.Submit job) fits =
     record { name = command.Submit; fields = job_words job; spelled = refl; are = job_graphic job fits; again = λ words is. rw (jobs_read.again words job is fits) refl }
@@ -202,7 +203,7 @@ written spec (event.Dump buffer) fits =
     record { name = command.Dump; fields = decimal buffer ∷ []; spelled = refl; are = (name_graphic _ buffer fits, tt); again = λ words is. one_again spec (length spec.buffers) buffer event.Dump words fits is }
 
 -- the words of a command line are words
-pub command_graphic : (spec : DeviceSpec) (e : Event) → CommandFits spec e → AreWords (command_words e)
+pub command_graphic : (spec : DeviceSpec) (e : Event Draft) → CommandFits spec e → AreWords (command_words e)
 command_graphic spec e fits =
     let w = written spec e fits in subst AreWords (sym w.spelled) (keyword_is_word (line.Command w.name), w.are)
 
@@ -220,7 +221,7 @@ command_takes line.Final c e = absurd (cc)
 command_takes (line.Command d) c e = ap command_text (let same : d ≡ c = cc in same)
 
 -- a line that is read as a command is the command's words
-pub line_takes : (spec : DeviceSpec) (n : ℕ) (bytes : List ℕ) (x : Event) → event_line spec n bytes ≡ Ok x → (bytes ≡ join_with_byte 32 (command_words x)) × CommandFits spec x
+pub line_takes : (spec : DeviceSpec) (n : ℕ) (bytes : List ℕ) (x : Event Draft) → event_line spec n bytes ≡ Ok x → (bytes ≡ join_with_byte 32 (command_words x)) × CommandFits spec x
 unfolding event_line
 line_takes spec n bytes x e =
     let a = bind_ok (start_at n bytes) (λ start. or_fault (command_of start.0) (out_of_order n) >>= λ c. event_at spec c start.1) x e in
@@ -229,19 +230,19 @@ line_takes spec n bytes x e =
     let t = event_takes spec b.0 a.0.1 x b.2 in
     (start_takes n bytes a.0 a.1 ∙ ap (λ (w : List ℕ). join_with_byte 32 (w ∷ a.0.1.rest.parts)) name ∙ ap (join_with_byte 32) t.0, t.1)
 
-pub line_again : (spec : DeviceSpec) (n : ℕ) (x : Event) → CommandFits spec x → event_line spec n (join_with_byte 32 (command_words x)) ≡ Ok x
+pub line_again : (spec : DeviceSpec) (n : ℕ) (x : Event Draft) → CommandFits spec x → event_line spec n (join_with_byte 32 (command_words x)) ≡ Ok x
 unfolding event_line
 line_again spec n x fits =
     let w = written spec x fits in
     let s = start_again n (line.Command w.name) w.fields w.are in
     rw (ap (join_with_byte 32) w.spelled, s.1, w.again s.0 s.2) refl
 
-abbrev pub Commands : DeviceSpec → List Event → Type 0
+abbrev pub Commands : DeviceSpec → List (Event Draft) → Type 0
 Commands spec events = AllByRecursion (CommandFits spec) events
 
 -- the lines up to the end of the text are command lines
-pub events_take : (spec : DeviceSpec) (events : List Event) (n : ℕ) (bytes : List ℕ) (more : List (List ℕ)) (all : List Event) → events_of spec events n bytes more ≡ Ok all
-    → (tail : List Event) × ((bytes ∷ more) ≡ cut_lines (map command_words tail)) × Commands spec tail × (all ≡ events ++ tail)
+pub events_take : (spec : DeviceSpec) (events : List (Event Draft)) (n : ℕ) (bytes : List ℕ) (more : List (List ℕ)) (all : List (Event Draft)) → events_of spec events n bytes more ≡ Ok all
+    → (tail : List (Event Draft)) × ((bytes ∷ more) ≡ cut_lines (map command_words tail)) × Commands spec tail × (all ≡ events ++ tail)
 unfolding events_of
 events_take spec events n bytes [] all e =
     let a = bind_ok (last_line n bytes) (λ _. Ok events) all e in
@@ -253,22 +254,22 @@ events_take spec events n bytes (next ∷ rest) all e =
     (a.0 ∷ others.0, same_cons _ _ _ _ first.0 others.1, (first.1, others.2), others.3 ∙ append_assoc events (a.0 ∷ []) others.0)
 
 -- the events of parts that are lines
-abbrev pub events_in : DeviceSpec → List Event → ℕ → List (List ℕ) → Result (List Event) Fault
+abbrev pub events_in : DeviceSpec → List (Event Draft) → ℕ → List (List ℕ) → Result (List (Event Draft)) Fault
 events_in spec events n [] = Ok events
 events_in spec events n (bytes ∷ more) = events_of spec events n bytes more
 
-one_event : (spec : DeviceSpec) (events : List Event) (n : ℕ) (bytes : List ℕ) (more : List (List ℕ)) → 0 < length more
+one_event : (spec : DeviceSpec) (events : List (Event Draft)) (n : ℕ) (bytes : List ℕ) (more : List (List ℕ)) → 0 < length more
     → events_in spec events n (bytes ∷ more) ≡ (event_line spec n bytes >>= λ x. events_in spec (events ++ x ∷ []) (n + 1) more)
 unfolding events_of
 one_event spec events n bytes [] some = absurd (omega arith)
 one_event spec events n bytes (next ∷ rest) some = refl
 
 -- command lines are read as their events
-pub events_again : (spec : DeviceSpec) (events : List Event) (n : ℕ) (tail : List Event) → Commands spec tail → events_in spec events n (cut_lines (map command_words tail)) ≡ Ok (events ++ tail)
+pub events_again : (spec : DeviceSpec) (events : List (Event Draft)) (n : ℕ) (tail : List (Event Draft)) → Commands spec tail → events_in spec events n (cut_lines (map command_words tail)) ≡ Ok (events ++ tail)
 unfolding events_of
-events_again spec events n [] fit = ap (λ (es : List Event). Ok es) (sym (append-nil events))
+events_again spec events n [] fit = ap (λ (es : List (Event Draft)). Ok es) (sym (append-nil events))
 events_again spec events n (x ∷ tail) fit =
     one_event spec events n (join_with_byte 32 (command_words x)) (cut_lines (map command_words tail)) (some_lines (map command_words tail))
-    ∙ ap (λ (r : Result Event Fault). r >>= λ y. events_in spec (events ++ y ∷ []) (n + 1) (cut_lines (map command_words tail))) (line_again spec n x fit.0)
+    ∙ ap (λ (r : Result (Event Draft) Fault). r >>= λ y. events_in spec (events ++ y ∷ []) (n + 1) (cut_lines (map command_words tail))) (line_again spec n x fit.0)
     ∙ events_again spec (events ++ x ∷ []) (n + 1) tail fit.1
-    ∙ ap (λ (es : List Event). Ok es) (append_assoc events (x ∷ []) tail)
+    ∙ ap (λ (es : List (Event Draft)). Ok es) (append_assoc events (x ∷ []) tail)

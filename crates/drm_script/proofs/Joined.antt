@@ -1,17 +1,18 @@
 -- Events that stand without their jobs, joined with these.
 use Rattle.std.proofs.Common.{◌≡◌, ℕ, ◌+◌, ◌<◌, Bool, true, false, cond, List, [], ◌∷◌, ◌++◌, append-nil, length, length-append, Option, Some, None, Result, Ok, Err, refl, sym, ap, ◌∙◌, arith, true≢false}
-use Rattle.std.specs.Prelude.{count_by, is_none, option_to_list, OnOk}
+use Rattle.std.specs.Prelude.{count_by, is_some, MatchOption, OnOk}
+use Rattle.std.specs.Option.{ForSome}
 use Rattle.std.proofs.lemmas.List.Sums.{sum_by-append, sum_by-cons}
 use Rattle.drm_core.specs.declared.event.Event.{Event}
+use Rattle.drm_core.specs.declared.event.Event.TheVariants as event
 use Rattle.drm_job.specs.declared.Draft.{Draft}
-use Rattle.drm_script.specs.declared.kept.Kept.{Kept}
 use Rattle.drm_text.specs.Cut.{Words}
 use Rattle.drm_text.specs.Reading.{Gives}
 use Rattle.drm_text.specs.declared.fault.ReadError.{ReadError}
 use Rattle.drm_text.specs.declared.fault.ReadError.TheVariants as errors
 use Rattle.drm_script.specs.Commands.{with_job_at}
 use Rattle.drm_parse.specs.Job.{job_at}
-use Rattle.drm_script.specs.Kept.{AreMatched, brings_job, event_of, event_with, joined, next_joined}
+use Rattle.drm_script.specs.Kept.{AreMatched, Kept, brings_job, event_of, event_with, joined, next_joined}
 
 abbrev jobs_of : Kept → ℕ
 jobs_of kept = cond (brings_job kept) 1 0
@@ -28,33 +29,25 @@ counted_last k ks =
 -- ---- at the end
 
 -- what comes of an event and those behind it, where more comes of those behind it
-more_behind : (k : Kept) (found : Option Event) (longer rest : List Draft → List Event) (js added : List Draft) (tail : List Event) (n : ℕ) → cond (is_none found) 1 0 + n ≡ length js
+more_behind : (k : Kept) (brings : Bool) (longer rest : List Draft → List (Event Draft)) (js added : List Draft) (tail : List (Event Draft)) (n : ℕ) → cond brings 1 0 + n ≡ length js
     → ((left : List Draft) → n ≡ length left → longer (left ++ added) ≡ rest left ++ tail)
-    → next_joined found k longer (js ++ added) ≡ next_joined found k rest js ++ tail
-more_behind k (Some event) longer rest js added tail n matched each = ap (λ (es : List Event). event ∷ es) (each js (omega (arith, matched)))
-more_behind k None longer rest [] added tail n matched each = absurd (omega (arith, matched))
-more_behind k None longer rest (j ∷ js) added tail n matched each = ap (λ (es : List Event). event_with k j ∷ es) (each js (omega (arith, matched)))
+    → next_joined brings k longer (js ++ added) ≡ next_joined brings k rest js ++ tail
+more_behind k false longer rest js added tail n matched each = ap (λ (es : List (Event Draft)). event_of k ∷ es) (each js (omega (arith, matched)))
+more_behind k true longer rest [] added tail n matched each = absurd (omega (arith, matched))
+more_behind k true longer rest (j ∷ js) added tail n matched each = ap (λ (es : List (Event Draft)). event_with k j ∷ es) (each js (omega (arith, matched)))
 
-joined_behind : (k : Kept) (added : List Draft) (tail : List Event) → joined (k ∷ []) added ≡ tail → (ks : List Kept) (js : List Draft) → AreMatched ks js
+joined_behind : (k : Kept) (added : List Draft) (tail : List (Event Draft)) → joined (k ∷ []) added ≡ tail → (ks : List Kept) (js : List Draft) → AreMatched ks js
     → joined (ks ++ k ∷ []) (js ++ added) ≡ joined ks js ++ tail
 joined_behind k added tail last [] [] matched = last
 joined_behind k added tail last [] (j ∷ js) matched = absurd (omega (arith, matched))
 joined_behind k added tail last (h ∷ ks) js matched =
-    more_behind h (event_of h) (joined (ks ++ k ∷ [])) (joined ks) js added tail (count_by brings_job ks) (sym (counted_first h ks) ∙ matched)
+    more_behind h (brings_job h) (joined (ks ++ k ∷ [])) (joined ks) js added tail (count_by brings_job ks) (sym (counted_first h ks) ∙ matched)
     (λ left same. joined_behind k added tail last ks left same)
 
-alone : (k : Kept) (found : Option Event) → is_none found ≡ false → next_joined found k (joined []) [] ≡ option_to_list found
-alone k (Some event) is = refl
-alone k None is = absurd (true≢false is)
-
-with_its_job : (k : Kept) (found : Option Event) (j : Draft) → is_none found ≡ true → next_joined found k (joined []) (j ∷ []) ≡ event_with k j ∷ []
-with_its_job k (Some event) j is = absurd (true≢false (sym is))
-with_its_job k None j is = refl
-
 -- an event that brings no job comes behind the others
-pub joined_alone : (k : Kept) (ks : List Kept) (js : List Draft) → brings_job k ≡ false → AreMatched ks js → joined (ks ++ k ∷ []) js ≡ joined ks js ++ option_to_list (event_of k)
+pub joined_alone : (k : Kept) (ks : List Kept) (js : List Draft) → brings_job k ≡ false → AreMatched ks js → joined (ks ++ k ∷ []) js ≡ joined ks js ++ event_of k ∷ []
 joined_alone k ks js is matched =
-    ap (joined (ks ++ k ∷ [])) (sym (append-nil js)) ∙ joined_behind k [] (option_to_list (event_of k)) (alone k (event_of k) is) ks js matched
+    ap (joined (ks ++ k ∷ [])) (sym (append-nil js)) ∙ joined_behind k [] (event_of k ∷ []) (ap (λ b. next_joined b k (joined []) []) is) ks js matched
 
 pub matched_alone : (k : Kept) (ks : List Kept) (js : List Draft) → brings_job k ≡ false → AreMatched ks js → AreMatched (ks ++ k ∷ []) js
 matched_alone k ks js is matched =
@@ -63,7 +56,7 @@ matched_alone k ks js is matched =
 
 -- and so does one that brings a job, with this behind the other jobs
 pub joined_with : (k : Kept) (j : Draft) (ks : List Kept) (js : List Draft) → brings_job k ≡ true → AreMatched ks js → joined (ks ++ k ∷ []) (js ++ j ∷ []) ≡ joined ks js ++ event_with k j ∷ []
-joined_with k j ks js is matched = joined_behind k (j ∷ []) (event_with k j ∷ []) (with_its_job k (event_of k) j is) ks js matched
+joined_with k j ks js is matched = joined_behind k (j ∷ []) (event_with k j ∷ []) (ap (λ b. next_joined b k (joined []) (j ∷ [])) is) ks js matched
 
 pub matched_with : (k : Kept) (j : Draft) (ks : List Kept) (js : List Draft) → brings_job k ≡ true → AreMatched ks js → AreMatched (ks ++ k ∷ []) (js ++ j ∷ [])
 matched_with k j ks js is matched =
@@ -90,17 +83,38 @@ rest_with k ks js left j is same matched =
     let longer : length js ≡ length (j ∷ left) = ap (λ (l : List Draft). length l) same in
     omega (arith, counted_first k ks, one, matched, longer)
 
+-- ---- one that brings no job
+
+-- it is neither a submission nor a plan
+pub brings_none : (k : Kept) → ((job : Unit {0}) → k ≡ event.Submit job → ⊥) → ((ctx : ℕ) (job : Unit {0}) → k ≡ event.Plan ctx job → ⊥) → brings_job k ≡ false
+brings_none (event.Submit job) no_submission no_plan = absurd (no_submission job refl)
+brings_none (event.Plan ctx job) no_submission no_plan = absurd (no_plan ctx job refl)
+brings_none other no_submission no_plan = refl
+
+-- nothing is asked of its job, and what holds where there is no job holds of it
+pub none_asked : (o : Option (Unit {0})) (P : Unit {0} → Type 0) → is_some o ≡ false → ForSome o P
+none_asked None P none = λ job is. absurd (cc (is))
+none_asked (Some job) P none = absurd (true≢false none)
+
+pub at_none : (o : Option (Unit {0})) (A : Type 0) (B : Unit {0} → Type 0) → is_some o ≡ false → MatchOption o A B → A
+at_none None A B none holds = holds
+at_none (Some job) A B none holds = absurd (true≢false none)
+
+-- it comes before the others
+pub first_alone : (k : Kept) (ks : List Kept) (js : List Draft) (e : Event Draft) → brings_job k ≡ false → e ≡ event_of k → joined (k ∷ ks) js ≡ e ∷ joined ks js
+first_alone k ks js e none is = ap (λ b. next_joined b k (joined ks) js) none ∙ ap (λ (first : Event Draft). first ∷ joined ks js) (sym is)
+
 -- ---- one that is read
 
 -- an event with the job that is read behind its line comes behind the others, and a fault is that of the job
-pub joined_read : (k : Kept) (ks : List Kept) (js : List Draft) (events : List Event) (j : Draft) (r : Result (Unit {0}) ReadError) (words : Words) → brings_job k ≡ true → AreMatched ks js → joined ks js ≡ events
+pub joined_read : (k : Kept) (ks : List Kept) (js : List Draft) (events : List (Event Draft)) (j : Draft) (r : Result (Unit {0}) ReadError) (words : Words) → brings_job k ≡ true → AreMatched ks js → joined ks js ≡ events
     → Gives (λ _. j) r (job_at words) → Gives (λ _. joined (ks ++ k ∷ []) (js ++ j ∷ [])) r (with_job_at events (event_with k) words)
 joined_read k ks js events j (Ok done) words is matched same read =
     rw read (ap Ok (ap (λ es. es ++ event_with k j ∷ []) (sym same) ∙ sym (joined_with k j ks js is matched)))
 joined_read k ks js events j (Err errors.Memory) words is matched same read = tt
 joined_read k ks js events j (Err (errors.Fault f)) words is matched same read = rw read refl
 
-pub added_read : (k : Kept) (ks : List Kept) (js : List Draft) (events : List Event) (j : Draft) (r : Result (Unit {0}) ReadError) → brings_job k ≡ true → AreMatched ks js → joined ks js ≡ events
+pub added_read : (k : Kept) (ks : List Kept) (js : List Draft) (events : List (Event Draft)) (j : Draft) (r : Result (Unit {0}) ReadError) → brings_job k ≡ true → AreMatched ks js → joined ks js ≡ events
     → OnOk r ((job : Draft) × (joined (ks ++ k ∷ []) (js ++ j ∷ []) ≡ events ++ event_with k job ∷ []))
 added_read k ks js events j (Ok done) is matched same = (j, joined_with k j ks js is matched ∙ ap (λ es. es ++ event_with k j ∷ []) same)
 added_read k ks js events j (Err e) is matched same = tt

@@ -4,6 +4,7 @@ use Rattle.std.specs.Prelude.{nat_lt, IfOk}
 use Rattle.std.proofs.lemmas.Bool.{ltb-false, le-ltb}
 use Rattle.drm_core.specs.declared.event.Event.{Event}
 use Rattle.drm_types.specs.declared.spec.DeviceSpec.{DeviceSpec}
+use Rattle.drm_job.specs.declared.Draft.{Draft}
 use Rattle.drm_text.specs.Cut.{Left}
 use Rattle.drm_text.specs.declared.fault.Fault.{Fault}
 use Rattle.drm_text.specs.declared.fault.Fault.TheVariants.{Text}
@@ -23,13 +24,13 @@ use Rattle.drm_script.proofs.CommandReaders.{Commands, events_take, events_in, e
 use Rattle.drm_parse.proofs.HeaderReaders.{as_bytes, left_in, header_takes, header_again}
 use Rattle.drm_parse.proofs.JobReaders.{in_time}
 
-commands_graphic : (spec : DeviceSpec) (events : List Event) → Commands spec events → AreLines (map command_words events)
+commands_graphic : (spec : DeviceSpec) (events : List (Event Draft)) → Commands spec events → AreLines (map command_words events)
 commands_graphic spec [] fit = tt
 commands_graphic spec (x ∷ events) fit = (command_graphic spec x fit.0, commands_graphic spec events fit.1)
 
 -- ---- scripts
 
-abbrev the_script : DeviceSpec → List Event → Script
+abbrev the_script : DeviceSpec → List (Event Draft) → Script
 the_script spec events = record { spec = spec; lines = events }
 
 -- a text that is read as a script spells it
@@ -62,7 +63,7 @@ script_again text script spells =
     ap (λ (b : Bool). cond b (Err (Text 0 0 what.TooLong)) (script_of (lines_of text))) short
     ∙ ap script_of lines
     ∙ ap (λ (r : Result (DeviceSpec × Left) Fault). r >>= λ h. events_of h.0 [] h.1.line h.1.bytes h.1.more >>= λ events. Ok (the_script h.0 events)) h.1
-    ∙ ap (λ (r : Result (List Event) Fault). r >>= λ es. Ok (the_script script.spec es)) events
+    ∙ ap (λ (r : Result (List (Event Draft)) Fault). r >>= λ es. Ok (the_script script.spec es)) events
 
 pub script_found : (text : List ℕ) (result : Result Script ReadError) → Gives (λ s. s) result (judge_script text) → IfOk result (λ s. SpellsScript text s)
 script_found text (Ok script) gives = script_takes text script gives

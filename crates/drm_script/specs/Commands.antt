@@ -29,10 +29,10 @@ ring_and_moment_at spec words = do
   now ← last_number_at (2 ^ 64 - 1) ring.1
   Ok (ring.0, now)
 
-abbrev pub submit_at : Words → Result Event Fault
+abbrev pub submit_at : Words → Result (Event Draft) Fault
 submit_at words = job_at words >>= λ draft. Ok (event.Submit draft)
 
-abbrev pub plan_at : Words → Result Event Fault
+abbrev pub plan_at : Words → Result (Event Draft) Fault
 plan_at words =
     name_at 64 words >>= λ ctx.
     job_at ctx.1 >>= λ draft.
@@ -50,7 +50,7 @@ names_context command.Read = true
 names_context other = false
 
 -- the event that the words behind a command's name spell
-unfoldable pub event_at : DeviceSpec → Command → Words → Result Event Fault
+unfoldable pub event_at : DeviceSpec → Command → Words → Result (Event Draft) Fault
 event_at spec command.Submit words = submit_at words
 event_at spec command.Begin words = last_name_at 64 words >>= λ ctx. Ok (event.Begin ctx)
 event_at spec command.Try words = context_and_buffer_at spec words >>= λ names. Ok (event.Try names.0 names.1)
@@ -82,22 +82,22 @@ command_of line.Final = None
 command_of (line.Command c) = Some c
 
 -- the event of a line
-unfoldable pub event_line : DeviceSpec → ℕ → List ℕ → Result Event Fault
+unfoldable pub event_line : DeviceSpec → ℕ → List ℕ → Result (Event Draft) Fault
 event_line spec line bytes =
     start_at line bytes >>= λ start.
     or_fault (command_of start.0) (out_of_order line) >>= λ command.
     event_at spec command start.1
 
 -- these events, and behind them the one that is read, or its fault
-abbrev pub with_event : List Event → Result Event Fault → Result (List Event) Fault
+abbrev pub with_event : List (Event Draft) → Result (Event Draft) Fault → Result (List (Event Draft)) Fault
 with_event events read = read >>= λ event. Ok (events ++ event ∷ [])
 
 -- these events, and behind them the one that brings the job which the words spell, or its fault
-abbrev pub with_job_at : List Event → (Draft → Event) → Words → Result (List Event) Fault
+abbrev pub with_job_at : List (Event Draft) → (Draft → Event Draft) → Words → Result (List (Event Draft)) Fault
 with_job_at events bring words = with_event events (job_at words >>= λ job. Ok (bring job))
 
 -- these events, and those of the lines up to the end of the text
-unfoldable pub events_of : DeviceSpec → List Event → ℕ → List ℕ → List (List ℕ) → Result (List Event) Fault
+unfoldable pub events_of : DeviceSpec → List (Event Draft) → ℕ → List ℕ → List (List ℕ) → Result (List (Event Draft)) Fault
 events_of spec events line bytes [] = last_line line bytes >>= λ _. Ok events
 events_of spec events line bytes (next ∷ rest) =
     event_line spec line bytes >>= λ event. events_of spec (events ++ event ∷ []) (line + 1) next rest

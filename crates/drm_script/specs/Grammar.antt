@@ -5,6 +5,7 @@ use Rattle.std.specs.Fmt.{decimal}
 use Rattle.drm_core.specs.declared.event.Event.{Event}
 use Rattle.drm_core.specs.declared.event.Event.TheVariants as event
 use Rattle.drm_types.specs.declared.spec.DeviceSpec.{DeviceSpec}
+use Rattle.drm_job.specs.declared.Draft.{Draft}
 use Rattle.drm_text.specs.Grammar.{IsName, text_of_lines}
 use Rattle.drm_script.specs.declared.script.Script.{Script}
 use Rattle.drm_parse.specs.Grammar.{IsNumber, Line, job_words, JobFits, SpellsHeader}
@@ -13,7 +14,7 @@ abbrev pub IsMoment : ℕ → Type 0
 IsMoment now = now ≤ 2 ^ 64 - 1
 
 -- the words of a command line
-abbrev pub command_words : Event → List (List ℕ)
+abbrev pub command_words : Event Draft → List (List ℕ)
 command_words (event.Submit job) = codes "submit" ∷ job_words job
 command_words (event.Begin ctx) = codes "begin" ∷ decimal ctx ∷ []
 command_words (event.Try ctx buffer) = codes "try" ∷ decimal ctx ∷ decimal buffer ∷ []
@@ -33,7 +34,7 @@ command_words (event.Status fence) = codes "fence" ∷ decimal fence ∷ []
 command_words (event.Dump buffer) = codes "dump" ∷ decimal buffer ∷ []
 
 -- what a command names is there, and its numbers are in their ranges
-abbrev pub CommandFits : DeviceSpec → Event → Type 0
+abbrev pub CommandFits : DeviceSpec → Event Draft → Type 0
 CommandFits spec (event.Submit job) = JobFits job
 CommandFits spec (event.Begin ctx) = IsName 64 ctx
 CommandFits spec (event.Try ctx buffer) = IsName 64 ctx × IsName (length spec.buffers) buffer

@@ -1,15 +1,14 @@
 //! Some of the events of a script, one behind the other, and those that are left of them.
 
-ghost use Rattle.std.specs.Prelude.{◌≡◌, [], ◌∷◌, ◌++◌, true, false, length, IfSome, IfNone, IfOk, OnOk, OnErr, OnSome};
-ghost use Rattle.std.specs.Option.{option_to_list};
+ghost use Rattle.std.specs.Prelude.{◌≡◌, ◌<◌, [], ◌∷◌, ◌++◌, List, true, false, length, IfSome, IfNone, IfOk, OnOk, OnErr, OnSome};
+ghost use Rattle.std.specs.Vec.Iter.{into_iter_items};
 ghost use Rattle.drm_job.specs.declared.Draft.{Draft as DraftValue};
 ghost use Rattle.drm_text.specs.Reading.{Gives};
 ghost use Rattle.drm_core.specs.Lawful.{IsLawful};
 ghost use Rattle.drm_core.specs.Run.{AllNamesExist};
 ghost use Rattle.drm_script.specs.Commands.{with_job_at};
-ghost use Rattle.drm_script.specs.Kept.{AnswersFirst, brings_job, event_of, event_with};
+ghost use Rattle.drm_script.specs.Kept.{AnswersFirst, AreMatched, Kept, brings_job, event_of, event_with, joined};
 
-use crate::kept::{Kept, next_job};
 use drm_core::{Answer, Core, Event};
 use drm_job::Draft;
 use drm_parse::push_job;
@@ -25,20 +24,63 @@ const JOBS: usize = 2_048;
 /// How many events the jobs of a full chunk have at least, where each is submitted, picked, run and finished.
 const EVENTS: usize = 4 * JOBS;
 
-/// Events in their order. Contracts see them as a list; in memory each takes no more than it needs, and the jobs that they
-/// bring stand beside, in their order.
+// The next of these jobs.
+#[inline]
+fn next_job(jobs: &mut IntoIter<Draft>) -> Draft
+    requires { 0 < length (into_iter_items jobs.old) }
+    ensures { into_iter_items jobs.old ≡ result ∷ into_iter_items jobs.new }
+{
+    let Some(job) = jobs.next() else {
+        unreachable!()
+    };
+    job
+}
+
+// The event that is kept so, which brings no job.
+#[inline(always)]
+fn bare_event(kept: Event<()>) -> Event<Draft>
+    requires { brings_job kept ≡ false }
+    ensures event { (rest : List Kept) (jobs : List DraftValue) → joined (kept ∷ rest) jobs ≡ result ∷ joined rest jobs }
+    ensures matched { (rest : List Kept) (jobs : List DraftValue) → AreMatched (kept ∷ rest) jobs → AreMatched rest jobs }
+{
+    kept.map_job(|_| unreachable!())
+}
+
+// The event that is kept so, with the next of these jobs if it brings one.
+#[inline]
+#[tactic(auto, using(crate::proofs::Joined::rest_with))]
+fn next_event(kept: Event<()>, jobs: &mut IntoIter<Draft>) -> Event<Draft>
+    requires job { brings_job kept ≡ true → 0 < length (into_iter_items jobs.old) }
+    ensures event { (rest : List Kept) → joined (kept ∷ rest) (into_iter_items jobs.old) ≡ result ∷ joined rest (into_iter_items jobs.new) }
+    ensures matched { (rest : List Kept) → AreMatched (kept ∷ rest) (into_iter_items jobs.old) → AreMatched rest (into_iter_items jobs.new) }
+{
+    match kept {
+        Event::Submit { .. } => Event::Submit {
+            job: next_job(jobs),
+        },
+        Event::Plan { ctx, .. } => Event::Plan {
+            ctx,
+            job: next_job(jobs),
+        },
+        _ => bare_event(kept),
+    }
+}
+
+/// Events in their order. Contracts see them as a list. One that brings a job is kept without it, since a job takes five
+/// times the memory of all other events: the jobs stand beside, in their order.
 #[derive(Drop)]
 pub struct Chunk {
-    kept: Vec<Kept>,
+    kept: Vec<Event<()>>,
     jobs: Vec<Draft>,
 }
 
 impl Model for Chunk {
     ghost use Rattle.std.specs.Prelude.{List};
+    ghost use Rattle.drm_job.specs.declared.Draft.{Draft as DraftValue};
     ghost use Rattle.drm_core.specs.declared.event.Event.{Event as Happening};
     ghost use Rattle.drm_script.specs.Kept.{AreMatched, joined};
 
-    ghost Value = { List Happening };
+    ghost Value = { List (Happening DraftValue) };
 
     ghost view = { λ chunk. joined chunk.kept.items chunk.jobs.items };
 
@@ -74,9 +116,9 @@ impl Chunk {
     /// Adds an event that brings no job at the end. A refusal of memory leaves the list as it was.
     #[inline]
     #[tactic(auto, using(crate::proofs::Joined::joined_alone, crate::proofs::Joined::matched_alone))]
-    pub(crate) fn push(&mut self, kept: Kept) -> Result<(), AllocError>
+    pub(crate) fn push(&mut self, kept: Event<()>) -> Result<(), AllocError>
         requires { brings_job kept ≡ false }
-        ensures ok { OnOk result (self.new ≡ self.old ++ option_to_list (event_of kept)) }
+        ensures ok { OnOk result (self.new ≡ self.old ++ event_of kept ∷ []) }
         ensures err { OnErr result (self.new ≡ self.old) }
     {
         self.kept.push(kept)?;
@@ -89,7 +131,7 @@ impl Chunk {
     pub(crate) fn push_read(
         &mut self,
         alloc: Global,
-        kept: Kept,
+        kept: Event<()>,
         words: &mut Words,
     ) -> Result<(), ReadError>
         requires { brings_job kept ≡ true }
@@ -117,17 +159,18 @@ impl Chunk {
 /// The events that are left of a chunk.
 #[derive(Drop)]
 pub struct ChunkLeft {
-    rest: IntoIter<Kept>,
+    rest: IntoIter<Event<()>>,
     jobs: IntoIter<Draft>,
 }
 
 impl Model for ChunkLeft {
     ghost use Rattle.std.specs.Prelude.{List};
     ghost use Rattle.std.specs.Vec.Iter.{into_iter_items};
+    ghost use Rattle.drm_job.specs.declared.Draft.{Draft as DraftValue};
     ghost use Rattle.drm_core.specs.declared.event.Event.{Event as Happening};
     ghost use Rattle.drm_script.specs.Kept.{AreMatched, joined};
 
-    ghost Value = { List Happening };
+    ghost Value = { List (Happening DraftValue) };
 
     ghost view = { λ left. joined (into_iter_items left.rest) (into_iter_items left.jobs) };
 
@@ -138,16 +181,16 @@ impl ChunkLeft {
     /// The next event, if one is left.
     #[inline]
     #[tactic(auto, using(crate::proofs::Joined::has_job))]
-    pub fn next(&mut self) -> Option<Event>
+    pub fn next(&mut self) -> Option<Event<Draft>>
         ensures some { IfSome result (λ event. self.old ≡ event ∷ self.new) }
         ensures none { IfNone result (self.old ≡ []) }
     {
         let kept = self.rest.next()?;
-        Some(kept.into_event(&mut self.jobs))
+        Some(next_event(kept, &mut self.jobs))
     }
 
-    /// Has the next event happen to the core, if one is left, and gives the answer. Each arm hands over an event of its own, so
-    /// that none is put together for the core to take it apart again.
+    /// Has the next event happen to the core, if one is left, and gives the answer. A job goes from the list into the
+    /// core, and no event without one has room for it.
     #[inline(always)]
     pub fn apply_next(&mut self, alloc: Global, core: &mut Core) -> Option<Answer>
         requires names { AllNamesExist core.old.device.spec self.old }
@@ -159,29 +202,15 @@ impl ChunkLeft {
     {
         let kept = self.rest.next()?;
         let answer = match kept {
-            Kept::Submit => {
-                let draft = next_job(&mut self.jobs);
-                core.apply(alloc, Event::Submit { draft })
+            Event::Submit { .. } => {
+                let job = next_job(&mut self.jobs);
+                core.apply(alloc, Event::Submit { job })
             }
-            Kept::Plan { ctx } => {
-                let draft = next_job(&mut self.jobs);
-                core.apply(alloc, Event::Plan { ctx, draft })
+            Event::Plan { ctx, .. } => {
+                let job = next_job(&mut self.jobs);
+                core.apply(alloc, Event::Plan { ctx, job })
             }
-            Kept::Begin { ctx } => core.apply(alloc, Event::Begin { ctx }),
-            Kept::Try { ctx, buffer } => core.apply(alloc, Event::Try { ctx, buffer }),
-            Kept::Done { ctx } => core.apply(alloc, Event::Done { ctx }),
-            Kept::Drop { ctx, buffer } => core.apply(alloc, Event::Drop { ctx, buffer }),
-            Kept::End { ctx } => core.apply(alloc, Event::End { ctx }),
-            Kept::Arm { ctx } => core.apply(alloc, Event::Arm { ctx }),
-            Kept::Pick { ring, now } => core.apply(alloc, Event::Pick { ring, now }),
-            Kept::Step { ring } => core.apply(alloc, Event::Step { ring }),
-            Kept::Finish { ring, now } => core.apply(alloc, Event::Finish { ring, now }),
-            Kept::Timeout { ring, now } => core.apply(alloc, Event::Timeout { ring, now }),
-            Kept::Cancel { entity } => core.apply(alloc, Event::Cancel { entity }),
-            Kept::Reap { entity } => core.apply(alloc, Event::Reap { entity }),
-            Kept::Read { ctx, buffer } => core.apply(alloc, Event::Read { ctx, buffer }),
-            Kept::Status { fence } => core.apply(alloc, Event::Status { fence }),
-            Kept::Dump { buffer } => core.apply(alloc, Event::Dump { buffer }),
+            _ => core.apply(alloc, bare_event(kept)),
         };
         Some(answer)
     }

@@ -9,8 +9,7 @@ ghost use Rattle.drm_core.specs.Run.{AllNamesExist};
 ghost use Rattle.drm_script.specs.Commands.{with_event, with_job_at, context_and_buffer_at, ring_and_moment_at, names_context, command_of, event_at, event_line};
 
 use crate::events::Events;
-use crate::kept::Kept;
-use drm_core::CONTEXTS;
+use drm_core::{CONTEXTS, Event};
 use drm_text::{Command, Fault, Keyword, Line, ReadError, Words, order_fault};
 use drm_types::{BufferId, CtxId, DeviceSpec, Moment, RingId};
 use std::alloc::Global;
@@ -44,7 +43,7 @@ fn read_pick(spec: &DeviceSpec, words: &mut Words, events: &mut Events) -> Resul
     ensures exist { OnOk result (AllNamesExist spec.now events.new) }
 {
     let (ring, now) = read_ring_and_moment(spec, words)?;
-    Ok(events.push(Kept::Pick { ring, now })?)
+    Ok(events.push(Event::Pick { ring, now })?)
 }
 
 /// Reads the event of a `step`, and adds it to those before it.
@@ -55,7 +54,7 @@ fn read_step(spec: &DeviceSpec, words: &mut Words, events: &mut Events) -> Resul
     ensures exist { OnOk result (AllNamesExist spec.now events.new) }
 {
     let ring = words.last_name(spec.rings.len())?;
-    Ok(events.push(Kept::Step { ring })?)
+    Ok(events.push(Event::Step { ring })?)
 }
 
 /// Reads the event of a `finish`, and adds it to those before it.
@@ -66,7 +65,7 @@ fn read_finish(spec: &DeviceSpec, words: &mut Words, events: &mut Events) -> Res
     ensures exist { OnOk result (AllNamesExist spec.now events.new) }
 {
     let (ring, now) = read_ring_and_moment(spec, words)?;
-    Ok(events.push(Kept::Finish { ring, now })?)
+    Ok(events.push(Event::Finish { ring, now })?)
 }
 
 /// Reads the event of a `timeout`, and adds it to those before it.
@@ -77,7 +76,7 @@ fn read_timeout(spec: &DeviceSpec, words: &mut Words, events: &mut Events) -> Re
     ensures exist { OnOk result (AllNamesExist spec.now events.new) }
 {
     let (ring, now) = read_ring_and_moment(spec, words)?;
-    Ok(events.push(Kept::Timeout { ring, now })?)
+    Ok(events.push(Event::Timeout { ring, now })?)
 }
 
 /// Reads the event of a command that names a context, and no job, and adds it to those before it.
@@ -96,31 +95,31 @@ fn read_context_event(
     match command {
         Command::Begin => {
             let ctx = words.last_name(CONTEXTS)?;
-            Ok(events.push(Kept::Begin { ctx })?)
+            Ok(events.push(Event::Begin { ctx })?)
         }
         Command::Try => {
             let (ctx, buffer) = read_context_and_buffer(spec, words)?;
-            Ok(events.push(Kept::Try { ctx, buffer })?)
+            Ok(events.push(Event::Try { ctx, buffer })?)
         }
         Command::Done => {
             let ctx = words.last_name(CONTEXTS)?;
-            Ok(events.push(Kept::Done { ctx })?)
+            Ok(events.push(Event::Done { ctx })?)
         }
         Command::Drop => {
             let (ctx, buffer) = read_context_and_buffer(spec, words)?;
-            Ok(events.push(Kept::Drop { ctx, buffer })?)
+            Ok(events.push(Event::Drop { ctx, buffer })?)
         }
         Command::End => {
             let ctx = words.last_name(CONTEXTS)?;
-            Ok(events.push(Kept::End { ctx })?)
+            Ok(events.push(Event::End { ctx })?)
         }
         Command::Arm => {
             let ctx = words.last_name(CONTEXTS)?;
-            Ok(events.push(Kept::Arm { ctx })?)
+            Ok(events.push(Event::Arm { ctx })?)
         }
         Command::Read => {
             let (ctx, buffer) = read_context_and_buffer(spec, words)?;
-            Ok(events.push(Kept::Read { ctx, buffer })?)
+            Ok(events.push(Event::Read { ctx, buffer })?)
         }
         _ => unreachable!(),
     }
@@ -131,7 +130,7 @@ fn read_context_event(
 #[inline(never)]
 fn read_with_job(
     alloc: Global,
-    kept: Kept,
+    kept: Event<()>,
     words: &mut Words,
     events: &mut Events,
 ) -> Result<(), ReadError>
@@ -156,10 +155,10 @@ fn read_event(
     ensures exist { OnOk result (AllNamesExist spec.now events.new) }
 {
     match command {
-        Command::Submit => read_with_job(alloc, Kept::Submit, words, events),
+        Command::Submit => read_with_job(alloc, Event::Submit { job: () }, words, events),
         Command::Plan => {
             let ctx = words.name(CONTEXTS)?;
-            read_with_job(alloc, Kept::Plan { ctx }, words, events)
+            read_with_job(alloc, Event::Plan { ctx, job: () }, words, events)
         }
         Command::Pick => read_pick(spec, words, events),
         Command::Step => read_step(spec, words, events),
@@ -167,19 +166,19 @@ fn read_event(
         Command::Timeout => read_timeout(spec, words, events),
         Command::Cancel => {
             let entity = words.last_name(spec.entities.len())?;
-            Ok(events.push(Kept::Cancel { entity })?)
+            Ok(events.push(Event::Cancel { entity })?)
         }
         Command::Reap => {
             let entity = words.last_name(spec.entities.len())?;
-            Ok(events.push(Kept::Reap { entity })?)
+            Ok(events.push(Event::Reap { entity })?)
         }
         Command::Fence => {
             let fence = words.last_number(u64::from(u32::MAX))? as u32;
-            Ok(events.push(Kept::Status { fence })?)
+            Ok(events.push(Event::Status { fence })?)
         }
         Command::Dump => {
             let buffer = BufferId::new(words.last_name(spec.buffers.len())?);
-            Ok(events.push(Kept::Dump { buffer })?)
+            Ok(events.push(Event::Dump { buffer })?)
         }
         _ => read_context_event(spec, command, words, events),
     }

@@ -1,7 +1,6 @@
 //! The events of a script, in chunks: a list that takes little memory, and gives it back as they happen.
 
 ghost use Rattle.std.specs.Prelude.{◌≡◌, [], ◌∷◌, ◌++◌, true, false, IfSome, IfNone, OnOk, OnErr};
-ghost use Rattle.std.specs.Option.{option_to_list};
 ghost use Rattle.drm_job.specs.declared.Draft.{Draft as DraftValue};
 ghost use Rattle.drm_text.specs.Reading.{Gives};
 ghost use Rattle.drm_script.specs.Chunks.{all_of};
@@ -9,8 +8,8 @@ ghost use Rattle.drm_script.specs.Commands.{with_job_at};
 ghost use Rattle.drm_script.specs.Kept.{brings_job, event_of, event_with};
 
 use crate::chunk::{Chunk, ChunkLeft};
-use crate::kept::Kept;
 use drm_core::Event;
+use drm_job::Draft;
 use drm_text::{ReadError, Words};
 use std::alloc::{AllocError, Global};
 use std::marker::Model;
@@ -26,10 +25,11 @@ pub struct Events {
 
 impl Model for Events {
     ghost use Rattle.std.specs.Prelude.{List, ◌++◌};
+    ghost use Rattle.drm_job.specs.declared.Draft.{Draft as DraftValue};
     ghost use Rattle.drm_core.specs.declared.event.Event.{Event as Happening};
     ghost use Rattle.drm_script.specs.Chunks.{all_of};
 
-    ghost Value = { List Happening };
+    ghost Value = { List (Happening DraftValue) };
 
     ghost view = { λ events. all_of events.full.items ++ events.last };
 }
@@ -47,9 +47,9 @@ impl Events {
 
     /// Adds an event that brings no job at the end. A refusal of memory leaves the list as it was.
     #[inline]
-    pub(crate) fn push(&mut self, kept: Kept) -> Result<(), AllocError>
+    pub(crate) fn push(&mut self, kept: Event<()>) -> Result<(), AllocError>
         requires { brings_job kept ≡ false }
-        ensures ok { OnOk result (self.new ≡ self.old ++ option_to_list (event_of kept)) }
+        ensures ok { OnOk result (self.new ≡ self.old ++ event_of kept ∷ []) }
         ensures err { OnErr result (self.new ≡ self.old) }
     {
         self.last.push(kept)
@@ -72,7 +72,7 @@ impl Events {
     pub(crate) fn push_read(
         &mut self,
         alloc: Global,
-        kept: Kept,
+        kept: Event<()>,
         words: &mut Words,
     ) -> Result<(), ReadError>
         requires { brings_job kept ≡ true }
@@ -118,9 +118,10 @@ impl Model for Chunks {
     ghost use Rattle.std.specs.Prelude.{List, ◌++◌};
     ghost use Rattle.std.specs.Option.{option_to_list};
     ghost use Rattle.std.specs.Vec.Iter.{into_iter_items};
+    ghost use Rattle.drm_job.specs.declared.Draft.{Draft as DraftValue};
     ghost use Rattle.drm_core.specs.declared.event.Event.{Event as Happening};
 
-    ghost Value = { List (List Happening) };
+    ghost Value = { List (List (Happening DraftValue)) };
 
     ghost view = { λ chunks. into_iter_items chunks.full ++ option_to_list chunks.last };
 }
@@ -148,17 +149,18 @@ pub struct EventsLeft {
 impl Model for EventsLeft {
     ghost use Rattle.std.specs.Prelude.{List, ◌++◌};
     ghost use Rattle.std.specs.Option.{option_to_list};
+    ghost use Rattle.drm_job.specs.declared.Draft.{Draft as DraftValue};
     ghost use Rattle.drm_core.specs.declared.event.Event.{Event as Happening};
     ghost use Rattle.drm_script.specs.Chunks.{all_of};
 
-    ghost Value = { List Happening };
+    ghost Value = { List (Happening DraftValue) };
 
     ghost view = { λ left. all_of (option_to_list left.first ++ left.chunks) };
 }
 
 impl EventsLeft {
     /// The next event, if one is left.
-    pub fn next(&mut self) -> Option<Event>
+    pub fn next(&mut self) -> Option<Event<Draft>>
         ensures some { IfSome result (λ event. self.old ≡ event ∷ self.new) }
         ensures none { IfNone result (self.old ≡ []) }
     {

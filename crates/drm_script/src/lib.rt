@@ -9,7 +9,6 @@
 mod chunk;
 mod command;
 mod events;
-mod kept;
 mod laws;
 mod run_script;
 mod script;
