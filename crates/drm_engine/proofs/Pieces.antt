@@ -6,6 +6,7 @@ use Rattle.std.proofs.KnownBytes.{Appends-nil, Appends-trans}
 use Rattle.std.proofs.Math.Seq.{take-append-add}
 use Rattle.std.proofs.lemmas.List.{length-append, take-append-le}
 use Rattle.drm_types.specs.declared.spec.DeviceSpec.{DeviceSpec}
+use Rattle.drm_job.specs.declared.Draft.{Draft}
 use Rattle.drm_state.specs.declared.answer.Answer.{Answer}
 use Rattle.drm_core.specs.declared.event.Event.{Event}
 use Rattle.drm_core.specs.State.{CoreState, opened}
@@ -24,43 +25,43 @@ use Rattle.drm_engine.specs.declared.ending.Ending.TheVariants as ending
 use Rattle.drm_engine.specs.Replaying.{AppendsPiece, AreAnswers, IsAnswered, IsToldAs, PlaysAs, Replays, ReplaysAs, SpellsScript, Told, ToldFront, ToldSoFar, Written, text_of_lines}
 
 -- whatever run of the rest follows, it makes one of the whole with the answers so far
-abbrev pub GoesOn : CoreState → List Event → List Answer → CoreState → List Event → Type 0
+abbrev pub GoesOn : CoreState → List (Event Draft) → List Answer → CoreState → List (Event Draft) → Type 0
 GoesOn start events so_far now rest = (more : List Answer) (new : CoreState) → Run now rest more new → Run start events (so_far ++ more) new
 
-pub turn : (start now next : CoreState) (events rest : List Event) (so_far : List Answer) (event : Event) (answer : Answer) → Step now event answer next
+pub turn : (start now next : CoreState) (events rest : List (Event Draft)) (so_far : List Answer) (event : Event Draft) (answer : Answer) → Step now event answer next
     → GoesOn start events so_far now (event ∷ rest) → GoesOn start events (so_far ++ answer ∷ []) next rest
 turn start now next events rest so_far event answer step goes_on more new run =
     subst (λ given. Run start events given new) (sym (append_assoc so_far (answer ∷ []) more)) (goes_on (answer ∷ more) new (next, step, run))
 
 -- the same by the first event that is left
-pub turned : (start now next : CoreState) (events rest left : List Event) (so_far : List Answer) (answer : Answer) → AnswersFirst now rest answer next left
+pub turned : (start now next : CoreState) (events rest left : List (Event Draft)) (so_far : List Answer) (answer : Answer) → AnswersFirst now rest answer next left
     → GoesOn start events so_far now rest → GoesOn start events (so_far ++ answer ∷ []) next left
 turned start now next events rest left so_far answer first goes_on =
     turn start now next events left so_far first.0 answer first.2 (subst (GoesOn start events so_far now) first.1 goes_on)
 
 -- a run of some events, and one of those behind them
-run_behind : (start mid new : CoreState) (first rest : List Event) (answers more : List Answer) → Run start first answers mid → Run mid rest more new → Run start (first ++ rest) (answers ++ more) new
+run_behind : (start mid new : CoreState) (first rest : List (Event Draft)) (answers more : List Answer) → Run start first answers mid → Run mid rest more new → Run start (first ++ rest) (answers ++ more) new
 run_behind start mid new [] rest [] more one other = subst (λ (s : CoreState). Run s rest more new) one other
 run_behind start mid new [] rest (answer ∷ answers) more one other = absurd one
 run_behind start mid new (event ∷ first) rest [] more one other = absurd one
 run_behind start mid new (event ∷ first) rest (answer ∷ answers) more one other = (one.0, one.1, run_behind one.0 mid new first rest answers more one.2 other)
 
 -- the same by all events of a chunk
-pub chunk_turned : (start now next : CoreState) (events chunk rest : List Event) (so_far answers : List Answer) → Run now chunk answers next
+pub chunk_turned : (start now next : CoreState) (events chunk rest : List (Event Draft)) (so_far answers : List Answer) → Run now chunk answers next
     → GoesOn start events so_far now (chunk ++ rest) → GoesOn start events (so_far ++ answers) next rest
 chunk_turned start now next events chunk rest so_far answers run goes_on more new behind =
     subst (λ given. Run start events given new) (sym (append_assoc so_far answers more)) (goes_on (answers ++ more) new (run_behind now next new chunk rest answers more run behind))
 
 -- all events of a chunk name what is there, and so do those behind it
-pub names_first : (spec : DeviceSpec) (chunk rest : List Event) → AllNamesExist spec (chunk ++ rest) → AllNamesExist spec chunk
+pub names_first : (spec : DeviceSpec) (chunk rest : List (Event Draft)) → AllNamesExist spec (chunk ++ rest) → AllNamesExist spec chunk
 names_first spec [] rest names = tt
 names_first spec (event ∷ chunk) rest names = (names.0, names_first spec chunk rest names.1)
 
-pub names_behind : (old new : DeviceSpec) (chunk rest : List Event) → new ≡ old → AllNamesExist old (chunk ++ rest) → AllNamesExist new rest
+pub names_behind : (old new : DeviceSpec) (chunk rest : List (Event Draft)) → new ≡ old → AllNamesExist old (chunk ++ rest) → AllNamesExist new rest
 names_behind old new [] rest same names = subst (λ spec. AllNamesExist spec rest) (sym same) names
 names_behind old new (event ∷ chunk) rest same names = names_behind old new chunk rest same names.1
 
-pub run_ends : (start now : CoreState) (events rest : List Event) (so_far : List Answer) → rest ≡ [] → GoesOn start events so_far now rest → Run start events so_far now
+pub run_ends : (start now : CoreState) (events rest : List (Event Draft)) (so_far : List Answer) → rest ≡ [] → GoesOn start events so_far now rest → Run start events so_far now
 run_ends start now events [] so_far none goes_on = subst (λ given. Run start events given now) (append-nil so_far) (goes_on [] now refl)
 run_ends start now events (event ∷ rest) so_far none goes_on = absurd (cc)
 
@@ -105,42 +106,42 @@ told_next a b c (Err e) text more piece left p q = front_next a b c text more pi
 -- ---- lines
 
 -- whatever answers the rest gets, the lines of the whole are those told so far and the lines of the rest
-abbrev pub LinesSoFar : (Event → Answer → List ℕ) → List Event → List Answer → List Event → List ℕ → Type 0
+abbrev pub LinesSoFar : (Event Draft → Answer → List ℕ) → List (Event Draft) → List Answer → List (Event Draft) → List ℕ → Type 0
 LinesSoFar line events so_far rest said = (more : List Answer) → text_of_lines line events (so_far ++ more) ≡ said ++ text_of_lines line rest more
 
 -- what was answered so far, and told of it
-abbrev pub SaidSoFar : {E : Type 0} → (Event → Answer → List ℕ) → SinkState → SinkState → CoreState → CoreState → List Event → List Event → Result (Unit {0}) E → List ℕ → Type 0
+abbrev pub SaidSoFar : {E : Type 0} → (Event Draft → Answer → List ℕ) → SinkState → SinkState → CoreState → CoreState → List (Event Draft) → List (Event Draft) → Result (Unit {0}) E → List ℕ → Type 0
 SaidSoFar line old new start now events rest told piece =
     (given : List Answer) × GoesOn start events given now rest × ((said : List ℕ) × LinesSoFar line events given rest said × Told old new told said piece)
 
 -- the same of a part of the events, whatever was told before it
-abbrev pub SaidOfPart : {E : Type 0} → (Event → Answer → List ℕ) → SinkState → SinkState → CoreState → CoreState → List Event → List Event → Result (Unit {0}) E → Result (Unit {0}) E → List ℕ → List ℕ → Type 0
+abbrev pub SaidOfPart : {E : Type 0} → (Event Draft → Answer → List ℕ) → SinkState → SinkState → CoreState → CoreState → List (Event Draft) → List (Event Draft) → Result (Unit {0}) E → Result (Unit {0}) E → List ℕ → List ℕ → Type 0
 SaidOfPart line from now_at start now events rest before told first piece =
     (given : List Answer) × GoesOn start events given now rest × ((said : List ℕ) × LinesSoFar line events given rest said
     × ((old : SinkState) (text : List ℕ) → Told old from before text first → Told old now_at told (text ++ said) piece))
 
 -- before the first event nothing is answered, and nothing told
-pub nothing_said : (line : Event → Answer → List ℕ) (a : SinkState) (start : CoreState) (events rest : List Event) (piece : List ℕ) → rest ≡ events → piece ≡ []
+pub nothing_said : (line : Event Draft → Answer → List ℕ) (a : SinkState) (start : CoreState) (events rest : List (Event Draft)) (piece : List ℕ) → rest ≡ events → piece ≡ []
     → (given : List Answer) × GoesOn start events given start rest × ((said : List ℕ) × LinesSoFar line events given rest said × ToldSoFar a a said piece)
 nothing_said line a start events rest piece same none =
     ([], (λ more new run. subst (λ es. Run start es more new) same run), ([], (λ more. ap (λ es. text_of_lines line es more) (sym same)), (([], Appends-nil a.contents, sym none), refl)))
 
-pub nothing_of_part : {E : Type 0} (line : Event → Answer → List ℕ) (a : SinkState) (start : CoreState) (events rest : List Event) (before : Result (Unit {0}) E) (piece : List ℕ) → rest ≡ events
+pub nothing_of_part : {E : Type 0} (line : Event Draft → Answer → List ℕ) (a : SinkState) (start : CoreState) (events rest : List (Event Draft)) (before : Result (Unit {0}) E) (piece : List ℕ) → rest ≡ events
     → SaidOfPart line a a start start events rest before before piece piece
 nothing_of_part line a start events rest before piece same =
     ([], (λ more new run. subst (λ es. Run start es more new) same run), ([], (λ more. ap (λ es. text_of_lines line es more) (sym same)), λ old text was. subst (λ (t : List ℕ). Told old a before t piece) (sym (append-nil text)) was))
 
 -- one line more
-pub line_more : (line : Event → Answer → List ℕ) (events rest left : List Event) (so_far : List Answer) (event : Event) (answer : Answer) (said : List ℕ) → rest ≡ event ∷ left
+pub line_more : (line : Event Draft → Answer → List ℕ) (events rest left : List (Event Draft)) (so_far : List Answer) (event : Event Draft) (answer : Answer) (said : List ℕ) → rest ≡ event ∷ left
     → LinesSoFar line events so_far rest said → LinesSoFar line events (so_far ++ answer ∷ []) left (said ++ line event answer)
 line_more line events rest left so_far event answer said split so more =
     ap (text_of_lines line events) (append_assoc so_far (answer ∷ []) more)
     ∙ so (answer ∷ more)
-    ∙ ap (λ (es : List Event). said ++ text_of_lines line es (answer ∷ more)) split
+    ∙ ap (λ (es : List (Event Draft)). said ++ text_of_lines line es (answer ∷ more)) split
     ∙ sym (append_assoc said (line event answer) (text_of_lines line left more))
 
 -- the lines of some events that were answered, and then those of the events behind them
-lines_behind : (line : Event → Answer → List ℕ) (now next : CoreState) (chunk rest : List Event) (answers more : List Answer) → Run now chunk answers next
+lines_behind : (line : Event Draft → Answer → List ℕ) (now next : CoreState) (chunk rest : List (Event Draft)) (answers more : List Answer) → Run now chunk answers next
     → text_of_lines line (chunk ++ rest) (answers ++ more) ≡ text_of_lines line chunk answers ++ text_of_lines line rest more
 lines_behind line now next [] rest [] more run = refl
 lines_behind line now next [] rest (answer ∷ answers) more never = absurd never
@@ -150,7 +151,7 @@ lines_behind line now next (event ∷ chunk) rest (answer ∷ answers) more run 
     ∙ sym (append_assoc (line event answer) (text_of_lines line chunk answers) (text_of_lines line rest more))
 
 -- the lines of a chunk more
-pub chunk_said : (line : Event → Answer → List ℕ) (now next : CoreState) (events chunk rest : List Event) (so_far answers : List Answer) (said : List ℕ) → Run now chunk answers next
+pub chunk_said : (line : Event Draft → Answer → List ℕ) (now next : CoreState) (events chunk rest : List (Event Draft)) (so_far answers : List Answer) (said : List ℕ) → Run now chunk answers next
     → LinesSoFar line events so_far (chunk ++ rest) said → LinesSoFar line events (so_far ++ answers) rest (said ++ text_of_lines line chunk answers)
 chunk_said line now next events chunk rest so_far answers said run so more =
     ap (text_of_lines line events) (append_assoc so_far answers more)
@@ -159,13 +160,13 @@ chunk_said line now next events chunk rest so_far answers said run so more =
     ∙ sym (append_assoc said (text_of_lines line chunk answers) (text_of_lines line rest more))
 
 -- the lines of all events
-pub lines_end : (line : Event → Answer → List ℕ) (events rest : List Event) (so_far : List Answer) (said : List ℕ) → rest ≡ [] → LinesSoFar line events so_far rest said
+pub lines_end : (line : Event Draft → Answer → List ℕ) (events rest : List (Event Draft)) (so_far : List Answer) (said : List ℕ) → rest ≡ [] → LinesSoFar line events so_far rest said
     → said ≡ text_of_lines line events so_far
 lines_end line events rest so_far said none so =
-    sym (append-nil said) ∙ sym (ap (λ (es : List Event). said ++ text_of_lines line es []) none) ∙ sym (so []) ∙ ap (text_of_lines line events) (append-nil so_far)
+    sym (append-nil said) ∙ sym (ap (λ (es : List (Event Draft)). said ++ text_of_lines line es []) none) ∙ sym (so []) ∙ ap (text_of_lines line events) (append-nil so_far)
 
 -- those that have the answers alone are the lines of the answers
-pub lines_of_answers : (start final : CoreState) (events : List Event) (answers : List Answer) → LawfulRun start events answers final
+pub lines_of_answers : (start final : CoreState) (events : List (Event Draft)) (answers : List Answer) → LawfulRun start events answers final
     → text_of_lines (λ event answer. line_of answer) events answers ≡ text_of_answers answers
 lines_of_answers start final [] [] run = refl
 lines_of_answers start final [] (answer ∷ answers) never = absurd never
@@ -238,15 +239,15 @@ pub opened_lawful : (spec : DeviceSpec) → EveryRunIsLawful → IsLawful (opene
 opened_lawful spec lawful = (lawful spec [] [] (opened spec) tt refl).0
 
 -- answers to the events of a script by a core that was opened as its device
-pub played : (script : Script) (core final : CoreState) (events : List Event) (Hold : List Answer → Type 0) → EveryRunIsLawful → Headline → core ≡ opened script.spec
+pub played : (script : Script) (core final : CoreState) (events : List (Event Draft)) (Hold : List Answer → Type 0) → EveryRunIsLawful → Headline → core ≡ opened script.spec
     → events ≡ script.lines → AllNamesExist script.spec script.lines → IsAnswered core events final Hold → (answers : List Answer) × AreAnswers script answers × Hold answers
 played script core final events Hold lawful promised core_is events_is names a =
     let run : Run (opened script.spec) script.lines a.0 final =
-    subst (λ (s : CoreState). Run s script.lines a.0 final) core_is (subst (λ (es : List Event). Run core es a.0 final) events_is a.1) in
+    subst (λ (s : CoreState). Run s script.lines a.0 final) core_is (subst (λ (es : List (Event Draft)). Run core es a.0 final) events_is a.1) in
     (a.0, (final, lawful script.spec script.lines a.0 final names run, promised script.spec script.lines a.0 final names run), a.2)
 
 -- what an ending says of a script, it says of the input that spells it
-pub plays_spelled : (text : List Event → List Answer → List ℕ) (script : Script) (input old new : Option (List ℕ)) (ended : Ending) → IfSome input (λ bytes. judge_script bytes ≡ Ok script)
+pub plays_spelled : (text : List (Event Draft) → List Answer → List ℕ) (script : Script) (input old new : Option (List ℕ)) (ended : Ending) → IfSome input (λ bytes. judge_script bytes ≡ Ok script)
     → PlaysAs text script old new ended → ReplaysAs text input old new ended
 plays_spelled text script input old new ending.Done spelled told = (script, spelled, told)
 plays_spelled text script input old new ending.Differs spelled never = absurd never
@@ -261,14 +262,14 @@ plays_spelled text script input old new ending.NoInput spelled never = absurd ne
 plays_spelled text script input old new ending.NoOutput spelled told = (script, spelled, told)
 
 -- the same text of the same answers
-abbrev AreAlike : (List Event → List Answer → List ℕ) → (List Event → List Answer → List ℕ) → Type 0
+abbrev AreAlike : (List (Event Draft) → List Answer → List ℕ) → (List (Event Draft) → List Answer → List ℕ) → Type 0
 AreAlike one other = (script : Script) (answers : List Answer) → AreAnswers script answers → one script.lines answers ≡ other script.lines answers
 
-told_alike : (one other : List Event → List Answer → List ℕ) (input : Option (List ℕ)) (Hold : List ℕ → Type 0) → AreAlike one other → SpellsScript input (λ script. IsToldAs one script Hold)
+told_alike : (one other : List (Event Draft) → List Answer → List ℕ) (input : Option (List ℕ)) (Hold : List ℕ → Type 0) → AreAlike one other → SpellsScript input (λ script. IsToldAs one script Hold)
     → SpellsScript input (λ script. IsToldAs other script Hold)
 told_alike one other input Hold alike told = (told.0, told.1, (told.2.0, told.2.1, subst Hold (alike told.0 told.2.0 told.2.1) told.2.2))
 
-replays_alike : (one other : List Event → List Answer → List ℕ) (input old new : Option (List ℕ)) (ended : Ending) → AreAlike one other → ReplaysAs one input old new ended → ReplaysAs other input old new ended
+replays_alike : (one other : List (Event Draft) → List Answer → List ℕ) (input old new : Option (List ℕ)) (ended : Ending) → AreAlike one other → ReplaysAs one input old new ended → ReplaysAs other input old new ended
 replays_alike one other input old new ending.Done alike told = told_alike one other input (λ text. Appends old new text) alike told
 replays_alike one other input old new ending.Differs alike never = absurd never
 replays_alike one other input old new (ending.GaveUp worker turns) alike never = absurd never

@@ -12,6 +12,7 @@ use Rattle.drm_buffer.specs.Memory.{bytes_of, sizes_of}
 use Rattle.drm_buffer.proofs.Sizes.{size_by_sizes}
 use Rattle.drm_job.specs.Ranges.{RunsIn}
 use Rattle.drm_job.proofs.InRange.{runs_in}
+use Rattle.drm_job.specs.declared.Draft.{Draft}
 use Rattle.drm_serial.specs.Serial.{Turn}
 use Rattle.drm_serial.proofs.Sizes.{sizes_each}
 use Rattle.drm_state.specs.declared.answer.Answer.{Answer}
@@ -76,7 +77,7 @@ bytes_short : (bytes : List ℕ) → length bytes ≤ 4096 → 7 + 2 * length by
 bytes_short bytes few = omega (arith, few)
 
 -- what an event that is not refused answers
-outcome_short : (s : CoreState) (e : Event) → ((buffer : ℕ) → length (bytes_of s.device.memory buffer) ≤ 4096) → IsShort (outcome_of_event s e).0
+outcome_short : (s : CoreState) (e : Event Draft) → ((buffer : ℕ) → length (bytes_of s.device.memory buffer) ≤ 4096) → IsShort (outcome_of_event s e).0
 outcome_short s (event.Submit draft) few = eighty
 outcome_short s (event.Begin ctx) few = eighty
 outcome_short s (event.Try ctx b) few =
@@ -105,7 +106,7 @@ outcome_short s (event.Status f) few = eighty
 outcome_short s (event.Dump b) few = bytes_short (bytes_of s.device.memory b) (few b)
 
 -- what a lawful core answers has a short line
-step_short : (s next : CoreState) (e : Event) (given : Answer) → IsLawful s → spec_fault s.device.spec ≡ None → Step s e given next → line_room given ≤ 8199
+step_short : (s next : CoreState) (e : Event Draft) (given : Answer) → IsLawful s → spec_fault s.device.spec ≡ None → Step s e given next → line_room given ≤ 8199
 step_short s next e given lawful none step =
     elim (cases_step s e given next step) [
       | inl refused ↦ rw refused.answers eighty
@@ -113,11 +114,11 @@ step_short s next e given lawful none step =
     ]
 
 -- so it finds room behind a piece that is not written yet
-pub step_fits : (s next : CoreState) (e : Event) (given : Answer) (piece : List ℕ) → IsLawful s → spec_fault s.device.spec ≡ None → Step s e given next → length piece < 32768
+pub step_fits : (s next : CoreState) (e : Event Draft) (given : Answer) (piece : List ℕ) → IsLawful s → spec_fault s.device.spec ≡ None → Step s e given next → length piece < 32768
     → length piece + line_room given ≤ 41088
 step_fits s next e given piece lawful none step few = let fits = step_short s next e given lawful none step in omega (arith, fits, few)
 
 -- and so does the first of some events
-pub line_fits : (s next : CoreState) (events left : List Event) (given : Answer) (piece : List ℕ) → IsLawful s → spec_fault s.device.spec ≡ None → AnswersFirst s events given next left
+pub line_fits : (s next : CoreState) (events left : List (Event Draft)) (given : Answer) (piece : List ℕ) → IsLawful s → spec_fault s.device.spec ≡ None → AnswersFirst s events given next left
     → length piece < 32768 → length piece + line_room given ≤ 41088
 line_fits s next events left given piece lawful none first few = step_fits s next first.0 given piece lawful none first.2 few

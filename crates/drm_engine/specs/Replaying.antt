@@ -1,6 +1,7 @@
 -- A replay: what is written answers the script that is read.
 use Rattle.std.specs.Prelude.{◌≡◌, ℕ, true, List, ◌++◌, Option, Result, Ok, Err, IfSome, flat_map, zip}
 use Rattle.std.specs.Io.KnownBytes.{Appends, Keeps}
+use Rattle.drm_job.specs.declared.Draft.{Draft}
 use Rattle.drm_state.specs.declared.answer.Answer.{Answer}
 use Rattle.drm_core.specs.State.{CoreState, opened}
 use Rattle.drm_core.specs.declared.event.Event.{Event}
@@ -23,22 +24,22 @@ abbrev pub SpellsScript : Option (List ℕ) → (Script → Type 0) → Type 0
 SpellsScript input Hold = (script : Script) × IfSome input (λ text. judge_script text ≡ Ok script) × Hold script
 
 -- what the events and the answers to them are told as: one such line for each event, with the answer to it
-abbrev pub text_of_lines : (Event → Answer → List ℕ) → List Event → List Answer → List ℕ
+abbrev pub text_of_lines : (Event Draft → Answer → List ℕ) → List (Event Draft) → List Answer → List ℕ
 text_of_lines line events answers = flat_map (λ p. line p.0 p.1) (zip events answers)
 
 -- answers to the script, of whose text this holds
-abbrev pub IsToldAs : (List Event → List Answer → List ℕ) → Script → (List ℕ → Type 0) → Type 0
+abbrev pub IsToldAs : (List (Event Draft) → List Answer → List ℕ) → Script → (List ℕ → Type 0) → Type 0
 IsToldAs text script Hold = (answers : List Answer) × AreAnswers script answers × Hold (text script.lines answers)
 
 -- what each ending says of a script that was read, and of what the writer holds before and after
-abbrev pub PlaysAs : (List Event → List Answer → List ℕ) → Script → Option (List ℕ) → Option (List ℕ) → Ending → Type 0
+abbrev pub PlaysAs : (List (Event Draft) → List Answer → List ℕ) → Script → Option (List ℕ) → Option (List ℕ) → Ending → Type 0
 PlaysAs text script old new ending.Done = IsToldAs text script (λ told. Appends old new told)
 PlaysAs text script old new ending.NoMemory = Keeps old new
 PlaysAs text script old new ending.NoOutput = IsToldAs text script (λ told. AppendsFront old new told)
 PlaysAs text script old new other = ⊥
 
 -- what each ending says of the input and of what the writer holds before and after: a replay has no other
-abbrev pub ReplaysAs : (List Event → List Answer → List ℕ) → Option (List ℕ) → Option (List ℕ) → Option (List ℕ) → Ending → Type 0
+abbrev pub ReplaysAs : (List (Event Draft) → List Answer → List ℕ) → Option (List ℕ) → Option (List ℕ) → Option (List ℕ) → Ending → Type 0
 ReplaysAs text input old new ending.Done = SpellsScript input (λ script. IsToldAs text script (λ told. Appends old new told))
 ReplaysAs text input old new (ending.Fault fault) = IfSome input (λ bytes. judge_script bytes ≡ Err fault) × Keeps old new
 ReplaysAs text input old new ending.NoMemory = Keeps old new
@@ -51,7 +52,7 @@ abbrev pub Replays : Option (List ℕ) → Option (List ℕ) → Option (List �
 Replays = ReplaysAs (λ events answers. text_of_answers answers)
 
 -- the core gives answers to these events, one step after another, of which this holds
-abbrev pub IsAnswered : CoreState → List Event → CoreState → (List Answer → Type 0) → Type 0
+abbrev pub IsAnswered : CoreState → List (Event Draft) → CoreState → (List Answer → Type 0) → Type 0
 IsAnswered start events final Hold = (answers : List Answer) × Run start events answers final × Hold answers
 
 -- the writer gained this text but for its last piece, which is still to be written
