@@ -14,8 +14,8 @@ use Rattle.drm_picture.specs.declared.bars.Kind.TheVariants as kind
 use Rattle.drm_picture.specs.declared.bars.Lane.{Lane}
 use Rattle.drm_picture.specs.declared.bars.Lane.TheVariants as lane
 use Rattle.drm_picture.specs.declared.bars.Opening.{Opening}
-use Rattle.drm_picture.specs.declared.command.Command.{Command}
-use Rattle.drm_picture.specs.declared.command.Command.TheVariants as command
+use Rattle.drm_core.specs.declared.event.Event.{Event}
+use Rattle.drm_core.specs.declared.event.Event.TheVariants as event
 use Rattle.drm_picture.specs.declared.command.Step.{Step}
 
 pub or_false : (a b : Bool) → (a || b) ≡ false → (a ≡ false) × (b ≡ false)
@@ -82,8 +82,8 @@ over-only fence (answer.Finished ended outcome) is = ap Some (eqb-true ended fen
 over-only fence (answer.Reaped ended) is = ap Some (eqb-true ended fence is)
 over-only fence _ is = cc
 
-dropped-only : (buffer ctx : ℕ) (c : Command) → drops buffer ctx c ≡ true → ended_in_lock c ≡ Some buffer
-dropped-only buffer ctx (command.Drop by at) is = ap Some (eqb-true at buffer (left_true (at == buffer) (by == ctx) is))
+dropped-only : (buffer ctx : ℕ) (c : Event ℕ) → drops buffer ctx c ≡ true → ended_in_lock c ≡ Some buffer
+dropped-only buffer ctx (event.Drop by at) is = ap Some (eqb-true at buffer (left_true (at == buffer) (by == ctx) is))
 dropped-only buffer ctx _ is = cc
 
 unlocked-only : (lane : Lane) (number : ℕ) (step : Step) → unlocks_in lane number step ≡ true → ended_in_lock step.command ≡ Some (number_in lane number)

@@ -15,8 +15,8 @@ use Rattle.drm_picture.specs.declared.bars.Lane.TheVariants as lane
 use Rattle.drm_picture.specs.declared.bars.Look.{Look}
 use Rattle.drm_picture.specs.declared.bars.Look.TheVariants as look
 use Rattle.drm_picture.specs.declared.bars.Opening.{Opening}
-use Rattle.drm_picture.specs.declared.command.Command.{Command}
-use Rattle.drm_picture.specs.declared.command.Command.TheVariants as command
+use Rattle.drm_core.specs.declared.event.Event.{Event}
+use Rattle.drm_core.specs.declared.event.Event.TheVariants as event
 use Rattle.drm_picture.specs.declared.command.Request.{Request}
 use Rattle.drm_picture.specs.declared.command.Step.{Step}
 
@@ -24,8 +24,8 @@ abbrev pub planned : Answer → Bool
 planned answer.Planned = true
 planned _ = false
 
-abbrev pub names_plan : ℕ → Command → Bool
-names_plan ctx (command.Plan by entity) = by == ctx
+abbrev pub names_plan : ℕ → Event ℕ → Bool
+names_plan ctx (event.Plan by entity) = by == ctx
 names_plan ctx _ = false
 
 -- the context plans a job by this step
@@ -36,9 +36,9 @@ plans ctx step = names_plan ctx step.command && planned step.answer
 abbrev pub last_planned : ℕ → List Step → Option Request
 last_planned ctx before = option_and_then (λ step. step.request) (find (plans ctx) (reverse before))
 
-abbrev pub armed_by : List Step → Step → Command → Option Request
-armed_by before step (command.Submit entity) = step.request
-armed_by before step (command.Arm ctx) = last_planned ctx before
+abbrev pub armed_by : List Step → Step → Event ℕ → Option Request
+armed_by before step (event.Submit entity) = step.request
+armed_by before step (event.Arm ctx) = last_planned ctx before
 armed_by before step _ = None
 
 -- the job that a step behind these arms, if it arms one: that of the submission, or the last that the context has planned
@@ -65,22 +65,22 @@ abbrev pub armed : Answer → Option Opening
 armed (answer.Armed fence) = Some (record { lane = lane.Fence fence; number = fence; skipped = false })
 armed _ = None
 
-abbrev pub picked_by : Command → Answer → Option Opening
-picked_by (command.Pick ring now) a = picked ring a
+abbrev pub picked_by : Event ℕ → Answer → Option Opening
+picked_by (event.Pick ring now) a = picked ring a
 picked_by _ a = None
 
-abbrev pub cancelled_by : Command → Option Opening
-cancelled_by (command.Cancel entity) = Some (record { lane = lane.Entity entity; number = entity; skipped = false })
+abbrev pub cancelled_by : Event ℕ → Option Opening
+cancelled_by (event.Cancel entity) = Some (record { lane = lane.Entity entity; number = entity; skipped = false })
 cancelled_by _ = None
 
 -- an entity is stopped from where it is found guilty, and from where it is cancelled
-abbrev pub stopped_by : Command → Answer → Option Opening
+abbrev pub stopped_by : Event ℕ → Answer → Option Opening
 stopped_by c (answer.Guilty entity) = Some (record { lane = lane.Entity entity; number = entity; skipped = false })
 stopped_by c answer.Ok = cancelled_by c
 stopped_by c _ = None
 
-abbrev pub locked_by : Command → Answer → Option Opening
-locked_by (command.Try ctx buffer) a = locked buffer ctx a
+abbrev pub locked_by : Event ℕ → Answer → Option Opening
+locked_by (event.Try ctx buffer) a = locked buffer ctx a
 locked_by _ a = None
 
 -- what a step behind these begins of this kind. A job may begin to wait for several buffers at once: Waiting has these bars
@@ -113,8 +113,8 @@ abbrev pub granted : Answer → Bool
 granted answer.Ok = true
 granted _ = false
 
-abbrev pub drops : ℕ → ℕ → Command → Bool
-drops buffer ctx (command.Drop by at) = at == buffer && by == ctx
+abbrev pub drops : ℕ → ℕ → Event ℕ → Bool
+drops buffer ctx (event.Drop by at) = at == buffer && by == ctx
 drops buffer ctx _ = false
 
 abbrev pub unlocks_in : Lane → ℕ → Step → Bool

@@ -9,8 +9,8 @@ use Rattle.drm_picture.specs.declared.bars.Kind.TheVariants as kind
 use Rattle.drm_picture.specs.declared.bars.Lane.{Lane}
 use Rattle.drm_picture.specs.declared.bars.Lane.TheVariants as lane
 use Rattle.drm_picture.specs.declared.bars.Opening.{Opening}
-use Rattle.drm_picture.specs.declared.command.Command.{Command}
-use Rattle.drm_picture.specs.declared.command.Command.TheVariants as command
+use Rattle.drm_core.specs.declared.event.Event.{Event}
+use Rattle.drm_core.specs.declared.event.Event.TheVariants as event
 use Rattle.drm_picture.specs.declared.command.Step.{Step}
 
 abbrev pub number_in : Lane → ℕ → ℕ
@@ -36,8 +36,8 @@ over_fence (answer.Finished fence outcome) = Some fence
 over_fence (answer.Reaped fence) = Some fence
 over_fence _ = None
 
-abbrev pub ended_in_lock : Command → Option ℕ
-ended_in_lock (command.Drop ctx buffer) = Some buffer
+abbrev pub ended_in_lock : Event ℕ → Option ℕ
+ended_in_lock (event.Drop ctx buffer) = Some buffer
 ended_in_lock _ = None
 
 -- the number of what of a kind may end by this step

@@ -3,12 +3,13 @@
 ghost use Rattle.std.specs.List.{cons_option};
 ghost use Rattle.std.specs.Option.{option_copied};
 ghost use Rattle.std.specs.Prelude.{◌≡◌, ◌+◌, ◌<◌, ◌≤◌, ◌^◌, ◌++◌, [], find, length, option_and_then, position, reverse, take, IfOk, OnOk};
-ghost use Rattle.drm_picture.specs.Bars.{armed, armed_job as armed_job_of, bar_at, bar_from, bars_of, cancelled_by, endless_look, ends, ends_fence, ends_job, entities_of, entity_by, entity_of, kept_beyond, last_planned as last_planned_by, lasts_beyond, leaves_queue, locked, look_of, opening_of, packets_of, picked, plans, queued, runs, shown_by, steps_between, stopped_by, unlocks_in};
+ghost use Rattle.drm_picture.specs.Bars.{armed, armed_job as armed_job_of, bar_at, bar_from, bars_of, cancelled_by, drops, endless_look, ends, ends_fence, ends_job, entities_of, entity_by, entity_of, granted, kept_beyond, last_planned as last_planned_by, lasts_beyond, leaves_queue, locked, look_of, opening_of, packets_of, picked, plans, queued, runs, shown_by, steps_between, stopped_by, unlocks_in};
 ghost use Rattle.drm_picture.specs.Commands.{moment_of};
 ghost use Rattle.drm_picture.specs.Ends.{AreNext, none_ends};
 
-use crate::command::{Command, Request, Step, run_before};
+use crate::command::{Request, Step, moment, run_before};
 use crate::ends::{note_end, skipped};
+use drm_core::Event;
 use drm_state::Answer;
 use drm_types::{EntityId, FenceId, Moment, Outcome};
 use std::alloc::{AllocError, Global};
@@ -107,7 +108,7 @@ fn is_plan(ctx: u32, step: &Step) -> bool
     ensures { result ≡ plans ctx step.now }
 {
     match (step.command, &step.answer) {
-        (Command::Plan { ctx: by, .. }, Answer::Planned) => by == ctx,
+        (Event::Plan { ctx: by, .. }, Answer::Planned) => by == ctx,
         _ => false,
     }
 }
@@ -134,8 +135,8 @@ pub(crate) fn armed_job<'a>(before: &'a [Step], step: &'a Step) -> Option<&'a Re
     ensures { option_copied result ≡ armed_job_of before.now step.now }
 {
     match step.command {
-        Command::Submit { .. } => step.request.as_ref(),
-        Command::Arm { ctx } => last_planned(ctx, before),
+        Event::Submit { .. } => step.request.as_ref(),
+        Event::Arm { ctx } => last_planned(ctx, before),
         _ => None,
     }
 }
@@ -172,13 +173,13 @@ fn queued_at(before: &[Step], step: &Step) -> Option<Opening>
 }
 
 // The entity that a command cancels, as it is stopped from there.
-fn cancelled_at(command: Command) -> Option<Opening>
-    ensures { result ≡ cancelled_by command }
+fn cancelled_at(command: &Event<EntityId>) -> Option<Opening>
+    ensures { result ≡ cancelled_by command.now }
 {
     match command {
-        Command::Cancel { entity } => Some(Opening {
-            lane: Lane::Entity(entity),
-            number: entity,
+        Event::Cancel { entity } => Some(Opening {
+            lane: Lane::Entity(*entity),
+            number: *entity,
             skipped: false,
         }),
         _ => None,
@@ -195,7 +196,7 @@ fn stopped_at(step: &Step) -> Option<Opening>
             number: *entity,
             skipped: false,
         }),
-        Answer::Ok => cancelled_at(step.command),
+        Answer::Ok => cancelled_at(&step.command),
         _ => None,
     }
 }
@@ -234,13 +235,13 @@ fn opening_at(kind: Kind, before: &[Step], step: &Step) -> Option<Opening>
 {
     match kind {
         Kind::Job => match step.command {
-            Command::Pick { ring, .. } => picked_at(ring, &step.answer),
+            Event::Pick { ring, .. } => picked_at(ring, &step.answer),
             _ => None,
         },
         Kind::Queued => queued_at(before, step),
         Kind::Stopped => stopped_at(step),
         Kind::Lock => match step.command {
-            Command::Try { ctx, buffer } => locked_at(buffer, ctx, &step.answer),
+            Event::Try { ctx, buffer } => locked_at(buffer.number(), ctx, &step.answer),
             _ => None,
         },
         Kind::Fence => armed_at(&step.answer),
@@ -280,19 +281,35 @@ fn is_end_of_fence(fence: u32, answer: &Answer) -> bool
     }
 }
 
+// Whether the context drops the buffer by this command.
+fn is_drop(buffer: u32, ctx: u32, command: &Event<EntityId>) -> bool
+    ensures { result ≡ drops buffer ctx command.now }
+{
+    match command {
+        Event::Drop {
+            ctx: by,
+            buffer: at,
+        } => at.number() == buffer && *by == ctx,
+        _ => false,
+    }
+}
+
+// Whether the command is done, by this answer.
+fn is_granted(answer: &Answer) -> bool
+    ensures { result ≡ granted answer.now }
+{
+    match answer {
+        Answer::Ok => true,
+        _ => false,
+    }
+}
+
 // Whether the context lets go of the buffer in whose lane it is by this step.
 fn is_unlock(lane: Lane, ctx: u32, step: &Step) -> bool
     ensures { result ≡ unlocks_in lane ctx step.now }
 {
-    match (lane, step.command, &step.answer) {
-        (
-            Lane::Buffer(buffer),
-            Command::Drop {
-                ctx: by,
-                buffer: at,
-            },
-            Answer::Ok,
-        ) => at == buffer && by == ctx,
+    match lane {
+        Lane::Buffer(buffer) => { is_drop(buffer, ctx, &step.command) && is_granted(&step.answer) }
         _ => false,
     }
 }
@@ -352,7 +369,7 @@ fn ended(last: Option<&Step>) -> Option<Moment>
     ensures { result ≡ option_and_then (λ last. moment_of last.command) (option_copied last.entry) }
 {
     match last {
-        Some(step) => step.command.moment(),
+        Some(step) => moment(&step.command),
         None => None,
     }
 }
@@ -490,7 +507,7 @@ fn bar_of(
         span: more + 1,
         look: shown_look(kind, &step.answer, last),
         packets: packets(kind, opening.number, &behind[..more]),
-        began: step.command.moment(),
+        began: moment(&step.command),
         ended: ended(last),
     }
 }

@@ -4,8 +4,10 @@ ghost use Rattle.std.specs.Prelude.{◌≡◌, ◌-◌, get_or};
 ghost use Rattle.drm_picture.specs.Ends.{ended_in_lock, ended_number as ended_number_of, finished_fence, noted, number_of, over_fence, taken_fence};
 
 use crate::bars::{Kind, Lane, Opening};
-use crate::command::{Command, Step};
+use crate::command::Step;
+use drm_core::Event;
 use drm_state::Answer;
+use drm_types::EntityId;
 
 // The number by which an end of what began is looked up: of a lock that of its buffer.
 fn number(kind: Kind, opening: Opening) -> u32
@@ -50,11 +52,11 @@ fn over(answer: &Answer) -> Option<u32>
 }
 
 // The buffer that a context lets go of by this command.
-fn unlocked(command: Command) -> Option<u32>
-    ensures { result ≡ ended_in_lock command }
+fn unlocked(command: &Event<EntityId>) -> Option<u32>
+    ensures { result ≡ ended_in_lock command.now }
 {
     match command {
-        Command::Drop { buffer, .. } => Some(buffer),
+        Event::Drop { buffer, .. } => Some(buffer.number()),
         _ => None,
     }
 }
@@ -67,7 +69,7 @@ fn ended_number(kind: Kind, step: &Step) -> Option<u32>
         Kind::Job => finished(&step.answer),
         Kind::Queued => taken(&step.answer),
         Kind::Stopped => None,
-        Kind::Lock => unlocked(step.command),
+        Kind::Lock => unlocked(&step.command),
         Kind::Fence => over(&step.answer),
         Kind::Waiting => None,
     }

@@ -5,7 +5,7 @@ ghost use Rattle.std.specs.Prelude.{◌≡◌, ◌++◌, [], IfOk, OnOk};
 ghost use Rattle.drm_picture.specs.Marks.{mark_of, marks_at, marks_of, marks_of_plan, sign_of};
 
 use crate::bars::Lane;
-use crate::command::Step;
+use crate::command::{Step, lane};
 use drm_state::Answer;
 use drm_types::{Access, BufferId};
 use std::alloc::{AllocError, Global};
@@ -66,7 +66,7 @@ fn sign_at(answer: &Answer) -> Option<Sign>
 fn mark_at(place: usize, step: &Step) -> Option<Mark>
     ensures { result ≡ mark_of place step.now }
 {
-    match step.command.lane() {
+    match lane(&step.command) {
         Some(lane) => match sign_at(&step.answer) {
             Some(sign) => Some(Mark { lane, place, sign }),
             None => None,

@@ -4,10 +4,12 @@ ghost use Rattle.std.specs.Prelude.{◌≡◌, IfOk, take};
 ghost use Rattle.drm_picture.specs.Pictures.{IsPicture, part_of};
 
 use crate::bars::{Bar, Kind, bars, entities};
-use crate::command::{Command, Step, commands, run_before};
+use crate::command::{Step, commands, run_before};
 use crate::marks::{Mark, marks};
 use crate::waiting::waiting;
 use crate::waits::{Wait, waits};
+use drm_core::Event;
+use drm_types::EntityId;
 use std::alloc::{AllocError, Global};
 
 /// How many rings, entities and buffers a device has.
@@ -26,7 +28,7 @@ pub struct Picture {
     /// The place of the first command of the part.
     pub first: usize,
     /// A column for each command of the part.
-    pub columns: Vec<Command>,
+    pub columns: Vec<Event<EntityId>>,
     /// The jobs on their rings.
     pub jobs: Vec<Bar>,
     /// The jobs in the queues of their entities.

@@ -10,7 +10,7 @@ ghost use Rattle.drm_picture.specs.Waiting.{conflicts_at, holds_up, waiting_at, 
 ghost use Rattle.drm_picture.specs.declared.bars.Kind.TheVariants as kind;
 
 use crate::bars::{Bar, Kind, Lane, Look, Opening, armed_job, push_bar};
-use crate::command::{Request, Step, run_before};
+use crate::command::{Request, Step, moment, run_before};
 use crate::conflict::is_conflict;
 use crate::waits::{armed_before, is_open, job_of};
 use drm_state::Answer;
@@ -84,7 +84,7 @@ fn moment_until(run: &[Step], end: usize) -> Option<Moment>
     ensures { result ≡ moment_of_end run.now end }
 {
     match run.get(end) {
-        Some(step) => step.command.moment(),
+        Some(step) => moment(&step.command),
         None => None,
     }
 }

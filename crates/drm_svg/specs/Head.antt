@@ -4,7 +4,7 @@ use Rattle.std.specs.List.{enumerate_from}
 use Rattle.std.specs.Option.{option_or}
 use Rattle.drm_picture.specs.Commands.{moment_of, word_of}
 use Rattle.drm_picture.specs.declared.bars.Lane.{Lane}
-use Rattle.drm_picture.specs.declared.command.Command.{Command}
+use Rattle.drm_core.specs.declared.event.Event.{Event}
 use Rattle.drm_svg.specs.Bars.{bar_text}
 use Rattle.drm_svg.specs.Signs.{name_of}
 use Rattle.drm_svg.specs.declared.head.TheConstants.{ABOVE, HEAD, LANE, STYLE, TEXT_END, TITLE_END, TURNED, VIEW}
@@ -49,7 +49,7 @@ new_moment None (Some now) = Some now
 new_moment told None = None
 
 -- the last moment that these commands tell
-abbrev pub last_moment : List Command → Option ℕ
+abbrev pub last_moment : List (Event ℕ) → Option ℕ
 last_moment [] = None
 last_moment (command ∷ behind) = option_or (last_moment behind) (moment_of command)
 
@@ -58,10 +58,10 @@ moment_above first place (Some now) = above_text first place (codes "-32") ++ de
 moment_above first place None = []
 
 -- above a column the word of its command, and the moment that it tells, if it differs from the one told last
-unfoldable pub column_text : ℕ → ℕ → Option ℕ → Command → List ℕ
+unfoldable pub column_text : ℕ → ℕ → Option ℕ → Event ℕ → List ℕ
 column_text first place told command =
     above_text first place (codes "-3") ++ word_of command ++ TEXT_END.now ++ moment_above first place (new_moment told (moment_of command))
 
 -- the columns of these commands, of which the first has this number
-abbrev pub columns_text : ℕ → List Command → List ℕ
+abbrev pub columns_text : ℕ → List (Event ℕ) → List ℕ
 columns_text first commands = flat_map (λ p. column_text first p.0 (last_moment (take p.0 commands)) p.1) (enumerate_from 0 commands)

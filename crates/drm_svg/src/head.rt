@@ -6,8 +6,9 @@ ghost use Rattle.drm_svg.specs.Head.{above_text, column_text, columns_text, fenc
 use crate::bars::put_bars;
 use crate::layout::{LaneRows, Layout};
 use crate::text::{put_later, put_name, put_number, put_text, put_wide};
-use drm_picture::{Command, Lane};
-use drm_types::Moment;
+use drm_core::Event;
+use drm_picture::{Lane, moment, word};
+use drm_types::{EntityId, Moment};
 use std::alloc::{AllocError, Global};
 
 /// What stands before the size. The character reference is a digit of the address of the namespace.
@@ -174,28 +175,28 @@ fn put_column(
     first: usize,
     place: usize,
     told: Option<Moment>,
-    command: &Command,
+    command: &Event<EntityId>,
 ) -> Result<(), AllocError>
     ensures { OnOk result (out.new.items ≡ out.old.items ++ column_text first place told command.now) }
 {
     put_above(out, first, place, "-3")?;
-    put_text(out, command.word())?;
+    put_text(out, word(command))?;
     put_text(out, TEXT_END)?;
-    put_moment(out, first, place, differing(told, command.moment()))
+    put_moment(out, first, place, differing(told, moment(command)))
 }
 
 /// Puts the columns of these commands, of which the first has this number.
 pub(crate) fn put_columns(
     out: &mut Vec<u8>,
     first: usize,
-    columns: &[Command],
+    columns: &[Event<EntityId>],
 ) -> Result<(), AllocError>
     ensures { OnOk result (out.new.items ≡ out.old.items ++ columns_text first columns.now) }
 {
     let mut told = None;
     for (place, command) in columns.iter().enumerate() {
         put_column(out, first, place, told, command)?;
-        told = command.moment().or(told);
+        told = moment(command).or(told);
     }
     Ok(())
 }

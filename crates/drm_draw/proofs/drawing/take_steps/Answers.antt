@@ -1,6 +1,6 @@
-use Rattle.std.proofs.Common.{◌≡◌, ◌∷◌, ◌++◌, ◌∙◌, [], ap, List, Option, map, subst, sym}
+use Rattle.std.proofs.Common.{◌≡◌, ◌∷◌, ◌++◌, ◌∙◌, ℕ, [], ap, List, Option, map, subst, sym}
 use Rattle.drm_core.specs.Run.{AllNamesExist}
-use Rattle.drm_picture.specs.declared.command.Command.{Command}
+use Rattle.drm_core.specs.declared.event.Event.{Event}
 use Rattle.drm_picture.specs.declared.command.Request.{Request}
 use Rattle.drm_picture.specs.declared.command.Step.{Step}
 use Rattle.drm_draw.specs.Drawing.{asked, asked_by, command_of}
@@ -19,7 +19,7 @@ loop-event-preserved c =
     let named : AllNamesExist before.device.spec (c.in-Some.event ∷ left) = subst (AllNamesExist before.device.spec) split c.loop-event.invariant.names in
     let goes_on : GoesOn c.args.core.now c.args.events so.0 before (c.in-Some.event ∷ left) = subst (GoesOn c.args.core.now c.args.events so.0 before) split so.1 in
     let asks : asked step ≡ asked_by c.in-Some.event =
-    ap (λ (d : Command). (d, step.request)) c.command-command.ensures ∙ ap (λ (r : Option Request). (command_of c.in-Some.event, r)) c.in_ok-request.ensures in
+    ap (λ (d : Event ℕ). (d, step.request)) c.command-command.ensures ∙ ap (λ (r : Option Request). (command_of c.in-Some.event, r)) c.in_ok-request.ensures in
     let kept : c.push.new.self.items ≡ c.loop-event.steps.items ++ step ∷ [] = c.in_ok-push.ensures.items in
     record {
       names = subst (λ spec. AllNamesExist spec left) (sym c.apply-answer.ensures.grows.spec) named.1;
