@@ -1,6 +1,7 @@
 //! Events by hand: a caller asks whether an event names what the device has, and gives it to the core.
 use crate::{ENTITY, Job, RING, Work, device, draft_of};
 use drm_core::{Answer, Core, Event};
+use drm_job::Draft;
 use drm_types::Access;
 use std::alloc::Global;
 use std::test::Fail;
@@ -14,7 +15,7 @@ const FILL: Job = Job(
 );
 
 /// What the core answers, where the event names what its device has.
-fn answer_to(alloc: Global, core: &mut Core, event: Event) -> Option<Answer> {
+fn answer_to(alloc: Global, core: &mut Core, event: Event<Draft>) -> Option<Answer> {
     if !event.names_exist(core.spec()) {
         return None;
     }
@@ -23,11 +24,11 @@ fn answer_to(alloc: Global, core: &mut Core, event: Event) -> Option<Answer> {
 
 /// Whether the core arms the job as its first.
 fn is_armed(alloc: Global, core: &mut Core) -> bool {
-    let Ok(draft) = draft_of(alloc, FILL) else {
+    let Ok(job) = draft_of(alloc, FILL) else {
         return false;
     };
     matches!(
-        answer_to(alloc, core, Event::Submit { draft }),
+        answer_to(alloc, core, Event::Submit { job }),
         Some(Answer::Armed { fence: 0 })
     )
 }
@@ -42,5 +43,15 @@ fn events_name_what_the_device_has(rt: HostRuntime) -> Result<(), Fail> {
     assert!(rt; is_armed(alloc, &mut core));
     assert!(rt; answer_to(alloc, &mut core, Event::Pick { ring: 1, now: 0 }).is_none());
     assert!(rt; answer_to(alloc, &mut core, Event::Status { fence: 0 }).is_some());
+    Ok(())
+}
+
+#[test]
+fn an_event_with_another_job(rt: HostRuntime) -> Result<(), Fail> {
+    let planned = Event::Plan { ctx: 3, job: 7_u8 }.map_job(|job| u32::from(*job));
+    assert!(rt; matches!(planned, Event::Plan { ctx: 3, job: 7 }));
+    let pick: Event<u8> = Event::Pick { ring: 1, now: 9 };
+    let picked = pick.map_job(|job| u32::from(*job));
+    assert!(rt; matches!(picked, Event::Pick { ring: 1, now: 9 }));
     Ok(())
 }
