@@ -1,4 +1,5 @@
--- What a sentence is told of, and what that names. A number that it does not name is 0, and no answer to it tells that.
+-- What a sentence is told of, and the numbers that this names. 0 stands for what it does not name, and no sentence
+-- that belongs to an answer of the core tells that 0.
 use Rattle.std.specs.Prelude.{ℕ}
 use Rattle.drm_job.specs.declared.Draft.{Draft}
 use Rattle.drm_core.specs.declared.event.Event.{Event}

@@ -1,4 +1,4 @@
-//! What a sentence is told of, and what that names.
+//! Asks an event what it names.
 
 ghost use Rattle.std.specs.Prelude.{◌≡◌};
 ghost use Rattle.drm_words.specs.Subjects.{buffer_of, ctx_of, entity_of, fence_of, ring_of, subject_of};
@@ -7,14 +7,15 @@ use drm_core::Event;
 use drm_job::Draft;
 use drm_types::EntityId;
 
-/// What a sentence is told of: the event with the entity of its job, since the core takes the job itself.
+/// Returns what a sentence is told of: the event with the entity of its job, since the core takes the job itself.
 pub(crate) fn subject(event: &Event<Draft>) -> Event<EntityId>
     ensures { result ≡ subject_of event.now }
 {
     event.map_job(|draft| draft.entity)
 }
 
-/// The context that it names. Here and below it is 0 where it names none, and no answer to it tells that.
+/// Returns the context that the event names. Here and below 0 stands for what it does not name, and no sentence that
+/// belongs to an answer of the core tells that 0.
 pub(crate) fn ctx_in(subject: &Event<EntityId>) -> u64
     ensures { result ≡ ctx_of subject.now }
 {
@@ -31,7 +32,7 @@ pub(crate) fn ctx_in(subject: &Event<EntityId>) -> u64
     }
 }
 
-/// The buffer that it names.
+/// Returns the buffer that the event names.
 pub(crate) fn buffer_in(subject: &Event<EntityId>) -> u64
     ensures { result ≡ buffer_of subject.now }
 {
@@ -44,7 +45,7 @@ pub(crate) fn buffer_in(subject: &Event<EntityId>) -> u64
     }
 }
 
-/// The ring that it names.
+/// Returns the ring that the event names.
 pub(crate) fn ring_in(subject: &Event<EntityId>) -> u64
     ensures { result ≡ ring_of subject.now }
 {
@@ -57,7 +58,7 @@ pub(crate) fn ring_in(subject: &Event<EntityId>) -> u64
     }
 }
 
-/// The entity that it names, or that its job does.
+/// Returns the entity that the event names, or its job.
 pub(crate) fn entity_in(subject: &Event<EntityId>) -> u64
     ensures { result ≡ entity_of subject.now }
 {
@@ -68,7 +69,7 @@ pub(crate) fn entity_in(subject: &Event<EntityId>) -> u64
     }
 }
 
-/// The fence that it names.
+/// Returns the fence whose status the event asks for.
 pub(crate) fn fence_in(subject: &Event<EntityId>) -> u64
     ensures { result ≡ fence_of subject.now }
 {
