@@ -15,10 +15,10 @@ use Rattle.drm_serial.specs.Serial.{Turn}
 use Rattle.drm_state.specs.declared.journal.JobRecord.{JobRecord}
 use Rattle.drm_state.specs.Journal.{turns}
 use Rattle.drm_state.specs.Lawful.{IsSound}
-use Rattle.drm_report.specs.declared.report.Report.{Report}
-use Rattle.drm_report.specs.Jobs.{AreJobsOf, numbers_from}
-use Rattle.drm_report.specs.Reports.{AreArmed, IsReport, all_items}
-use Rattle.drm_report.specs.Shares.{share_from, share_of}
+use Rattle.drm_workers.specs.declared.report.Report.{Report}
+use Rattle.drm_workers.specs.Jobs.{AreJobsOf, numbers_from}
+use Rattle.drm_workers.specs.Reports.{AreArmed, IsReport, all_items}
+use Rattle.drm_workers.specs.Shares.{share_from, share_of}
 use Rattle.drm_journal.specs.Leaving.{AreLeft}
 use Rattle.drm_script.specs.Run.{AreRunnable, IsRunnable}
 use Rattle.drm_run.specs.Runs.{IsTold}

@@ -4,8 +4,8 @@ use Rattle.std.specs.Io.KnownBytes.{Appends, Keeps}
 use Rattle.drm_types.specs.Limits.{spec_fault}
 use Rattle.drm_buffer.specs.Stored.{AreIn}
 use Rattle.drm_gpu.specs.declared.gpu.Closed.{Closed}
-use Rattle.drm_report.specs.declared.report.Report.{Report}
-use Rattle.drm_report.specs.Reports.{IsReport}
+use Rattle.drm_workers.specs.declared.report.Report.{Report}
+use Rattle.drm_workers.specs.Reports.{IsReport}
 use Rattle.drm_script.specs.declared.run_script.RunScript.{RunScript}
 use Rattle.drm_journal.specs.Journal.{JournalParts}
 use Rattle.drm_journal.specs.JournalText.{text_of_journal}

@@ -16,8 +16,8 @@ use Rattle.drm_gpu.specs.Laws.{reflexive, transitive}
 use Rattle.drm_gpu.specs.Passes.{Calls, GrowsTo, PassState}
 use Rattle.drm_gpu.specs.Running.{RunningState, Starts}
 use Rattle.drm_gpu.specs.Submissions.{ArmIs, ArmRefused, LocksAll, Submission, draws}
-use Rattle.drm_report.specs.Armings.{ArmedJobsStay, OnlyArmingsArm, armings}
-use Rattle.drm_report.specs.Jobs.{JobAt}
+use Rattle.drm_workers.specs.Numbers.{ArmedJobsStay, OnlyArmingsArm, armings}
+use Rattle.drm_workers.specs.Jobs.{JobAt}
 use Rattle.drm_workers.specs.Armings.{ArmsNoMore, HasArmed}
 use Rattle.drm_workers.proofs.Lists.{unit}
 

@@ -8,8 +8,8 @@ use Rattle.ww_lock.specs.Steps.{IsChain}
 use Rattle.drm_sched.specs.Marks.{MarkedDevice}
 use Rattle.drm_gpu.specs.Laws.{reflexive, transitive}
 use Rattle.drm_gpu.specs.Passes.{GpuState, GrowsTo, IsJoinedOf, PassState}
-use Rattle.drm_report.specs.Armings.{IsOrdered, JoinedArmings, armings}
-use Rattle.drm_report.specs.Reports.{all_items}
+use Rattle.drm_workers.specs.Numbers.{IsOrdered, JoinedArmings, armings}
+use Rattle.drm_workers.specs.Reports.{all_items}
 use Rattle.drm_workers.specs.declared.work.Done.{Done}
 use Rattle.drm_workers.specs.Gathers.{Gathers, shares_of}
 use Rattle.drm_workers.specs.Works.{Tells}

@@ -1,3 +1,11 @@
+pub mod Dealt
+pub mod Rising
+pub mod Permuted
+pub mod Shared
+pub mod Tallies
+pub mod Reported
+pub mod Ordered
+pub mod Arms
 pub mod Lists
 pub mod Arming
 pub mod Joining

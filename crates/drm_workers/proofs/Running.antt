@@ -11,10 +11,10 @@ use Rattle.drm_sched.specs.Marks.{MarkedDevice}
 use Rattle.drm_gpu.specs.declared.gpu.Closed.{Closed}
 use Rattle.drm_gpu.specs.Closing.{Leaves}
 use Rattle.drm_gpu.specs.Passes.{GpuState, GrowsTo, PassState}
-use Rattle.drm_report.specs.Armings.{ArmedJobsStay, armings}
-use Rattle.drm_report.specs.Jobs.{AreJobsOf}
-use Rattle.drm_report.specs.Reports.{HasRun, all_items}
-use Rattle.drm_report.specs.Shares.{AreShares}
+use Rattle.drm_workers.specs.Numbers.{ArmedJobsStay, armings}
+use Rattle.drm_workers.specs.Jobs.{AreJobsOf}
+use Rattle.drm_workers.specs.Reports.{HasRun, all_items}
+use Rattle.drm_workers.specs.Shares.{AreShares}
 use Rattle.drm_workers.specs.declared.work.Done.{Done}
 use Rattle.drm_workers.specs.declared.work.Worker.{Worker}
 use Rattle.ww_lock.specs.Parts.{IsWhole}

@@ -3,7 +3,7 @@ use Rattle.std.proofs.Common.{◌==◌, ◌%◌, ◌+◌, ℕ, Bool, true, false
 use Rattle.std.specs.Prelude.{if◌then◌else◌}
 use Rattle.std.proofs.lemmas.List.Elements.{All-cons, All-head, All-tail}
 use Rattle.std.proofs.lemmas.Option.{slice_get-get_or}
-use Rattle.drm_report.specs.Shares.{AreShares, share_from}
+use Rattle.drm_workers.specs.Shares.{AreShares, share_from}
 
 of_share : {J : Type 0} (P : J → Type 0) (n s place : ℕ) (jobs : List J) → All P jobs → All P (share_from n s place jobs)
 of_share P n s place [] all = all

@@ -2,8 +2,8 @@
 use Rattle.std.specs.Prelude.{◌≡◌, ℕ, List, [], ◌∷◌, ◌++◌, Result, Ok, Err}
 use Rattle.drm_job.specs.declared.Draft.{Draft}
 use Rattle.drm_gpu.specs.Passes.{GrowsTo, PassState}
-use Rattle.drm_report.specs.Armings.{armings}
-use Rattle.drm_report.specs.Jobs.{JobAt}
+use Rattle.drm_workers.specs.Numbers.{armings}
+use Rattle.drm_workers.specs.Jobs.{JobAt}
 
 -- the pass is of the same device, of which it has the same part, and has armed nothing more
 abbrev pub ArmsNoMore : PassState → PassState → Type 0

@@ -2,8 +2,8 @@
 use Rattle.std.specs.Prelude.{◌≡◌, ℕ, List, [], ◌∷◌, ◌++◌, IsPermutation}
 use Rattle.ww_lock.specs.Rule.{In}
 use Rattle.drm_gpu.specs.Passes.{GpuState, GrowsTo, PassState}
-use Rattle.drm_report.specs.Armings.{IsOrdered, armings}
-use Rattle.drm_report.specs.Reports.{all_items}
+use Rattle.drm_workers.specs.Numbers.{IsOrdered, armings}
+use Rattle.drm_workers.specs.Reports.{all_items}
 use Rattle.drm_workers.specs.declared.work.Done.{Done}
 
 -- the parts of the device that workers had

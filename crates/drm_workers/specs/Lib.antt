@@ -1,3 +1,7 @@
+pub mod Shares
+pub mod Jobs
+pub mod Numbers
+pub mod Reports
 pub mod Armings
 pub mod Counting
 pub mod Works

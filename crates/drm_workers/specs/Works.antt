@@ -9,8 +9,8 @@ use Rattle.drm_workers.specs.declared.work.Duty.{Duty}
 use Rattle.drm_workers.specs.declared.work.Duty.TheVariants as duty
 use Rattle.drm_workers.specs.declared.work.Worker.{Worker}
 use Rattle.drm_workers.specs.declared.work.Done.{Done}
-use Rattle.drm_report.specs.Armings.{armings}
-use Rattle.drm_report.specs.Jobs.{AreJobsOf}
+use Rattle.drm_workers.specs.Numbers.{armings}
+use Rattle.drm_workers.specs.Jobs.{AreJobsOf}
 
 -- the jobs of a worker
 abbrev pub jobs_of : Duty → List Draft

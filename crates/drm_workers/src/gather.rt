@@ -4,9 +4,9 @@ ghost use Rattle.drm_workers.specs.declared.work.Done.{Done};
 ghost use Rattle.drm_workers.specs.Gathers.{Gathers};
 ghost use Rattle.drm_workers.specs.Works.{Tells};
 
+use crate::laws::joined_armings;
 use crate::work::Done;
 use drm_gpu::{Gpu, Pass};
-use drm_report::joined_armings;
 use drm_types::FenceId;
 use std::alloc::{AllocError, Global};
 

@@ -1,17 +1,21 @@
 //! The workers that drive a shared device in threads of their own: submitters arm jobs, for each ring one worker picks and
 //! one runs packets and finishes, and a watchdog looks for hangs.
 //!
-//! `run_all` runs a list of jobs on a new device and gives a report (`drm_report`): each job was armed once, has its outcome,
+//! `run_all` runs a list of jobs on a new device and gives a report: each job was armed once, has its outcome,
 //! and the buffers are those of the machine that runs the jobs one after another. Below it `hire_all` makes the workers, each
 //! with a pass of its own, `run_workers` runs each `Worker` in a thread (`specs/Works`), and `gather` joins their passes
-//! (`specs/Gathers`). A worker that tries in vain costs a turn and yields, and one that has none left gives back all that it
+//! (`specs/Gathers`). `deal` gives each submitter its share of a list, and `tell` makes the report (`specs/Reports`). A worker that tries in vain costs a turn and yields, and one that has none left gives back all that it
 //! holds, runs the packet that it has out, and stops. That workers get on is not promised: they wait for one another. How many
 //! jobs have ended is counted beside the device (`specs/Counting`).
 #![tactic(auto)]
 
+mod counting;
+mod dealing;
 mod drive;
 mod gather;
 mod hire;
+mod laws;
+mod report;
 mod rings;
 mod run;
 mod run_state;
@@ -19,9 +23,12 @@ mod submit;
 mod turns;
 mod work;
 
+pub use dealing::deal;
 pub use drive::run_all;
 use drm_types::{BadSpec, Moment};
 pub use hire::hire_all;
+pub use laws::{armed_jobs_stay, armings_rise, joined_armings, only_armings_arm};
+pub use report::{Report, tell};
 pub use run::{ThreadError, run_workers};
 use thiserror::Error;
 pub use work::{Done, Duty, Limits, Worker};

@@ -3,10 +3,10 @@ ghost use Rattle.std.specs.Prelude.{◌≡◌, ◌<◌, length};
 ghost use Rattle.drm_workers.specs.Armings.{ArmsNoMore};
 ghost use Rattle.drm_workers.specs.Counting.{counted};
 
+use crate::laws::only_armings_arm;
 use crate::turns::{Turns, passes};
 use crate::{Clock, Gate, Point};
 use drm_gpu::{Gpu, Pass, StartError};
-use drm_report::only_armings_arm;
 use drm_sched::Expired;
 use drm_types::RingId;
 use std::sync::Wait;

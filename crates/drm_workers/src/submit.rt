@@ -1,15 +1,15 @@
 //! A submitter: it arms its jobs one after another.
 ghost use Rattle.std.specs.Prelude.{◌≡◌, ◌≤◌, ◌∷◌, [], All, IfOk, IfErr, true, vec_len, vec_capacity};
 ghost use Rattle.drm_job.specs.Fault.{IsJob};
-ghost use Rattle.drm_report.specs.Armings.{armings};
-ghost use Rattle.drm_report.specs.Jobs.{AreJobsOf, JobAt};
+ghost use Rattle.drm_workers.specs.Numbers.{armings};
+ghost use Rattle.drm_workers.specs.Jobs.{AreJobsOf, JobAt};
 ghost use Rattle.drm_workers.specs.Armings.{HasArmed, Submits};
 
+use crate::laws::{armed_jobs_stay, only_armings_arm};
 use crate::turns::{Turns, passes};
 use crate::{Gate, Point};
 use drm_gpu::{Armed, BeginError, Gpu, Locked, Locking, Pass, Planned};
 use drm_job::Job;
-use drm_report::{armed_jobs_stay, only_armings_arm};
 use drm_types::FenceId;
 use std::alloc::Global;
 use std::sync::Wait;

@@ -1,6 +1,6 @@
 use Rattle.std.proofs.Common.{◌∙◌, refl, rules, subst}
 use Rattle.std.specs.Io.KnownBytes.{Appends}
-use Rattle.drm_report.specs.Reports.{IsReport}
+use Rattle.drm_workers.specs.Reports.{IsReport}
 use Rattle.drm_stream.specs.Transfer.{AppendsFront}
 use Rattle.drm_engine.proofs.Failures.{input_fails}
 use Rattle.drm_run.proofs.Placed.{told}

@@ -2,7 +2,7 @@ use Rattle.std.proofs.Common.{◌≡◌, ◌∙◌, ◌++◌, ◌∷◌, [], ap,
 use Rattle.std.proofs.lemmas.List.{map-append}
 use Rattle.std.proofs.lemmas.List.Elements.{All-push, All-same}
 use Rattle.drm_gpu.specs.Passes.{PassState}
-use Rattle.drm_report.specs.Armings.{armings}
+use Rattle.drm_workers.specs.Numbers.{armings}
 use Rattle.drm_workers.specs.declared.work.Worker.{Worker}
 use Rattle.drm_workers.specs.Works.{MayWork, jobs_of}
 use Rattle.drm_workers.proofs.Hiring.{hired_half}

@@ -1,5 +1,5 @@
 use Rattle.std.proofs.Common.{◌∙◌, [], sym, ap, subst}
-use Rattle.drm_report.specs.Jobs.{JobAt}
+use Rattle.drm_workers.specs.Jobs.{JobAt}
 use Rattle.drm_workers.specs.Armings.{HasArmed}
 use Rattle.drm_workers.proofs.Arming.{arm_arms, arm_job, has_then, refused_arms}
 use Rattle.drm_workers.proofs.submit.arm.Goals as goal

@@ -1,6 +1,6 @@
 use Rattle.std.proofs.Common.{rules, ◌∙◌, [], ◌∷◌, sym, ap, subst}
 use Rattle.drm_gpu.specs.Passes.{PassState}
-use Rattle.drm_report.specs.Jobs.{JobAt}
+use Rattle.drm_workers.specs.Jobs.{JobAt}
 use Rattle.drm_workers.specs.Armings.{HasArmed}
 use Rattle.drm_workers.proofs.Arming.{has_then, locks_arm}
 use Rattle.drm_workers.proofs.submit.submit.Goals as goal

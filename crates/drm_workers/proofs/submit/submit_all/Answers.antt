@@ -3,7 +3,7 @@ use Rattle.std.proofs.lemmas.List.Elements.{All-rest}
 use Rattle.std.specs.Vec.Iter.{into_iter_items}
 use Rattle.drm_job.specs.Fault.{IsJob}
 use Rattle.drm_gpu.specs.Laws.{reflexive, transitive}
-use Rattle.drm_report.specs.Jobs.{AreJobsOf}
+use Rattle.drm_workers.specs.Jobs.{AreJobsOf}
 use Rattle.drm_workers.proofs.Arming.{job_stays}
 use Rattle.drm_workers.proofs.Lists.{none_left, one_more, unit}
 use Rattle.drm_workers.proofs.submit.submit_all.Goals as goal

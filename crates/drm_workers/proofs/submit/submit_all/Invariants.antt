@@ -3,8 +3,8 @@ use Rattle.std.specs.Vec.Iter.{into_iter_items, into_iter_len}
 use Rattle.drm_job.specs.Fault.{IsJob}
 use Rattle.drm_gpu.specs.Passes.{GrowsTo}
 use Rattle.drm_sched.specs.Marks.{MarkedDevice}
-use Rattle.drm_report.specs.Armings.{armings}
-use Rattle.drm_report.specs.Jobs.{AreJobsOf}
+use Rattle.drm_workers.specs.Numbers.{armings}
+use Rattle.drm_workers.specs.Jobs.{AreJobsOf}
 use Rattle.drm_workers.proofs.submit.submit_all.Given as goal
 
 -- whatever the device grows to and fits the jobs that are left, fits all of them behind what is armed

@@ -1,6 +1,0 @@
-use Rattle.std.proofs.Common.{arith}
-use Rattle.std.proofs.lemmas.Grind.{common_steps}
-use Rattle.drm_report.proofs.counting.have_ended.Goals as goal
-
-pub loop-record-preserved : goal.loop-record-preserved
-loop-record-preserved c = grind (arith, common_steps)

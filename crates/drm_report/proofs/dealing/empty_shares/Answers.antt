@@ -1,5 +1,0 @@
-use Rattle.std.proofs.Common.{rules}
-use Rattle.drm_report.proofs.dealing.empty_shares.Goals as goal
-
-pub loop-submitter-init : goal.loop-submitter-init
-loop-submitter-init c = search rules

@@ -1,5 +1,0 @@
-use Rattle.drm_report.proofs.Rising.{jobs_stay}
-use Rattle.drm_report.proofs.laws.armed_jobs_stay.Goals as goal
-
-pub returns : goal.returns
-returns c = jobs_stay

@@ -1,5 +1,0 @@
-use Rattle.drm_report.proofs.Ordered.{armings_rise}
-use Rattle.drm_report.proofs.laws.armings_rise.Goals as goal
-
-pub returns : goal.returns
-returns c = armings_rise

@@ -1,5 +1,0 @@
-use Rattle.drm_report.proofs.Arms.{only_armings_arm}
-use Rattle.drm_report.proofs.laws.only_armings_arm.Goals as goal
-
-pub returns : goal.returns
-returns c = only_armings_arm

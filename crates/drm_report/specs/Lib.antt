@@ -1,4 +1,0 @@
-pub mod Shares
-pub mod Jobs
-pub mod Armings
-pub mod Reports
