@@ -1,12 +1,13 @@
-//! The workers that drive a shared device in threads of their own: submitters arm jobs, for each ring one worker picks and
-//! one runs packets and finishes, and a watchdog looks for hangs.
+//! The workers that drive a shared device in threads of their own: submitters arm jobs, for each ring one worker picks
+//! and one runs packets and finishes, and a watchdog looks for hangs.
 //!
-//! `run_all` runs a list of jobs on a new device and gives a report: each job was armed once, has its outcome,
-//! and the buffers are those of the machine that runs the jobs one after another. Below it `hire_all` makes the workers, each
-//! with a pass of its own, `run_workers` runs each `Worker` in a thread (`specs/Works`), and `gather` joins their passes
-//! (`specs/Gathers`). `deal` gives each submitter its share of a list, and `tell` makes the report (`specs/Reports`). A worker that tries in vain costs a turn and yields, and one that has none left gives back all that it
-//! holds, runs the packet that it has out, and stops. That workers get on is not promised: they wait for one another. How many
-//! jobs have ended is counted beside the device (`specs/Counting`).
+//! `run_all` runs a list of jobs on a new device and gives a report (`specs/Reports`): each job was armed once, has
+//! its outcome, and the buffers are those of the machine that runs the jobs one after another. `deal` gives each
+//! submitter its share of the list, `hire_all` makes the workers, each with a pass of its own, `run_workers` runs each
+//! `Worker` in a thread (`specs/Works`), `gather` joins their passes (`specs/Gathers`), and `tell` makes the report. A
+//! worker that tries in vain costs a turn and yields. One that has none left gives back all that it holds, runs the
+//! packet that it has out, and stops. That workers get on is not promised: they wait for one another. Ended jobs are
+//! counted beside the device.
 #![tactic(auto)]
 
 mod counting;
