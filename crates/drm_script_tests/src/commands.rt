@@ -105,28 +105,55 @@ fn the_header_of_all_commands(rt: HostRuntime) -> Result<(), Fail> {
     Ok(())
 }
 
-/// The next event, with the entity and the credits of its job.
-fn next_of(left: &mut EventsLeft) -> Option<Event<(EntityId, u16)>> {
+/// An event with the entity and the credits of its job.
+type Told = Event<(EntityId, u16)>;
+
+/// The next event.
+fn next_of(left: &mut EventsLeft) -> Option<Told> {
     let event = left.next()?;
     Some(event.map_job(|draft| (draft.entity, draft.credits)))
 }
 
+/// Whether the event names this buffer.
+fn names(event: &Option<Told>, number: u32) -> bool {
+    match event {
+        Some(
+            Event::Try { buffer, .. }
+            | Event::Drop { buffer, .. }
+            | Event::Read { buffer, .. }
+            | Event::Dump { buffer },
+        ) => buffer.number() == number,
+        _ => false,
+    }
+}
+
 /// Whether the next events are a submission, and what a context does up to its arming.
 fn contexts_come(left: &mut EventsLeft) -> bool {
-    matches!(next_of(left), Some(Event::Submit { job: (1, 65535) }))
-        && matches!(next_of(left), Some(Event::Begin { ctx: 63 }))
-        && matches!(next_of(left), Some(Event::Try { ctx: 1, buffer }) if buffer.number() == 1)
-        && matches!(next_of(left), Some(Event::Done { ctx: 2 }))
-        && matches!(next_of(left), Some(Event::Drop { ctx: 3, buffer }) if buffer.number() == 0)
-        && matches!(next_of(left), Some(Event::End { ctx: 4 }))
-        && matches!(
-            next_of(left),
-            Some(Event::Plan {
-                ctx: 5,
-                job: (1, 9)
-            })
-        )
-        && matches!(next_of(left), Some(Event::Arm { ctx: 6 }))
+    let submitted = next_of(left);
+    let begun = next_of(left);
+    let tried = next_of(left);
+    let sealed = next_of(left);
+    let dropped = next_of(left);
+    let ended = next_of(left);
+    let planned = next_of(left);
+    let armed = next_of(left);
+    let is_planned = matches!(
+        planned,
+        Some(Event::Plan {
+            ctx: 5,
+            job: (1, 9)
+        })
+    );
+    matches!(submitted, Some(Event::Submit { job: (1, 65535) }))
+        && matches!(begun, Some(Event::Begin { ctx: 63 }))
+        && matches!(tried, Some(Event::Try { ctx: 1, .. }))
+        && names(&tried, 1)
+        && matches!(sealed, Some(Event::Done { ctx: 2 }))
+        && matches!(dropped, Some(Event::Drop { ctx: 3, .. }))
+        && names(&dropped, 0)
+        && matches!(ended, Some(Event::End { ctx: 4 }))
+        && is_planned
+        && matches!(armed, Some(Event::Arm { ctx: 6 }))
 }
 
 /// Whether the next events are those of rings and of entities.
@@ -146,9 +173,14 @@ fn rings_come(left: &mut EventsLeft) -> bool {
 
 /// Whether the next events are looks, and none comes behind them.
 fn looks_come(left: &mut EventsLeft) -> bool {
-    matches!(next_of(left), Some(Event::Read { ctx: 7, buffer }) if buffer.number() == 1)
-        && matches!(next_of(left), Some(Event::Status { fence: 4294967295 }))
-        && matches!(next_of(left), Some(Event::Dump { buffer }) if buffer.number() == 1)
+    let read = next_of(left);
+    let asked = next_of(left);
+    let dumped = next_of(left);
+    matches!(read, Some(Event::Read { ctx: 7, .. }))
+        && names(&read, 1)
+        && matches!(asked, Some(Event::Status { fence: 4294967295 }))
+        && matches!(dumped, Some(Event::Dump { .. }))
+        && names(&dumped, 1)
         && next_of(left).is_none()
 }
 
