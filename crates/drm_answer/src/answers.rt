@@ -11,7 +11,7 @@ use drm_text::put_bytes;
 use drm_types::Outcome;
 use std::alloc::{AllocError, Global};
 
-/// A number. Its digits are put one by one.
+/// Puts a number. Its digits are put one by one.
 #[inline(never)]
 pub fn put_decimal(out: &mut Vec<u8>, value: u64) -> Result<(), AllocError>
     ensures { OnOk result (out.new.items ≡ out.old.items ++ decimal value) }
@@ -33,7 +33,7 @@ fn put_behind(out: &mut Vec<u8>, separator: u8, value: u64) -> Result<(), AllocE
     out.extend_from_slice(&room[..end])
 }
 
-/// A word, and numbers behind it, each after the separator.
+/// Puts a word, and numbers behind it, each after the separator.
 pub fn put_separated(
     out: &mut Vec<u8>,
     word: &[u8],
@@ -49,14 +49,14 @@ pub fn put_separated(
     Ok(())
 }
 
-/// A word, and numbers behind it, each after a space.
+/// Puts a word, and numbers behind it, each after a space.
 pub fn put_numbers(out: &mut Vec<u8>, word: &[u8], values: &[u64]) -> Result<(), AllocError>
     ensures { OnOk result (out.new.items ≡ out.old.items ++ word.now ++ numbers values.now) }
 {
     put_separated(out, word, b' ', values)
 }
 
-/// The status of a fence whose job ended so.
+/// Puts the status of a fence whose job ended so.
 pub fn put_outcome(out: &mut Vec<u8>, outcome: Outcome) -> Result<(), AllocError>
     ensures { OnOk result (out.new.items ≡ out.old.items ++ text_of_outcome outcome) }
 {
@@ -84,7 +84,7 @@ fn put_short_line(out: &mut Vec<u8>, answer: &Answer) -> Result<(), AllocError>
     out.extend_from_slice(&room[..end])
 }
 
-/// The line of an answer.
+/// Puts the line of an answer.
 #[tactic(auto, unfolding(crate::specs::Answers::line_of))]
 pub fn put_line(out: &mut Vec<u8>, answer: &Answer) -> Result<(), AllocError>
     ensures { OnOk result (out.new.items ≡ out.old.items ++ line_of answer.now) }
@@ -95,7 +95,7 @@ pub fn put_line(out: &mut Vec<u8>, answer: &Answer) -> Result<(), AllocError>
     }
 }
 
-/// One line for each answer, in their order. Memory that is refused gives no text.
+/// Writes one line for each answer, in their order. Memory that is refused gives no text.
 pub fn write_answers(alloc: Global, answers: &[Answer]) -> Result<Vec<u8>, AllocError>
     ensures { IfOk result (λ text. text.items ≡ text_of_answers answers.now) }
 {

@@ -1,5 +1,5 @@
-//! The lines of answers in room that is known to be enough. Where the next byte goes is handed on from call to call, so no
-//! part of a line asks whether there is room for it.
+//! The lines of answers in room that is known to be enough. Where the next byte goes is handed on from call to call, so
+//! no part of a line asks whether there is room for it.
 
 ghost use Rattle.std.specs.Prelude.{◌≡◌, ◌<◌, ◌≤◌, ◌+◌, ◌*◌, ◌++◌, ◌∷◌, [], length, take, codes, decimal};
 ghost use Rattle.std.specs.Fmt.{signed_decimal};
@@ -19,8 +19,8 @@ pub(crate) const NUMBER_ROOM: usize = 21;
 /// Room for the line of each answer that tells no bytes.
 pub(crate) const LINE_ROOM: usize = 80;
 
-/// Puts a word at this place, and answers the place behind it. Most words are constants, whose bytes are so a few stores. (To copy
-/// them as a slice asks first whether the constant lies within the room.)
+/// Puts a word at this place, and answers the place behind it. Most words are constants, whose bytes are so a few
+/// stores. (To copy them as a slice asks first whether the constant lies within the room.)
 #[inline(always)]
 fn place_word(room: &mut [u8], at: usize, word: &[u8]) -> usize
     requires { at + length word.now ≤ length room.old }
@@ -78,7 +78,8 @@ fn count_digits(value: u64) -> usize
     }
 }
 
-/// A separator, and a number of any length. The room for its digits is filled with zeros first, so it is not made for all.
+/// A separator, and a number of any length. The room for its digits is filled with zeros first, so it is not made for
+/// all.
 #[inline(never)]
 fn place_any(room: &mut [u8], at: usize, separator: u8, value: u64) -> usize
     requires { at + 21 ≤ length room.old }
@@ -122,8 +123,8 @@ pub(crate) fn place_number(room: &mut [u8], at: usize, separator: u8, value: u64
     place_long(room, at, separator, value)
 }
 
-/// A word, and numbers behind it, each after a space. Where the word and the count of numbers are constants, as they are
-/// almost everywhere, the code becomes a few stores.
+/// A word, and numbers behind it, each after a space. Where the word and the count of numbers are constants, as they
+/// are almost everywhere, the code becomes a few stores.
 #[inline(always)]
 fn place_numbers(room: &mut [u8], at: usize, word: &[u8], values: &[u64]) -> usize
     requires { at + length word.now + 21 * length values.now ≤ length room.old }
@@ -323,7 +324,7 @@ fn place_words(room: &mut [u8], at: usize, answer: &Answer) -> usize
     }
 }
 
-/// Puts the line of an answer at this place of the room, and answers the place behind it. What stands before it stays.
+/// Puts the line of an answer at this place of the room, and returns the place behind it. What stands before it stays.
 ///
 /// A refusal is asked for before the other answers. `place_words` makes room for each of them, which takes 8 in a
 /// hundred more instructions of `short_commands`, and 5 of `idle_picks`, whose commands are refused

@@ -80,7 +80,7 @@ fn begins(alloc: Global, device: &mut Device) -> Result<bool, AllocError>
     Ok(armed && !device.spec().rings.is_empty() && device.pick(0, 0).is_ok())
 }
 
-/// Runs the ring's next packet beside the device, and gives it back. Answers its number.
+/// Runs the ring's next packet beside the device, and gives it back. It returns the fence's number.
 fn run_outside(device: &mut Device) -> Option<u32>
     requires { device.old.marks ≡ None ∷ [] }
     ensures { IfSome result (λ number. device.new.marks ≡ None ∷ []) }

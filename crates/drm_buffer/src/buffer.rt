@@ -28,7 +28,7 @@ impl Buffer {
         Buffer { bytes }
     }
 
-    /// The bytes, to look at.
+    /// Lends the bytes.
     pub fn as_slice(&self) -> &[u8]
         ensures { result.now ≡ self.now }
     {

@@ -22,7 +22,7 @@ impl Model for Memory {
 }
 
 impl Memory {
-    /// The memory of these buffers. It takes them over, and no memory.
+    /// Makes the memory of these buffers. It takes them over, and no memory.
     pub fn new(buffers: Sequence<Sequence<u8>>) -> Memory
         ensures { result ≡ buffers }
     {
@@ -31,11 +31,11 @@ impl Memory {
         }
     }
 
-    /// A memory with copies of these buffers, so that a device's description keeps the bytes that it began with.
+    /// Makes a memory with copies of these buffers, so that a device's description keeps the bytes that it began with.
     ///
     /// # Errors
     ///
-    /// Where memory is refused.
+    /// It fails if there is no memory.
     pub fn copy_of(alloc: Global, buffers: &Sequence<Sequence<u8>>) -> Result<Memory, AllocError>
         ensures { IfOk result (λ m. m ≡ buffers.now) }
     {
@@ -47,14 +47,14 @@ impl Memory {
         Ok(Memory { buffers: copies })
     }
 
-    /// The buffers, to look at.
+    /// Lends the buffers.
     pub fn buffers(&self) -> &[Sequence<u8>]
         ensures { result.now ≡ self.now }
     {
         self.buffers.as_slice()
     }
 
-    /// The buffers, given back. No memory is taken.
+    /// Gives the buffers back. No memory is taken.
     pub fn into_buffers(self) -> Sequence<Sequence<u8>>
         ensures { result ≡ self }
     {
@@ -62,14 +62,14 @@ impl Memory {
         Sequence::from_vec(buffers)
     }
 
-    /// How many bytes the buffer has: none, where it is not there.
+    /// Returns how many bytes the buffer has: none, where it is not there.
     pub fn size(&self, buffer: BufferId) -> usize
         ensures { result ≡ length (bytes_of self.now buffer) }
     {
         size_in(&self.buffers, buffer)
     }
 
-    /// The bytes of the buffer.
+    /// Returns the bytes of the buffer.
     pub fn bytes(&self, buffer: BufferId) -> &[u8]
         requires { buffer < length self.now }
         ensures { result.now ≡ bytes_of self.now buffer }
@@ -169,7 +169,7 @@ impl Memory {
     }
 }
 
-/// How many bytes a buffer has of those that are in no memory yet, as a device's description lists them: none,
+/// Returns how many bytes a buffer has of those that are in no memory yet, as a device's description lists them: none,
 /// where it is not there.
 pub fn size_in(buffers: &[Sequence<u8>], buffer: BufferId) -> usize
     ensures { result ≡ length (bytes_of buffers.now buffer) }

@@ -88,7 +88,7 @@ pub fn add_within(bytes: &mut [u8], target_offset: usize, source_offset: usize, 
     }
 }
 
-// The same of bytes to others of them. The two may overlap, and all are read before the first is written.
+// Adds sixteen bytes to others of the same buffer. The two may overlap, and all are read before the first is written.
 fn add_lanes_within(bytes: &mut [u8], target_offset: usize, source_offset: usize)
     requires target { target_offset + 16 ≤ length bytes.old }
     requires source { source_offset + 16 ≤ length bytes.old }

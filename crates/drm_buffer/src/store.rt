@@ -25,12 +25,12 @@ impl Model for Store {
 }
 
 impl Store {
-    /// A store with copies of these buffers, all of them in, so that a device's description keeps the bytes that it
-    /// began with.
+    /// Makes a store with copies of these buffers, all of them in, so that a device's description keeps the bytes that
+    /// it began with.
     ///
     /// # Errors
     ///
-    /// Where memory is refused.
+    /// It fails if there is no memory.
     pub fn copy_of(alloc: Global, buffers: &Sequence<Sequence<u8>>) -> Result<Store, AllocError>
         ensures { IfOk result (λ s. s ≡ all_in buffers.now) }
     {
@@ -43,7 +43,7 @@ impl Store {
         Ok(Store { places })
     }
 
-    /// Whether the buffer is out. One that is not there is not.
+    /// Returns whether the buffer is out. A buffer that is not there is not out.
     pub fn is_out(&self, buffer: BufferId) -> bool
         ensures { result ≡ is_out_of self.now buffer }
     {
@@ -53,7 +53,7 @@ impl Store {
         }
     }
 
-    /// The bytes of a buffer that is in, to look at.
+    /// Lends the bytes of a buffer that is in.
     pub fn bytes(&self, buffer: BufferId) -> &[u8]
         requires { slice_get self.now.out buffer ≡ Some false }
         ensures { result.now ≡ bytes_of self.now.bytes buffer }

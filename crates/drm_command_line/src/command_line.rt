@@ -239,8 +239,8 @@ fn bare_program<'a>(alloc: Global) -> Command<'a>
         .subcommand_required(true)
 }
 
-/// The program with its commands. Each is added where it is made, so that a refusal of memory has one command to give up, and
-/// not all that were made before.
+/// The program with its commands. Each is added where it is made, so that a lack of memory has one command to give up,
+/// and not all that were made before.
 fn program<'a>(alloc: Global) -> Result<Command<'a>, AllocError>
     ensures { IfOk result (λ command. app_of command ≡ program_app) }
 {
@@ -304,7 +304,7 @@ fn wants_words(matches: &ArgMatches) -> bool
     }
 }
 
-/// What the words ask for, the program's name first. An error is what `clap` says of words that ask for nothing
+/// Returns what the words ask for, the program's name first. An error is what `clap` says of words that ask for nothing
 /// known, of a request for help or the version, and of refused memory.
 pub fn read_words<'a>(alloc: Global, words: &'a [String]) -> Result<Request<'a>, Error>
     ensures named { IfOk result (λ request. IsAsked (map string_bytes words.now) request) }

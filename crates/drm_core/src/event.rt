@@ -2,8 +2,8 @@ use drm_types::{BufferId, CtxId, EntityId, FenceId, Moment, RingId};
 
 /// What can happen to the core. Each is one atomic step.
 ///
-/// `J` is what stands for the job of a submission or a plan. An `Event<Draft>` happens, an `Event<()>` is kept beside its
-/// job, and an `Event<EntityId>` tells of the job its entity alone.
+/// `J` is what stands for the job of a submission or a plan. An `Event<Draft>` happens, an `Event<()>` is kept beside
+/// its job, and an `Event<EntityId>` tells of the job its entity alone.
 #[derive(Clone, Copy, Drop)]
 pub enum Event<J> {
     /// Plans and arms a job at once, where no context holds what it declares (a `DRM_IOCTL_*_SUBMIT`).

@@ -11,8 +11,8 @@ use drm_sched::Answer;
 use std::alloc::Global;
 
 impl CoreTable {
-    /// One event. It names only what the device has. A submission collects what its job waits for in the list that is
-    /// handed to it; what stands there before and after is nobody's matter.
+    /// Applies one event, which names only what the device has. A submission collects what its job waits for in the
+    /// list that is handed to it. The list may have anything before, and nobody reads it after.
     #[inline(always)]
     pub(crate) fn apply(
         &mut self,

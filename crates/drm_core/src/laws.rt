@@ -5,15 +5,15 @@ ghost use Rattle.drm_core.specs.Run.{EveryRunIsLawful};
 
 use drm_sched::{choice_is_least, devices_stay_steady, reads_wait_for_writers};
 
-/// Whatever happens to a core, in any order: memory is that of the machine that runs the armed jobs one after
-/// another, fences answer as its turns end, credits stay within the limits, and each entity's jobs begin in order.
+/// Whatever happens to a core, in any order: memory is that of the machine that runs the armed jobs one after another,
+/// and fences answer as its turns end. Credits stay within the limits, and each entity's jobs begin in order.
 pub fn every_run_is_lawful()
     ensures { EveryRunIsLawful }
 {
     device_laws();
 }
 
-/// What a driver can rely on after any run of a core (`drm_gpu_scheduler` with its reservations and fences).
+/// States what a driver can rely on after any run of a core (`drm_gpu_scheduler` with its reservations and fences).
 /// `specs/Headline.antt` states each promise by itself.
 pub fn headline()
     ensures { Headline }

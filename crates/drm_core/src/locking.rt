@@ -133,8 +133,8 @@ impl CoreTable {
         Answer::Ticket { ticket }
     }
 
-    /// The context claims the buffer's reservation (one attempt of `ww_mutex_lock`), and is told the holder's ticket where
-    /// another one holds it. Behind an older holder it must let go of what it holds; for a younger one it may wait.
+    /// The context claims the buffer's reservation (one attempt of `ww_mutex_lock`), and is told the holder's ticket
+    /// where another one holds it. Behind an older holder it must release what it holds; for a younger one it may wait.
     pub(crate) fn try_claim(&mut self, ctx: CtxId, buffer: BufferId) -> Answer
         requires ctx { ctx < 64 }
         requires buffer { buffer < length self.old.device.state.spec.buffers }

@@ -14,8 +14,8 @@ use drm_types::{BufferId, CtxId, FenceId, Sequence, Usage};
 use std::alloc::Global;
 
 impl CoreTable {
-    // The least fence without an outcome among the reservation's entries of WRITE and stronger: a read of the buffer has
-    // to wait for it.
+    // The least fence without an outcome among the reservation's entries of WRITE and stronger: a read of the buffer
+    // has to wait for it.
     fn busy_fence(&self, resv: &Resv) -> Option<FenceId>
         ensures { result ≡ busy_fence self.now.device.state.journal resv.now.kept }
     {

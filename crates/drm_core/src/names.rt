@@ -6,8 +6,9 @@ use crate::event::Event;
 use drm_types::DeviceSpec;
 
 impl<J> Event<J> {
-    /// Whether the ring, the entity, the context and the buffer that the event names are there: what `Core::apply`
-    /// asks for. Jobs and fences are not looked at, since an event that names one that is not there is refused.
+    /// Returns whether the ring, the entity, the context and the buffer that the event names are there: what
+    /// `Core::apply` asks for. Jobs and fences are not looked at, since an event that names one that is not there is
+    /// refused.
     pub fn names_exist(&self, spec: &DeviceSpec) -> bool
         ensures { result ≡ names_exist_in spec.now self.now }
     {

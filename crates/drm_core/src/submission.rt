@@ -65,7 +65,8 @@ impl CoreTable {
         planning::collect(&self.reservations, job, deps);
     }
 
-    // Why the device does not take the job: its entity is stopped, the device is full, or it names a fence not armed yet.
+    // Why the device does not take the job: its entity is stopped, the device is full, or it names a fence not armed
+    // yet.
     pub(crate) fn arm_refusal(&self, job: &Job) -> Option<Refusal>
         ensures { result ≡ arm_refusal self.now.device.state job.now }
     {

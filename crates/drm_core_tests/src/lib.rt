@@ -1,7 +1,8 @@
 //! Devices, jobs and drafts to try a core with, and tests of what no script of `examples/` can do.
 //!
-//! What a core has to say event by event is told by the scripts there, which the program runs. Here are calls of a core by hand,
-//! and those of a device by itself. They use both as any caller does.
+//! The scripts there say what a core has to answer event by event, and the program runs them. Here are calls of a core
+//! by hand, and those of a device by itself. They use both as any caller does. The worked calls in the heads of
+//! `drm_core` and `drm_sched` stand here as tests.
 #![tactic(auto)]
 
 ghost use Rattle.std.specs.Prelude.{◌≡◌, IfOk, map};

@@ -18,7 +18,7 @@ pub enum Comparison {
 }
 
 impl Comparison {
-    /// How an engine ends that found this.
+    /// Returns how an engine ends that found this.
     pub fn ending(self) -> Ending
         ensures { result ≡ ending_of self }
     {
@@ -28,7 +28,7 @@ impl Comparison {
         }
     }
 
-    /// The line that tells it.
+    /// Returns the line that tells it.
     pub fn to_line(self, alloc: Global) -> Result<Vec<u8>, AllocError>
         ensures { IfOk result (λ text. text.items ≡ text_of_comparison self) }
     {

@@ -44,7 +44,7 @@ pub enum Ending {
 }
 
 impl Ending {
-    /// Where an input could not be read: what that is to the engine.
+    /// Returns how an engine ends whose input could not be read.
     pub fn of_input(error: InputError) -> Ending
         ensures { result ≡ ending_of_input error }
     {
@@ -55,14 +55,14 @@ impl Ending {
         }
     }
 
-    /// Whether standard output has told it all, and standard error stays empty.
+    /// Returns whether standard output has told it all, and standard error stays empty.
     pub fn is_told(&self) -> bool
         ensures { result ≡ is_told self.now }
     {
         matches!(self, Ending::Done | Ending::Differs)
     }
 
-    /// The exit status of a program that ends so.
+    /// Returns the exit status of a program that ends so.
     pub fn status(&self) -> u8
         ensures { result ≡ status_of self.now }
     {

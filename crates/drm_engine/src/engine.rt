@@ -25,7 +25,7 @@ pub enum Engine {
 }
 
 impl Engine {
-    /// The engine that the word names.
+    /// Returns the engine that the word names.
     pub fn of_word(word: &str) -> Option<Engine>
         ensures some { IfSome result (λ engine. word.now ≡ word_of engine) }
         ensures none { IfNone result (NamesNone word.now) }
@@ -38,7 +38,7 @@ impl Engine {
         }
     }
 
-    /// Runs it from the reader to the writer.
+    /// Runs the engine from the reader to the writer.
     pub fn run<R: Read, W: Write>(
         self,
         alloc: Global,

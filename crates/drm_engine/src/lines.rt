@@ -18,7 +18,8 @@ use drm_stream::Sink;
 use std::alloc::Global;
 use std::io::Write;
 
-/// The lines of a replay, one for each event. What a line wants to know of its event it notes before the core takes that.
+/// The lines of a replay, one for each event. What a line wants to know of its event it notes before the core takes
+/// that.
 pub trait Lines {
     /// The line of an event and the answer to it.
     ghost line: { Happening Draft → Given → List ℕ };
@@ -26,8 +27,8 @@ pub trait Lines {
     /// What is noted is of this event.
     ghost notes: { Self → Happening Draft → Type 0 };
 
-    /// Has the next event of a chunk happen to the core, if one is left, notes what the line wants to know of it, and gives
-    /// the answer.
+    /// Has the next event of a chunk happen to the core, if one is left, notes what the line wants to know of it, and
+    /// gives the answer.
     fn apply_next(&mut self, alloc: Global, rest: &mut ChunkLeft, core: &mut Core) -> Option<Answer>
         requires names { AllNamesExist core.old.device.spec rest.old }
         ensures some { IfSome result (λ answer. AnswersFirst core.old rest.old answer core.new rest.new) }
@@ -37,7 +38,8 @@ pub trait Lines {
         ensures spec { core.new.device.spec ≡ core.old.device.spec }
         ensures lawful { OnSome result (IsLawful core.new) };
 
-    /// Puts the line of an answer behind a piece that has room for the answer. It is the line of the event that was noted.
+    /// Puts the line of an answer behind a piece that has room for the answer. It is the line of the event that was
+    /// noted.
     fn put<W: Write>(
         &self,
         piece: &mut Piece,

@@ -15,7 +15,8 @@ use std::marker::Model;
 /// A piece of so many bytes or more is written before the next line.
 pub const PIECE: usize = 32_768;
 
-/// The room of a piece. The longest line of an answer tells 4,096 bytes, so it finds room behind a piece that is not written yet.
+/// The room of a piece. The longest line of an answer tells 4,096 bytes, so it finds room behind a piece that is not
+/// written yet.
 const ROOM: usize = PIECE + 8_320;
 
 /// That a write failed, and no more of it: an error of a stream is large, and each call would make room for one.
@@ -40,7 +41,7 @@ impl Model for Piece {
 }
 
 impl Piece {
-    /// An empty piece, and all room that it will have.
+    /// Makes an empty piece, with all room that it will have.
     pub fn with_room(alloc: Global) -> Result<Piece, AllocError>
         ensures { IfOk result (λ piece. piece ≡ []) }
     {
@@ -50,14 +51,14 @@ impl Piece {
         })
     }
 
-    /// How many bytes it has.
+    /// Returns how many bytes it has.
     pub fn len(&self) -> usize
         ensures { result ≡ length self.now }
     {
         self.len
     }
 
-    /// The text.
+    /// Returns the text.
     pub fn as_slice(&self) -> &[u8]
         ensures { result.now ≡ self.now }
     {
@@ -71,7 +72,7 @@ impl Piece {
         self.len = 0;
     }
 
-    /// Puts the line of an answer behind the text, where there is room for it.
+    /// Puts the line of an answer behind the text, if there is room for it.
     pub fn put_line(&mut self, answer: &Answer)
         requires { length self.old + line_room answer.now ≤ 41088 }
         ensures { self.new ≡ self.old ++ line_of answer.now }
@@ -86,7 +87,8 @@ impl Piece {
         self.len = self.len.saturating_sub(1);
     }
 
-    /// Writes the text, and leaves it out, also where the write fails. The room of an error is not made for each answer.
+    /// Writes the text, and leaves it out, also where the write fails. The room of an error is not made for each
+    /// answer.
     #[inline(never)]
     pub fn write_to<W: Write>(&mut self, writer: &mut Sink<W>) -> Result<(), WriteFailed>
         ensures told { Told writer.old writer.new result self.old self.new }

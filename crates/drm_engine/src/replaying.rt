@@ -40,8 +40,8 @@ fn tell<L: Lines, W: Write>(
     piece.write_to(writer)
 }
 
-/// Gives the core all events of a chunk, and tells the answer to each while it can be told. Its loop stands in a function of
-/// its own: with that over the chunks around it, LLVM stores zeros for each event.
+/// Gives the core all events of a chunk, and tells the answer to each while it can be told. Its loop stands in a
+/// function of its own: with that over the chunks around it, LLVM stores zeros for each event.
 fn tell_chunk<L: Lines, W: Write>(
     alloc: Global,
     lines: &mut L,
@@ -70,8 +70,8 @@ fn tell_chunk<L: Lines, W: Write>(
     told
 }
 
-/// Gives the core all events, and tells the answer to each while it can be told. No answer is kept, of the text no more than a
-/// piece, and of the events no chunk behind its last.
+/// Gives the core all events, and tells the answer to each while it can be told. No answer is kept, of the text no more
+/// than a piece, and of the events no chunk behind its last.
 fn tell_answers<L: Lines, W: Write>(
     alloc: Global,
     lines: &mut L,
@@ -113,8 +113,8 @@ fn write_lines<L: Lines, W: Write>(
     piece.write_to(writer)
 }
 
-/// Writes the lines of the answers to a script. The script's device passes its check, so only memory can lack, and it lacks
-/// before anything is written.
+/// Writes the lines of the answers to a script. The script's device passes its check, so only memory can lack, and it
+/// lacks before anything is written.
 fn play<L: Lines, W: Write>(
     alloc: Global,
     lines: &mut L,
@@ -141,9 +141,10 @@ fn play<L: Lines, W: Write>(
     }
 }
 
-/// Reads a script to its end, and writes one of these lines for each of its events: that of the event and of what a core
-/// answers that is built for the script's device and gets the events in their order. Nothing is written before the whole text
-/// was read and judged. Where a write fails, the events behind it happen all the same, and nothing more is written.
+/// Reads a script to its end, and writes one of these lines for each of its events: that of the event and of what a
+/// core answers that is built for the script's device and gets the events in their order. Nothing is written before the
+/// whole text was read and judged. If a write fails, the events behind it happen all the same, and nothing more is
+/// written.
 pub fn replay_lines<L: Lines, R: Read, W: Write>(
     alloc: Global,
     lines: &mut L,

@@ -55,8 +55,8 @@ fn add_links(next: &mut Vec<FenceId>, number: FenceId)
 }
 
 impl Entities {
-    /// The entities of a device, with nothing queued and no marks, and a place for each of its jobs. The memory is
-    /// taken at once.
+    /// Makes the entities of a device, with nothing queued and no marks, and a place for each of its jobs. The memory
+    /// is taken at once.
     pub fn new(alloc: Global, spec: &DeviceSpec) -> Result<Entities, AllocError>
         ensures { IfOk result (λ e. e ≡ record { places = spec.now.max_jobs; rows = replicate (length spec.now.entities) (record { queue = []; is_stopped = false; is_guilty = false }) }) }
     {
@@ -73,14 +73,14 @@ impl Entities {
         })
     }
 
-    /// How many entities there are.
+    /// Returns how many entities there are.
     pub fn len(&self) -> usize
         ensures { result ≡ length self.now.rows }
     {
         self.links.len()
     }
 
-    /// The first number of the entity's queue (`drm_sched_entity_queue_peek`).
+    /// Returns the first number of the entity's queue (`drm_sched_entity_queue_peek`).
     pub fn head(&self, entity: EntityId) -> Option<FenceId>
         requires { entity < length self.now.rows }
         ensures { result ≡ first (queue_at self.now entity) }
@@ -93,7 +93,7 @@ impl Entities {
         }
     }
 
-    /// The last number of the entity's queue.
+    /// Returns the last number of the entity's queue.
     pub fn last(&self, entity: EntityId) -> Option<FenceId>
         requires { entity < length self.now.rows }
         ensures { result ≡ last_of (queue_at self.now entity) }
@@ -106,7 +106,7 @@ impl Entities {
         }
     }
 
-    /// Whether nothing is queued.
+    /// Returns whether nothing is queued.
     pub fn is_empty(&self, entity: EntityId) -> bool
         requires { entity < length self.now.rows }
         ensures { result ≡ is_nil (queue_at self.now entity) }
@@ -159,7 +159,7 @@ impl Entities {
         links.is_stopped = true;
     }
 
-    /// Whether the entity is stopped (`stopped` of `struct drm_sched_entity`).
+    /// Returns whether the entity is stopped (`stopped` of `struct drm_sched_entity`).
     pub fn is_stopped(&self, entity: EntityId) -> bool
         requires { entity < length self.now.rows }
         ensures { IfSome (slice_get self.now.rows entity) (λ r. result ≡ r.is_stopped) }
@@ -176,7 +176,7 @@ impl Entities {
         links.is_guilty = true;
     }
 
-    /// Whether the entity is guilty of a hang (`guilty` of `struct drm_sched_entity`).
+    /// Returns whether the entity is guilty of a hang (`guilty` of `struct drm_sched_entity`).
     pub fn is_guilty(&self, entity: EntityId) -> bool
         requires { entity < length self.now.rows }
         ensures { IfSome (slice_get self.now.rows entity) (λ r. result ≡ r.is_guilty) }

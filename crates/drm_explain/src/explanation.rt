@@ -34,7 +34,7 @@ fn spelled(mut table: &[Row], word: &str) -> Option<Row>
     None
 }
 
-/// The row of a number.
+/// Returns the row of a number.
 pub fn explain(number: u32) -> Option<Row>
     ensures row { option_map told result ≡ row_of number }
     ensures known { is_some result ≡ is_in numbers number }
@@ -46,7 +46,7 @@ pub fn explain(number: u32) -> Option<Row>
     jobs.or(devices).or(contexts.or(texts))
 }
 
-/// The row of the number that a word spells in decimal digits, with no sign and no leading zero.
+/// Returns the row of the number that a word spells in decimal digits, with no sign and no leading zero.
 pub fn explain_word(word: &str) -> Option<Row>
     ensures { option_map told result ≡ row_spelled word.now }
 {
@@ -67,7 +67,7 @@ fn sentence_of(sentences: &'static [&'static str], place: usize) -> &'static str
     }
 }
 
-/// What is said of an answer with this number, in one of its cases, with `%` in place of each number.
+/// Returns what is said of an answer with this number, in one of its cases, with `%` in place of each number.
 #[tactic(auto, unfolding(crate::specs::Rows::sentence_at))]
 pub fn sentence(number: u32, place: usize) -> &'static str
     ensures { result.now ≡ sentence_at number place }

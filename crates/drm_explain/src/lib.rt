@@ -1,9 +1,11 @@
-//! What each number means that the engines answer: the refusals of events and of library calls, and the faults of texts.
+//! What each number means that the engines answer: the refusals of events and of library calls, and the faults of
+//! texts.
 //!
-//! The table (`table`) has a row for each: how it is written, what is said of an answer with it, how one gets there, what to
-//! do, and the kernel's error or call that it models. Nothing else spells these words: `tell_word` writes rows, and `sentence`
-//! is what `drm_words` says of a refusal. `explain` finds the row of a number, and answers `None` exactly for a number that
-//! `specs/Numbers` does not list. The documents tell the same words in their tables, and a test compares them.
+//! The table (`table`) has a row for each number: its form, what is said of an answer with it, how one gets there, what
+//! to do, and the kernel's error or call in its place. Nothing else spells these words: `tell_word` writes rows, and
+//! `sentence` is what `drm_words` says of a refusal. `explain` finds the row of a number, and answers `None` exactly
+//! for a number that `specs/Numbers` does not list. The documents have the same words in their tables, and a test
+//! compares them.
 #![tactic(auto)]
 
 mod explanation;

@@ -1,14 +1,14 @@
 //! The table: a row for each number of a refusal and of a fault, in the order of the numbers.
 //!
-//! It stands in four parts, and each is lent by a function of its own: what is proved of a function grows with the square of
-//! the constants that it borrows.
+//! It stands in four parts, and each is lent by a function of its own: what is proved of a function grows with the
+//! square of the constants that it borrows.
 
 ghost use Rattle.std.specs.Prelude.{◌≡◌, map};
 ghost use Rattle.drm_explain.specs.Rows.{context_rows, device_rows, job_rows, text_rows, told};
 
-/// A row of the table, part by part: the number; how it is written where it is met, with the letters of its fields; what is
-/// said of an answer with it, with `%` in place of each number, once for each case that is told apart; how one gets there;
-/// what to do; the kernel's error or call that it stands for; and further lines, each with its line end.
+/// A row of the table, part by part: the number; how it is written where it is met, with the letters of its fields;
+/// what is said of an answer with it, with `%` in place of each number, once for each case that is told apart; how one
+/// gets there; what to do; the kernel's error or call that it stands for; and further lines, each with its line end.
 pub type Row = (
     u32,
     &'static str,

@@ -17,7 +17,7 @@ fn put_line(text: &mut Vec<u8>, title: &str, line: &str) -> Result<(), AllocErro
     text.extend_from_slice(b"\n")
 }
 
-/// The lines that tell a row: its form, how one gets there, what to do, the kernel's answer, and the details.
+/// Returns the lines that tell a row: its form, how one gets there, what to do, the kernel's answer, and the details.
 pub fn row_text(alloc: Global, row: &Row) -> Result<Vec<u8>, AllocError>
     ensures { IfOk result (λ text. text.items ≡ text_of (told row.now)) }
 {
@@ -50,7 +50,7 @@ fn put_rows(text: &mut Vec<u8>, table: &[Row]) -> Result<(), AllocError>
     Ok(())
 }
 
-/// One line for each number in ascending order: its form, and how one gets there.
+/// Returns one line for each number in ascending order: its form, and how one gets there.
 pub fn list_text(alloc: Global) -> Result<Vec<u8>, AllocError>
     ensures text { IfOk result (λ text. text.items ≡ flat_map line_of rows) }
     ensures numbers { map (λ row. row.number) rows ≡ numbers }

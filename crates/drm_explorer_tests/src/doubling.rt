@@ -5,8 +5,8 @@ ghost use Rattle.drm_explorer_tests.specs.Doubling.{Doubles, doubled, form_of, k
 use drm_explorer::System;
 use std::alloc::{AllocError, Global};
 
-/// A number below eight, at first 0. A move doubles it, adds one or not, and keeps three binary digits: so each number is
-/// three moves away at most.
+/// A number below eight, at first 0. A move doubles it, adds one or not, and keeps three binary digits: so each number
+/// is three moves away at most.
 pub struct Doubling;
 
 // The number after one move.

@@ -12,7 +12,7 @@ pub struct Links {
     pub behind: usize,
 }
 
-/// This many places, each in a list of its own, with room for more.
+/// Makes this many places, each in a list of its own, with room for more.
 pub fn empty_rings(alloc: Global, places: usize, more: u32) -> Result<Vec<Links>, AllocError>
     requires { places ≤ 4096 }
     ensures places { IfOk result (λ links. length links.items ≡ places) }

@@ -26,7 +26,7 @@ pub enum Release {
 }
 
 impl Release {
-    /// The fence that it comes from.
+    /// Returns the fence that it comes from.
     pub fn fence(self) -> FenceId
         ensures { result ≡ fence_of self }
     {
@@ -36,7 +36,7 @@ impl Release {
         }
     }
 
-    /// Whether this pair waits no more.
+    /// Returns whether this pair waits no more.
     pub fn releases(self, pair: Pair) -> bool
         ensures { result ≡ is_released self pair }
     {

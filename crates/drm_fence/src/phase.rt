@@ -16,7 +16,7 @@ pub enum Phase {
 }
 
 impl Phase {
-    /// Whether the finished fence has signaled (`dma_fence_is_signaled`).
+    /// Returns whether the finished fence has signaled (`dma_fence_is_signaled`).
     pub fn is_ended(self) -> bool
         ensures { result ≡ has_ended self }
     {
@@ -27,8 +27,8 @@ impl Phase {
         }
     }
 
-    /// What others are told of the finished fence (`dma_fence_get_status`): 0 while it is active, 1 after a good
-    /// end, else the negative error code.
+    /// Returns what others are told of the finished fence (`dma_fence_get_status`): 0 while it is active, 1 after a
+    /// good end, else the negative error code.
     pub fn status(self) -> i32
         ensures { result ≡ status_of self }
     {

@@ -21,7 +21,7 @@ pub struct Table {
 }
 
 impl Table {
-    /// No pairs and no lists, with room for this many entities and fences.
+    /// Makes a table of no pairs and no lists, with room for this many entities and fences.
     pub fn new(alloc: Global, entities: usize, fences: u32) -> Result<Table, AllocError>
         requires { entities ≤ 64 }
         ensures linked { IfOk result (λ t. IsLinked t.cells.items t.unmet.items t.links.items) }
@@ -37,7 +37,7 @@ impl Table {
         })
     }
 
-    /// How many fences have a list: those of the first numbers. Nobody waits for another.
+    /// Returns how many fences have a list: those of the first numbers. Nobody waits for any other fence.
     pub fn lists(&self) -> usize
         requires { length self.now.cells.items ≤ length self.now.links.items }
         ensures { result + length self.now.cells.items ≡ length self.now.links.items }
@@ -45,7 +45,7 @@ impl Table {
         self.links.len() - self.cells.len()
     }
 
-    /// One list more, with nothing in it.
+    /// Adds a list with nothing in it.
     pub fn add_list(&mut self)
         requires linked { IsLinked self.old.cells.items self.old.unmet.items self.old.links.items }
         requires places { length self.old.cells.items ≤ length self.old.links.items }
@@ -135,7 +135,7 @@ impl Table {
         self.unmet[pair.entity as usize] -= 1;
     }
 
-    /// The pair at a place, if there is one.
+    /// Returns the pair at a place, if there is one.
     pub fn pair_at(&self, place: usize) -> Option<Pair>
         ensures some { IfSome result (λ p. slice_get self.now.cells.items place ≡ Some (Some p)) }
         ensures none { IfNone result ((p : Pair) → slice_get self.now.cells.items place ≢ Some (Some p)) }

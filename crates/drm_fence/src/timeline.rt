@@ -42,7 +42,7 @@ impl Model for Timeline {
 }
 
 impl Timeline {
-    /// No fence yet, with room for this many. It takes the memory of all of them at once.
+    /// Makes a timeline with no fence yet, with room for this many. It takes the memory of all of them at once.
     pub fn new(alloc: Global, max_jobs: u32) -> Result<Timeline, AllocError>
         ensures { IfOk result (λ t. (t.places ≡ max_jobs) × (t.list ≡ [])) }
     {
@@ -52,7 +52,7 @@ impl Timeline {
         })
     }
 
-    /// How many fences there are: the number that the next one gets.
+    /// Returns how many fences there are: the number that the next one gets.
     pub fn armed(&self) -> u32
         ensures count { result ≡ length self.now.list }
         ensures within { length self.now.list ≤ self.now.places }
@@ -61,14 +61,14 @@ impl Timeline {
         self.fences.len() as u32
     }
 
-    /// Whether there is no room for one fence more.
+    /// Returns whether there is no room for one fence more.
     pub fn is_full(&self) -> bool
         ensures { result ≡ (length self.now.list == self.now.places) }
     {
         self.fences.len() == self.places as usize
     }
 
-    /// One fence more, of a job that is queued and has run nothing (`drm_sched_job_arm`). Answers its number.
+    /// Adds a fence, of a job that is queued and has run nothing (`drm_sched_job_arm`). It returns the fence's number.
     pub fn arm(&mut self) -> FenceId
         requires { length self.old.list < self.old.places }
         ensures number { result ≡ length self.old.list }
@@ -83,7 +83,7 @@ impl Timeline {
         fence
     }
 
-    /// How far the job is.
+    /// Returns how far the job is.
     pub fn phase(&self, fence: FenceId) -> Phase
         requires { fence < length self.now.list }
         ensures { phase_at self.now.list fence ≡ Some result }
@@ -91,7 +91,7 @@ impl Timeline {
         self.fences[fence as usize].phase
     }
 
-    /// How many packets of the job have run.
+    /// Returns how many packets of the job have run.
     pub fn ran(&self, fence: FenceId) -> u32
         requires { fence < length self.now.list }
         ensures { ran_at self.now.list fence ≡ Some result }
@@ -99,7 +99,7 @@ impl Timeline {
         self.fences[fence as usize].ran
     }
 
-    /// Whether the fence is there and has an outcome (`dma_fence_is_signaled`).
+    /// Returns whether the fence is there and has an outcome (`dma_fence_is_signaled`).
     pub fn has_ended(&self, fence: FenceId) -> bool
         ensures { result ≡ has_ended_at self.now.list fence }
     {
@@ -109,8 +109,8 @@ impl Timeline {
         }
     }
 
-    /// The status of the fence (`dma_fence_get_status`), as `Phase::status` tells it. `NoFence` where no job of this
-    /// number is armed.
+    /// Returns the status of the fence (`dma_fence_get_status`), as `Phase::status` tells it. `NoFence` where no job of
+    /// this number is armed.
     pub fn status(&self, fence: FenceId) -> Result<i32, NoFence>
         ensures ok { IfOk result (λ s. option_map status_of (phase_at self.now.list fence) ≡ Some s) }
         ensures err { IfErr result (λ e. e.fence ≡ fence) }
@@ -122,7 +122,7 @@ impl Timeline {
         }
     }
 
-    /// The job goes to its ring: its scheduled fence signals (`drm_sched_fence_scheduled`).
+    /// Sends the job to its ring: its scheduled fence signals (`drm_sched_fence_scheduled`).
     pub fn schedule(&mut self, fence: FenceId)
         requires { phase_at self.old.list fence ≡ Some Phase.Queued }
         ensures list { self.new.list ≡ with_phase self.old.list fence Phase.Scheduled }
@@ -132,7 +132,7 @@ impl Timeline {
         state.phase = Phase::Scheduled;
     }
 
-    /// One packet more of a scheduled job has run.
+    /// Counts a packet of a scheduled job that has run.
     pub fn count_packet(&mut self, fence: FenceId)
         requires scheduled { phase_at self.old.list fence ≡ Some Phase.Scheduled }
         requires fits { IfSome (ran_at self.old.list fence) (λ n. n + 1 < 2 ^ 32) }
@@ -143,7 +143,7 @@ impl Timeline {
         state.ran += 1;
     }
 
-    /// The fence ends with this outcome, which it keeps (`drm_sched_fence_finished`). A fence ends once.
+    /// Ends the fence with this outcome, which it keeps (`drm_sched_fence_finished`). A fence ends once.
     pub fn finish(&mut self, fence: FenceId, outcome: Outcome)
         requires there { fence < length self.old.list }
         requires active { IsFalse (has_ended_at self.old.list fence) }

@@ -30,7 +30,8 @@ impl Model for Waiters {
 }
 
 impl Waiters {
-    /// Nobody waits. The memory is taken at once, for at most one pair of each two entities of the device.
+    /// Makes a table in which nobody waits. The memory is taken at once, for at most one pair of each two entities of
+    /// the device.
     pub fn new(alloc: Global, spec: &DeviceSpec) -> Result<Waiters, AllocError>
         requires { length spec.now.entities ≤ 64 }
         ensures { IfOk result (λ w. w ≡ record { entities = length spec.now.entities; fences = spec.now.max_jobs; pairs = [] }) }
@@ -52,7 +53,7 @@ impl Waiters {
         }
     }
 
-    /// The entity waits for the fence, which is of the entity `of`; early, where it waits only until the fence is
+    /// Lets the entity wait for the fence, which is of the entity `of`; early, if it waits only until the fence is
     /// scheduled (`drm_sched_entity_add_dependency_cb`). It waits for one fence of an entity at a time.
     pub fn watch(&mut self, entity: EntityId, fence: FenceId, of: EntityId, early: bool)
         requires entity { entity < self.old.entities }
@@ -73,21 +74,21 @@ impl Waiters {
         self.table.put(entity as usize * 64 + of as usize, pair);
     }
 
-    /// How many entities there are.
+    /// Returns how many entities there are.
     pub fn entities(&self) -> usize
         ensures { result ≡ self.now.entities }
     {
         self.table.unmet.len()
     }
 
-    /// How many fences there may be.
+    /// Returns how many fences there may be.
     pub fn fences(&self) -> u32
         ensures { result ≡ self.now.fences }
     {
         self.fences
     }
 
-    /// Whether the entity waits for a fence of the entity `of`. One look-up.
+    /// Returns whether the entity waits for a fence of the entity `of`. It is one look-up.
     pub fn is_watching(&self, entity: EntityId, of: EntityId) -> bool
         requires entity { entity < self.now.entities }
         requires of { of < self.now.entities }
@@ -96,7 +97,8 @@ impl Waiters {
         self.table.cells[entity as usize * 64 + of as usize].is_some()
     }
 
-    /// How many fences each entity waits for, by its place in the device. For who looks at many entities.
+    /// Returns how many fences each entity waits for, by its place in the device. It serves a caller that looks at many
+    /// entities.
     pub fn counts(&self) -> &[u32]
         ensures entities { length result.now ≡ self.now.entities }
         ensures counts { (entity : ℕ) → get_or result.now entity 0 ≡ unmet_in self.now.pairs entity }
@@ -104,14 +106,14 @@ impl Waiters {
         &self.table.unmet
     }
 
-    /// How many fences the entity waits for: none, where it is not there. One look-up.
+    /// Returns how many fences the entity waits for: none, where it is not there. It is one look-up.
     pub fn unmet(&self, entity: EntityId) -> u32
         ensures { result ≡ unmet_in self.now.pairs entity }
     {
         self.counts().get(entity as usize).copied().unwrap_or(0)
     }
 
-    /// The fence was scheduled: its early pairs are met.
+    /// Notes that the fence was scheduled: its early pairs are met.
     pub fn scheduled(&mut self, fence: FenceId)
         ensures { self.new ≡ record self.old { pairs = without_early self.old.pairs fence } }
     {
@@ -120,7 +122,7 @@ impl Waiters {
         }
     }
 
-    /// The fence ended: all its pairs are met.
+    /// Notes that the fence ended: all its pairs are met.
     pub fn ended(&mut self, fence: FenceId)
         ensures { self.new ≡ record self.old { pairs = without_fence self.old.pairs fence } }
     {
@@ -129,7 +131,7 @@ impl Waiters {
         }
     }
 
-    /// The entity waits for nothing any more.
+    /// Lets the entity wait for nothing any more.
     pub fn forget(&mut self, entity: EntityId)
         ensures { self.new ≡ record self.old { pairs = without_entity self.old.pairs entity } }
     {

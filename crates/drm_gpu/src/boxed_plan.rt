@@ -41,8 +41,8 @@ pub(crate) fn box_of(alloc: Global, kept: Option<JobBox>) -> Result<JobBox, Allo
     }
 }
 
-/// A job in its box, with the fences that it waits for once they are collected (`drm_sched_job`). It is handed over as one
-/// word. Contracts see the plan that it is.
+/// A job in its box, with the fences that it waits for once they are collected (`drm_sched_job`). It is handed over as
+/// one word. Contracts see the plan that it is.
 #[derive(Drop)]
 pub(crate) struct BoxedPlan {
     boxed: JobBox,
@@ -128,7 +128,8 @@ impl BoxedPlan {
         }
     }
 
-    /// Arms the job, and adds its uses to the reservations that are held, as `Device::arm`. The box that comes back is empty.
+    /// Arms the job, and adds its uses to the reservations that are held, as `Device::arm`. The box that comes back is
+    /// empty.
     ///
     /// # Errors
     ///

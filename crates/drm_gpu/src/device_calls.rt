@@ -42,7 +42,7 @@ impl Gpu {
     ///
     /// # Errors
     ///
-    /// `Idle` where nothing is pending, or `NotComplete`.
+    /// `Idle` if nothing is pending, or `NotComplete`.
     pub fn finish<R: Wait>(
         &self,
         pass: &mut Pass,
@@ -129,7 +129,7 @@ impl Gpu {
         }
     }
 
-    /// How many jobs were armed, and how many have an outcome.
+    /// Returns how many jobs were armed, and how many have an outcome.
     pub fn counts<R: Wait>(&self, pass: &mut Pass, rt: &R) -> (u32, u32)
         requires pass { pass.old.gpu ≡ self.now }
         ensures call { Calls (CountsAre result) pass.old pass.new }
@@ -165,13 +165,13 @@ impl Gpu {
         checked
     }
 
-    /// The status of the job's finished fence (`dma_fence_get_status`): 0 while the job goes on, 1 once it has run to its
-    /// end, -125 (`-ECANCELED`) where it was cut short, -3 (`-ESRCH`) where it never ran. It is one look at the fence's word
-    /// and never waits.
+    /// Returns the status of the job's finished fence (`dma_fence_get_status`): 0 while the job goes on, 1 once it has
+    /// run to its end, -125 (`-ECANCELED`) where it was cut short, -3 (`-ESRCH`) where it never ran. It is one look at
+    /// the fence's word and never waits.
     ///
     /// # Errors
     ///
-    /// Where no job of this number is armed.
+    /// `NoFence` if no job of this number is armed.
     pub fn status(&self, pass: &mut Pass, fence: FenceId) -> Result<i32, NoFence>
         requires { pass.old.gpu ≡ self.now }
         ensures { AnswersStatus self.now.spec.max_jobs fence result pass.old pass.new }

@@ -9,7 +9,8 @@ use std::marker::Model;
 use std::snapshot::Snapshot;
 use ww_lock::Ward;
 
-/// A packet that a ring has out, which its caller runs beside the device: what the device waits for while nobody has it.
+/// A packet that a ring has out, which its caller runs beside the device: what the device waits for while nobody has
+/// it.
 #[derive(Drop)]
 pub struct Task {
     pub(crate) ring: RingId,

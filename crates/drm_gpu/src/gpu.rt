@@ -47,7 +47,7 @@ pub struct Closed {
     pub records: Sequence<JobRecord>,
     /// The last bytes of each buffer.
     pub buffers: Store,
-    /// The reservation of each buffer. One that was held is not there.
+    /// The reservation of each buffer. A reservation that was held is not there.
     pub resvs: Vec<Option<Resv>>,
 }
 
@@ -89,11 +89,11 @@ fn has_packet_out(device: &Device) -> bool
 }
 
 impl Gpu {
-    /// A device to which nothing has happened, and the first pass to it.
+    /// Makes a device to which nothing has happened, and the first pass to it.
     ///
     /// # Errors
     ///
-    /// Where the description is out of its limits, or memory is refused.
+    /// It fails if the description is out of its limits, or there is no memory.
     pub fn build(alloc: Global, spec: DeviceSpec) -> Result<(Gpu, Pass), BuildError>
         ensures gpu { IfOk result (λ t. (t.0.spec ≡ spec) × (spec_fault spec ≡ None)) }
         ensures pass { IfOk result (λ t. t.1 ≡ first_pass t.0) }
@@ -154,8 +154,8 @@ impl Gpu {
     ///
     /// # Errors
     ///
-    /// Where memory for the list of reservations is refused, or somebody has the device out or a packet that was not
-    /// reported.
+    /// It fails if there is no memory for the list of reservations, or if somebody has the device out or a packet that
+    /// was not reported.
     pub fn close(self, alloc: Global, pass: Pass) -> Result<Closed, CloseError>
         requires { pass.gpu ≡ self }
         ensures closed { IfOk result (Leaves pass) }

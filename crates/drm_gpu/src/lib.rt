@@ -1,15 +1,17 @@
-//! The device that threads share: `drm_sched`'s device behind one lock, and a wait-die lock for each buffer's reservation.
+//! The device that threads share: `drm_sched`'s device behind one lock, and a wait-die lock for each buffer's
+//! reservation.
 //!
-//! Threads share a `Gpu` by reference, and each has a `Pass` of its own. With a pass a caller drives the device, or begins
-//! a submission, which goes through `Locking`, `Locked`, `Planned` and `Armed` back to the pass, or a `Reading`. Contracts
-//! see what a pass knows of the device: each call tells which device it found, what it left there, and that it did what the
-//! device's own call does. Whatever other passes do meanwhile, no call is lost and none works on an old copy.
+//! Threads share a `Gpu` by reference, and each has a `Pass` of its own. With a pass a caller drives the device, or
+//! begins a submission, which goes through `Locking`, `Locked`, `Planned` and `Armed` back to the pass, or a `Reading`.
+//! Contracts see what a pass knows of the device: each call tells which device it found, what it left there, and that
+//! it did what the device's own call does. Whatever other passes do meanwhile, no call is lost and none works on an old
+//! copy.
 //!
 //! # The calls of a caller
 //!
-//! These are the bodies of three functions of `drm_gpu_tests` (`src/calling.rt`, word for word). The first submits a job,
-//! which `Gpu::check` made of a draft: it begins, locks what the job declares, plans, arms and gives the buffers back. What
-//! is refused on the way hands the pass back.
+//! These are the bodies of three functions of `drm_gpu_tests` (`src/calling.rt`, word for word). The first submits a
+//! job, which `Gpu::check` made of a draft: it begins, locks what the job declares, plans, arms and gives the buffers
+//! back. What is refused on the way hands the pass back.
 //!
 //! ```text
 //! let locking = match gpu.begin(alloc, pass, job, rt) {
@@ -30,8 +32,8 @@
 //! }
 //! ```
 //!
-//! `lock_all` backs off by itself. One that locks two buffers by hand gives back what it holds when it has to back off, and
-//! begins anew with the buffer that was contended, for which it may wait:
+//! `lock_all` backs off by itself. A caller that locks two buffers by hand releases what it holds if it has to back
+//! off. Then it begins anew with the contended buffer, for which it may wait:
 //!
 //! ```text
 //! let mut next = first;

@@ -240,8 +240,8 @@ impl Gpu {
     ///
     /// # Errors
     ///
-    /// Where memory is refused, and then the pass and the job come back as they were; or where all tickets were drawn, which
-    /// the pass knows from then on: it never begins again.
+    /// It fails if there is no memory, and then the pass and the job come back as they were. It also fails if all
+    /// tickets were drawn, which the pass knows from then on: it never begins again.
     pub fn begin<'g, R: Wait>(
         &'g self,
         alloc: Global,
@@ -278,8 +278,8 @@ impl Gpu {
     ///
     /// # Errors
     ///
-    /// Where memory is refused, and then the pass comes back as it was; or where all tickets were drawn, which the pass knows
-    /// from then on: it never begins again.
+    /// It fails if there is no memory, and then the pass comes back as it was. It also fails if all tickets were drawn,
+    /// which the pass knows from then on: it never begins again.
     pub fn begin_read<'g, R: Wait>(
         &'g self,
         alloc: Global,
@@ -309,26 +309,26 @@ impl Gpu {
 }
 
 impl<'g> Locking<'g> {
-    /// The ticket that was drawn: the lower is the older.
+    /// Returns the ticket that was drawn: the lower is the older.
     pub fn ticket(&self) -> Ticket
         ensures { result ≡ self.now.ticket }
     {
         self.acquire.ticket()
     }
 
-    /// What is submitted.
+    /// Returns what is submitted.
     pub fn job(&self) -> &Job
         ensures { result.now ≡ self.now.job }
     {
         self.plan.job()
     }
 
-    /// The status of a job's finished fence, while the caller takes its locks (`dma_fence_get_status` within a
+    /// Returns the status of a job's finished fence, while the caller takes its locks (`dma_fence_get_status` within a
     /// `drm_exec` context), as `Gpu::status` tells it: one look at the fence's word, which never waits.
     ///
     /// # Errors
     ///
-    /// Where no job of this number is armed.
+    /// `NoFence` if no job of this number is armed.
     pub fn status(&mut self, fence: FenceId) -> Result<i32, NoFence>
         ensures status { AnswersStatus self.old.pass.gpu.spec.max_jobs fence result self.old.pass self.new.pass }
         ensures same { self.new ≡ record self.old { pass = self.new.pass } }
@@ -337,7 +337,7 @@ impl<'g> Locking<'g> {
         gpu.status_at(&mut self.acquire.seat, fence)
     }
 
-    /// Whether the buffer is held.
+    /// Returns whether the buffer is held.
     pub fn is_held(&self, buffer: BufferId) -> bool
         ensures held { result ≡ true → (x : Reservation) × In (buffer, x) self.now.held }
         ensures lacks { result ≡ false → Lacks buffer self.now.held }
@@ -345,14 +345,14 @@ impl<'g> Locking<'g> {
         has_buffer(self.acquire.held(), buffer)
     }
 
-    /// How many buffers are held.
+    /// Returns how many buffers are held.
     pub fn held_count(&self) -> usize
         ensures { result ≡ length self.now.held }
     {
         self.acquire.held().len()
     }
 
-    /// The buffer at this place among those that are held, in the order in which they were locked.
+    /// Returns the buffer at this place among those that are held, in the order in which they were locked.
     pub fn held_at(&self, place: usize) -> Option<BufferId>
         ensures { result ≡ option_map (λ h. h.0) (slice_get self.now.held place) }
     {
@@ -402,8 +402,8 @@ impl<'g> Locking<'g> {
         gpu.board.release(&mut self.acquire, buffer);
     }
 
-    /// Gives back everything that is held (`drm_exec_unlock_all`): what a caller does who has to back off, before it locks
-    /// the contended buffer by `lock_slow`.
+    /// Gives back everything that is held (`drm_exec_unlock_all`): what a caller does who has to back off, before it
+    /// locks the contended buffer by `lock_slow`.
     pub fn release_all(&mut self)
         ensures { self.new ≡ record self.old { held = [] } }
     {
@@ -411,8 +411,8 @@ impl<'g> Locking<'g> {
         release_all(gpu, &mut self.acquire);
     }
 
-    /// Locks every buffer that the job declares, and no other. Where it is told to back off it gives back everything
-    /// that it holds, and begins anew with the buffer that was contended, for whose holder it waits.
+    /// Locks every buffer that the job declares, and no other. If it is told to back off, it gives back everything that
+    /// it holds, and begins anew with the buffer that was contended, for whose holder it waits.
     pub fn lock_all<R: Wait>(self, rt: &R) -> Locked<'g>
         ensures rounds { LocksAll self.entry result }
         ensures holds { HoldsAll result.job result.held }
@@ -428,11 +428,11 @@ impl<'g> Locking<'g> {
         Locked { gpu, acquire, plan }
     }
 
-    /// Locks no more (`ww_acquire_done`), where every buffer that the job declares is held.
+    /// Locks no more (`ww_acquire_done`), if every buffer that the job declares is held.
     ///
     /// # Errors
     ///
-    /// Where one is not. The submission comes back as it was.
+    /// It fails if one is not held. The submission comes back as it was.
     pub fn ready(self) -> Result<Locked<'g>, Locking<'g>>
         ensures ready { IfOk result (λ l. (l ≡ self.entry) × HoldsAll l.job l.held) }
         ensures not_all { IfErr result (λ l. (l ≡ self.entry) × (HoldsAll l.job l.held → ⊥)) }
@@ -460,19 +460,19 @@ impl<'g> Locking<'g> {
 }
 
 impl<'g> Locked<'g> {
-    /// What is submitted.
+    /// Returns what is submitted.
     pub fn job(&self) -> &Job
         ensures { result.now ≡ self.now.job }
     {
         self.plan.job()
     }
 
-    /// The status of a job's finished fence, while every declared buffer is held (`dma_fence_get_status` within a
-    /// `drm_exec` context), as `Gpu::status` tells it: one look at the fence's word, which never waits.
+    /// Returns the status of a job's finished fence, while every declared buffer is held (`dma_fence_get_status` within
+    /// a `drm_exec` context), as `Gpu::status` tells it: one look at the fence's word, which never waits.
     ///
     /// # Errors
     ///
-    /// Where no job of this number is armed.
+    /// `NoFence` if no job of this number is armed.
     pub fn status(&mut self, fence: FenceId) -> Result<i32, NoFence>
         ensures status { AnswersStatus self.old.pass.gpu.spec.max_jobs fence result self.old.pass self.new.pass }
         ensures same { self.new ≡ record self.old { pass = self.new.pass } }

@@ -10,8 +10,8 @@ use ww_lock::Seat;
 
 pub(crate) type DeviceSeat = Seat<Device, Resv, Task>;
 
-/// A pass to a device, for one caller (an open file of a `drm_device`). Contracts see what the caller knows of the device;
-/// its only bytes are what its last submission left: the emptied list of what it held, and the box of its job.
+/// A pass to a device, for one caller (an open file of a `drm_device`). Contracts see what the caller knows of the
+/// device; its only bytes are what its last submission left: the emptied list of what it held, and the box of its job.
 #[derive(Drop)]
 pub struct Pass {
     pub(crate) seat: DeviceSeat,

@@ -43,13 +43,13 @@ impl<'g> Model for Reading<'g> {
 }
 
 impl<'g> Reading<'g> {
-    /// Copies the buffer's bytes, once every armed job that writes it has ended (`dma_resv_test_signaled`). It waits while
-    /// the buffer is out with a packet.
+    /// Copies the buffer's bytes, once every armed job that writes it has ended (`dma_resv_test_signaled`). It waits
+    /// while the buffer is out with a packet.
     ///
     /// # Errors
     ///
-    /// `Busy`, with the least fence without outcome among the reservation's entries of WRITE and stronger. Then nothing is
-    /// copied.
+    /// `Busy`, with the least fence without outcome among the reservation's entries of WRITE and stronger. Then nothing
+    /// is copied.
     pub fn read_into<R: Wait>(&mut self, out: &mut [u8], rt: &R) -> Result<(), ReadError>
         requires { length out.old ≡ length (bytes_of self.old.pass.gpu.spec.buffers self.old.buffer) }
         ensures call { Calls (ReadIs self.old result out.old out.new) self.old.pass self.new.pass }
@@ -64,12 +64,12 @@ impl<'g> Reading<'g> {
         answer
     }
 
-    /// The status of a job's finished fence, while the buffer is held (`dma_fence_get_status`), as `Gpu::status` tells
-    /// it: one look at the fence's word, which never waits.
+    /// Returns the status of a job's finished fence, while the buffer is held (`dma_fence_get_status`), as
+    /// `Gpu::status` tells it: one look at the fence's word, which never waits.
     ///
     /// # Errors
     ///
-    /// Where no job of this number is armed.
+    /// `NoFence` if no job of this number is armed.
     pub fn status(&mut self, fence: FenceId) -> Result<i32, NoFence>
         ensures status { AnswersStatus self.old.pass.gpu.spec.max_jobs fence result self.old.pass self.new.pass }
         ensures same { self.new ≡ record self.old { pass = self.new.pass } }

@@ -59,8 +59,8 @@ pub enum StartError {
     Idle(Pass),
 }
 
-/// A packet that runs beside the device (a job on the hardware, between `run_job` and its interrupt). It has the packet's
-/// buffers, and its ring does nothing else until it is reported. One that is dropped is never reported.
+/// A packet that runs beside the device (a job on the hardware, between `run_job` and its interrupt). It has the
+/// packet's buffers, and its ring does nothing else until it is reported. A packet that is dropped is never reported.
 #[derive(Drop)]
 pub struct Running<'g> {
     gpu: &'g Gpu,
@@ -191,7 +191,7 @@ impl Gpu {
     ///
     /// # Errors
     ///
-    /// Where there is no packet to run now. The pass comes back.
+    /// It fails if there is no packet to run now. The pass comes back.
     pub fn start<'g, R: Wait>(
         &'g self,
         pass: Pass,
@@ -216,12 +216,12 @@ impl Gpu {
         }
     }
 
-    /// Runs one packet of the first pending job of the ring that has some left: `start` and `run` in one. It waits while a
-    /// packet that is out blocks the step.
+    /// Runs one packet of the first pending job of the ring that has some left: `start` and `run` in one. It waits
+    /// while a packet that is out blocks the step.
     ///
     /// # Errors
     ///
-    /// `Idle` where no pending job of the ring has packets left.
+    /// `Idle` if no pending job of the ring has packets left.
     pub fn step<R: Wait>(&self, pass: &mut Pass, ring: RingId, rt: &R) -> Result<Stepped, StepError>
         requires pass { pass.old.gpu ≡ self.now }
         requires ring { ring < length self.now.spec.rings }
@@ -236,14 +236,14 @@ impl Gpu {
 }
 
 impl<'g> Running<'g> {
-    /// The job's fence.
+    /// Returns the job's fence.
     pub fn fence(&self) -> FenceId
         ensures { result ≡ self.now.fence }
     {
         self.out.fence
     }
 
-    /// Tells whether no packet of its job comes behind it: once it has run, the job is complete.
+    /// Returns whether no packet of its job comes behind it: once it has run, the job is complete.
     pub fn is_last(&self) -> bool
         ensures { result ≡ self.now.is_last }
     {
@@ -251,7 +251,7 @@ impl<'g> Running<'g> {
     }
 
     /// Runs the packet on its own buffers, with no lock held, and then reports it to the device (`drm_sched_job_done`
-    /// comes of the last one's interrupt): its job has run one packet more. Answers `Ran`, and the pass.
+    /// comes of the last one's interrupt): its job has run one packet more. It returns the pass, and `Ran`.
     pub fn run<R: Wait>(self, rt: &R) -> (Pass, Stepped)
         ensures ran { result.1 ≡ Ran self.entry.fence self.entry.packet }
         ensures call { Calls (StepIs self.entry.ring (Ok result.1)) self.entry.pass result.0 }

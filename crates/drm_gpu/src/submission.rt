@@ -93,7 +93,7 @@ impl<'g> Locked<'g> {
     ///
     /// # Errors
     ///
-    /// Where memory is refused. The submission comes back as it was.
+    /// It fails if there is no memory. The submission comes back as it was.
     pub fn plan(self) -> Result<Planned<'g>, Locked<'g>>
         ensures planned { IfOk result (λ p. (p.submission ≡ self.entry) × IsCollected p.submission.job p.submission.held p.deps) }
         ensures refused { IfErr result (λ l. l ≡ self.entry) }
@@ -122,7 +122,7 @@ impl<'g> Planned<'g> {
     ///
     /// # Errors
     ///
-    /// Where the device refuses the job. The submission comes back as it was planned.
+    /// It fails if the device refuses the job. The submission comes back as it was planned.
     pub fn arm<R: Wait>(self, rt: &R) -> Result<Armed<'g>, (Planned<'g>, ArmError)>
         ensures armed { IfOk result (λ a. Calls (ArmIs self.entry.submission.job self.entry.deps self.entry.submission.held a.held a.fence) self.entry.submission.pass a.pass) }
         ensures refused { IfErr result (λ x. Calls (ArmRefused self.entry.submission.job x.1) self.entry.submission.pass x.0.submission.pass × (x.0 ≡ record self.entry { submission = record self.entry.submission { pass = x.0.submission.pass } })) }
@@ -155,19 +155,19 @@ impl<'g> Planned<'g> {
         }
     }
 
-    /// What is submitted.
+    /// Returns what is submitted.
     pub fn job(&self) -> &Job
         ensures { result.now ≡ self.now.submission.job }
     {
         self.plan.job()
     }
 
-    /// The status of a job's finished fence, before the job is armed (`dma_fence_get_status` within a `drm_exec`
-    /// context), as `Gpu::status` tells it: one look at the fence's word, which never waits.
+    /// Returns the status of a job's finished fence, before the job is armed (`dma_fence_get_status` within a
+    /// `drm_exec` context), as `Gpu::status` tells it: one look at the fence's word, which never waits.
     ///
     /// # Errors
     ///
-    /// Where no job of this number is armed.
+    /// `NoFence` if no job of this number is armed.
     pub fn status(&mut self, fence: FenceId) -> Result<i32, NoFence>
         ensures status { AnswersStatus self.old.submission.pass.gpu.spec.max_jobs fence result self.old.submission.pass self.new.submission.pass }
         ensures same { self.new ≡ record self.old { submission = record self.old.submission { pass = self.new.submission.pass } } }
@@ -187,19 +187,19 @@ impl<'g> Planned<'g> {
 }
 
 impl<'g> Armed<'g> {
-    /// The job's finished fence.
+    /// Returns the job's finished fence.
     pub fn fence(&self) -> FenceId
         ensures { result ≡ self.now.fence }
     {
         self.fence
     }
 
-    /// The status of a job's finished fence, before the buffers are given back (`dma_fence_get_status` within a
+    /// Returns the status of a job's finished fence, before the buffers are given back (`dma_fence_get_status` within a
     /// `drm_exec` context), as `Gpu::status` tells it: one look at the fence's word, which never waits.
     ///
     /// # Errors
     ///
-    /// Where no job of this number is armed.
+    /// `NoFence` if no job of this number is armed.
     pub fn status(&mut self, fence: FenceId) -> Result<i32, NoFence>
         ensures status { AnswersStatus self.old.pass.gpu.spec.max_jobs fence result self.old.pass self.new.pass }
         ensures same { self.new ≡ record self.old { pass = self.new.pass } }

@@ -1,4 +1,5 @@
-//! The calls of a caller, as the head of `drm_gpu` shows them: one that submits a job, one that locks by hand, and a reader.
+//! The calls of a caller, as the head of `drm_gpu` shows them: one that submits a job, one that locks by hand, and a
+//! reader.
 ghost use Rattle.std.specs.Prelude.{◌≡◌, ◌<◌, [], length};
 ghost use Rattle.drm_buffer.specs.Memory.{bytes_of};
 ghost use Rattle.drm_job.specs.Fault.{IsJob};

@@ -1,7 +1,8 @@
 //! Tests of the device that threads share, by its public items alone, on one thread and in threads.
 //!
 //! All of them run on one small device, a pair: two buffers of four zeros, two rings, and on each ring an entity. The
-//! helpers of this file make it and its jobs; those of `calls` make the calls of a pass and say what has to be answered.
+//! helpers of this file make it and its jobs; those of `calls` make the calls of a pass and say what has to be
+//! answered.
 #![tactic(auto)]
 
 ghost use Rattle.std.specs.Prelude.{◌≡◌, [], ◌∷◌, replicate, IfOk, IfSome};

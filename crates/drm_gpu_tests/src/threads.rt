@@ -34,8 +34,8 @@ struct Worker {
     finished: u32,
 }
 
-// The job of a round. What a buffer holds after all of them hangs on their order: some fill it, some double it, and some
-// add the other one. They declare the two buffers in either order.
+// The job of a round. What a buffer holds after all of them hangs on their order: some fill it, some double it, and
+// some add the other one. They declare the two buffers in either order.
 fn job_of_round(alloc: Global, number: u32, round: u32) -> Option<Job>
     ensures { IfSome result (λ job. IsJob (pair_of 8) job) }
 {
@@ -146,7 +146,8 @@ fn submit<R: Wait + Abort>(gpu: &Gpu, worker: Worker, round: u32, rt: &R, alloc:
     }
 }
 
-// One look at a ring: it takes a job, runs two packets and ends one, where there are such. Others do the same meanwhile.
+// One look at a ring: it takes a job, runs two packets and ends one, where there are such. Others do the same
+// meanwhile.
 fn drive<R: Wait + Abort>(gpu: &Gpu, worker: &mut Worker, ring: RingId, rt: &R)
     requires { IsPair gpu.now.spec × (worker.old.pass.gpu ≡ gpu.now) × (ring < 2) }
     ensures { worker.new.pass.gpu ≡ gpu.now }

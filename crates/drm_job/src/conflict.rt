@@ -5,11 +5,11 @@ ghost use Rattle.drm_job.specs.Conflicts.{conflicts as conflicts_with, must_wait
 use crate::job::Job;
 use drm_types::{Access, BufferId, adds, wanted};
 
-/// Whether an earlier and a later job conflict: at a buffer that both declare, the later waits for the usage that the
-/// earlier adds, as the reservation asks.
+/// Returns whether an earlier and a later job conflict: at a buffer that both declare, the later waits for the usage
+/// that the earlier adds, as the reservation asks.
 ///
-/// So two jobs conflict where one writes and the other reads or writes, or where one of them moves the buffer. A hold
-/// and a read or write do not, nor do two holds.
+/// So two jobs conflict if one writes and the other reads or writes, or if one of them moves the buffer. A hold and a
+/// read or write do not, nor do two holds.
 pub fn conflicts(earlier: &Job, later: &Job) -> bool
     ensures { result ≡ conflicts_with earlier.now later.now }
 {

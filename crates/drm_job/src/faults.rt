@@ -32,8 +32,9 @@ pub fn check(draft: Draft, spec: &DeviceSpec) -> Result<Job, (Draft, JobFault)>
     }
 }
 
-/// The first fault of the draft, in the order of `JobFault`, if it has one. Who keeps the draft where it stands asks here, and makes
-/// a job of it by `Job::of_sound`: a draft that `check` takes over and gives back is copied twice.
+/// Returns the first fault of the draft, in the order of `JobFault`, if it has one. A caller that keeps the draft where
+/// it stands asks here, and makes a job of it by `Job::of_sound`: a draft that `check` takes over and gives back is
+/// copied twice.
 pub fn first_fault(draft: &Draft, spec: &DeviceSpec) -> Option<JobFault>
     ensures { result ≡ job_fault spec.now draft.now }
 {

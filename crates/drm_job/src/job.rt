@@ -8,8 +8,8 @@ use drm_packet::Packet;
 use drm_types::{Access, BufferId, EntityId, FenceId};
 use std::marker::Model;
 
-/// A job of a device (`drm_sched_job`), which `check` made of a draft, or `of_sound` of one without a fault. It stays as it
-/// is, and its packets stay within what it declares.
+/// A job of a device (`drm_sched_job`), which `check` made of a draft, or `of_sound` of one without a fault. It stays
+/// as it is, and its packets stay within what it declares.
 #[derive(Drop)]
 pub struct Job {
     pub(crate) draft: Draft,
@@ -27,7 +27,7 @@ impl Model for Job {
 }
 
 impl Job {
-    /// The job that a draft is which has no fault on a device.
+    /// Makes the job of a draft that has no fault on a device.
     #[inline(always)]
     pub fn of_sound(draft: Draft) -> Job
         requires { (spec : DeviceSpec) × IsJob spec draft }
@@ -36,35 +36,35 @@ impl Job {
         Job { draft }
     }
 
-    /// The entity whose queue takes the job.
+    /// Returns the entity whose queue takes the job.
     pub fn entity(&self) -> EntityId
         ensures { result ≡ self.now.entity }
     {
         self.draft.entity
     }
 
-    /// What the job counts of its ring's credits while it is pending.
+    /// Returns what the job counts of its ring's credits while it is pending.
     pub fn credits(&self) -> u16
         ensures { result ≡ self.now.credits }
     {
         self.draft.credits
     }
 
-    /// The buffers that it uses, each once, and how.
+    /// Returns the buffers that it uses, each once, and how.
     pub fn declared(&self) -> &[(BufferId, Access)]
         ensures { result.now ≡ self.now.declared }
     {
         self.draft.declared.as_slice()
     }
 
-    /// The fences that it waits for beside those of the buffers.
+    /// Returns the fences that it waits for beside those of the buffers.
     pub fn after(&self) -> &[FenceId]
         ensures { result.now ≡ self.now.after }
     {
         self.draft.after.as_slice()
     }
 
-    /// Its work, in order.
+    /// Returns its work, in order.
     pub fn packets(&self) -> &[Packet]
         ensures packets { result.now ≡ self.now.packets }
         ensures within { StaysWithin self.now }
@@ -72,7 +72,7 @@ impl Job {
         self.draft.packets.as_slice()
     }
 
-    /// One of its packets, by its place.
+    /// Returns one of its packets, by its place.
     pub fn packet(&self, place: u32) -> Packet
         requires { place < length self.now.packets }
         ensures { slice_get self.now.packets place ≡ Some result }
@@ -80,21 +80,21 @@ impl Job {
         self.packets()[place as usize]
     }
 
-    /// How the job declares the buffer, if it does.
+    /// Returns how the job declares the buffer, if it does.
     pub fn access_of(&self, buffer: BufferId) -> Option<Access>
         ensures { result ≡ access_in self.now buffer }
     {
         self.draft.access_of(buffer)
     }
 
-    /// Whether the job declares the buffer.
+    /// Returns whether the job declares the buffer.
     pub fn uses(&self, buffer: BufferId) -> bool
         ensures { result ≡ is_some (access_in self.now buffer) }
     {
         self.access_of(buffer).is_some()
     }
 
-    /// The draft that the job was made of, given back.
+    /// Gives back the draft that the job was made of.
     pub fn into_draft(self) -> Draft
         ensures { result ≡ self }
     {
@@ -104,7 +104,7 @@ impl Job {
 }
 
 impl Draft {
-    /// How the draft declares the buffer, if it does.
+    /// Returns how the draft declares the buffer, if it does.
     pub fn access_of(&self, buffer: BufferId) -> Option<Access>
         ensures { result ≡ access_in self.now buffer }
     {

@@ -1,9 +1,9 @@
 //! Laws over the definitions, on functions that do nothing.
 ghost use Rattle.drm_job.specs.Laws.{JobsAreTheSoundDrafts, JobsStayWithin, JobsRunInTheirDevice};
 
-/// A draft is a job of a device exactly where it is sound: its entity and its buffers are there, it counts a credit,
-/// its lists are short, no buffer is declared twice, only an entity of KERNEL priority moves, and its packets stay
-/// within what it declares and within their buffers.
+/// A draft is a job of a device exactly if it is sound. Its entity and its buffers are there, it counts a credit, its
+/// lists are short, no buffer is declared twice. Its entity is of KERNEL priority, or no declaration is a move. Its
+/// packets stay within what it declares and within their buffers.
 pub fn jobs_are_the_sound_drafts()
     ensures { JobsAreTheSoundDrafts }
 {}

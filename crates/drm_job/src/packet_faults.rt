@@ -10,8 +10,8 @@ use crate::job::declared_as;
 use drm_packet::Packet;
 use drm_types::{Access, BufferId, Sequence};
 
-// The fault of one packet, of a job that declares these on a device that has these buffers. The ranges are tested where the
-// kind of the packet is known.
+// The fault of one packet, of a job that declares these on a device that has these buffers. The ranges are tested where
+// the kind of the packet is known.
 #[inline]
 pub(crate) fn packet_fault(
     declared: &[(BufferId, Access)],

@@ -17,8 +17,8 @@ enum Items<T> {
     Many(Vec<T>),
 }
 
-/// A list that contracts see as a list. A single item stands in the value itself, and only more than one take memory: most
-/// jobs use one buffer and have one packet.
+/// A list that contracts see as a list. A single item stands in the value itself, and only more than one take memory:
+/// most jobs use one buffer and have one packet.
 #[derive(Drop)]
 pub struct ShortList<T> {
     alloc: Global,
@@ -35,7 +35,7 @@ impl<T> Model for ShortList<T> {
 }
 
 impl<T> ShortList<T> {
-    /// An empty list, which takes no memory yet.
+    /// Makes an empty list, which takes no memory yet.
     pub fn new(alloc: Global) -> ShortList<T>
         ensures { result ≡ [] }
     {
@@ -45,7 +45,7 @@ impl<T> ShortList<T> {
         }
     }
 
-    /// The list of these items, in the memory that they have.
+    /// Makes the list of these items, in the memory that they have.
     pub fn from_vec(items: Vec<T>) -> ShortList<T>
         ensures { result ≡ items.items }
     {
@@ -55,7 +55,7 @@ impl<T> ShortList<T> {
         }
     }
 
-    /// An empty list with room for so many items. It takes memory only for more than one.
+    /// Makes an empty list with room for so many items. It takes memory only for more than one.
     pub fn with_capacity(alloc: Global, capacity: usize) -> Result<ShortList<T>, AllocError>
         ensures { IfOk result (λ list. list ≡ []) }
     {
@@ -66,7 +66,7 @@ impl<T> ShortList<T> {
         Ok(ShortList::from_vec(items))
     }
 
-    /// The items, to look at.
+    /// Lends the items.
     #[inline]
     pub fn as_slice(&self) -> &[T]
         ensures { result.now ≡ self.now }
@@ -78,7 +78,7 @@ impl<T> ShortList<T> {
         }
     }
 
-    /// How many items there are.
+    /// Returns how many items there are.
     #[inline]
     pub fn len(&self) -> usize
         ensures { result ≡ length self.now }
@@ -86,7 +86,7 @@ impl<T> ShortList<T> {
         self.as_slice().len()
     }
 
-    /// Whether there is no item.
+    /// Returns whether there is no item.
     #[inline]
     pub fn is_empty(&self) -> bool
         ensures { result ≡ is_nil self.now }
@@ -106,7 +106,7 @@ fn pair<T: Copy>(alloc: Global, first: T, second: T) -> Result<Vec<T>, AllocErro
 }
 
 impl<T: Copy> ShortList<T> {
-    /// The list of these items.
+    /// Makes the list of these items.
     pub fn from_slice(alloc: Global, items: &[T]) -> Result<ShortList<T>, AllocError>
         ensures { IfOk result (λ list. list ≡ items.now) }
     {

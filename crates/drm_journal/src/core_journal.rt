@@ -25,7 +25,7 @@ fn outcome_of(phase: Phase) -> Option<Outcome>
 }
 
 impl JournalJob {
-    /// What a journal tells of an armed job.
+    /// Returns what a journal tells of an armed job.
     pub fn of_record(armed: JobRecord) -> JournalJob
         ensures { result ≡ told_of armed }
     {
@@ -76,8 +76,9 @@ fn tell_buffers(
 }
 
 impl Journal {
-    /// The journal of a device that has closed: of its records in arming order, and of the bytes in its store. Where these
-    /// are the bytes of the machine that runs the jobs one after another, a check of the journal finds no difference.
+    /// Returns the journal of a device that has closed: of its records in arming order, and of the bytes in its store.
+    /// If these are the bytes of the machine that runs the jobs one after another, a check of the journal finds no
+    /// difference.
     pub fn of_records(
         alloc: Global,
         spec: DeviceSpec,
@@ -96,8 +97,8 @@ impl Journal {
         Ok(Journal::new(spec, jobs, finals))
     }
 
-    /// The journal of what the core did, whatever that was. The machine that runs its jobs one after another leaves
-    /// its last bytes, so a check of it finds no difference.
+    /// Returns the journal of what the core did, whatever that was. The machine that runs its jobs one after another
+    /// leaves its last bytes, so a check of it finds no difference.
     pub fn of_core(alloc: Global, core: Core) -> Result<Journal, AllocError>
         ensures value { IfOk result (λ journal. journal ≡ journal_left core) }
         ensures same { IfOk result (λ journal. left_by journal ≡ journal.finals) }

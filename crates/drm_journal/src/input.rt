@@ -9,7 +9,7 @@ use drm_stream::{InputError, Source, read_input, to_input_error};
 use std::alloc::Global;
 use std::io::Read;
 
-/// The journal that all bytes of the reader spell.
+/// Reads the journal that all bytes of the reader spell.
 pub fn read_journal_from<R: Read>(
     alloc: Global,
     reader: &mut Source<R>,

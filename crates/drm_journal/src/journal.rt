@@ -50,7 +50,7 @@ impl Model for Journal {
 }
 
 impl Journal {
-    /// The journal of these parts.
+    /// Makes the journal of these parts.
     pub fn new(
         spec: DeviceSpec,
         jobs: Sequence<JournalJob>,
@@ -62,7 +62,7 @@ impl Journal {
         Journal { spec, jobs, finals }
     }
 
-    /// The device. A caller learns here what holds of every journal.
+    /// Returns the device. A caller learns here what holds of every journal.
     pub fn spec(&self) -> &DeviceSpec
         ensures value { result.now ≡ self.now.spec }
         ensures stands { IsJournal self.now }
@@ -70,14 +70,14 @@ impl Journal {
         &self.spec
     }
 
-    /// The jobs, in the order in which they were armed.
+    /// Returns the jobs, in the order in which they were armed.
     pub fn jobs(&self) -> &[JournalJob]
         ensures { result.now ≡ self.now.jobs }
     {
         self.jobs.as_slice()
     }
 
-    /// The last bytes of each buffer.
+    /// Returns the last bytes of each buffer.
     pub fn finals(&self) -> &[Sequence<u8>]
         ensures { result.now ≡ self.now.finals }
     {
@@ -142,8 +142,8 @@ fn are_earlier(fences: &[FenceId], number: usize) -> bool
     fences.iter().all(|fence| (*fence as usize) < number)
 }
 
-/// Whether the device can have armed the job of this draft under this number: it has no fault, waits only for earlier jobs, and
-/// can have run its packets. It is judged where it stands, and copied once it is known to be a job.
+/// Whether the device can have armed the job of this draft under this number: it has no fault, waits only for earlier
+/// jobs, and can have run its packets. It is judged where it stands, and copied once it is known to be a job.
 #[tactic(auto, unfolding(drm_parse::specs::Job::is_job))]
 fn can_be_armed(
     spec: &DeviceSpec,
@@ -352,7 +352,7 @@ fn read_text(alloc: Global, text: &[u8]) -> Result<Journal, ReadError>
     Ok(Journal::new(spec, jobs, finals))
 }
 
-/// The journal that the text spells. It succeeds, refused memory apart, exactly on the texts that spell one, and
+/// Reads the journal that the text spells. It succeeds, refused memory apart, exactly on the texts that spell one, and
 /// else tells the text's first fault.
 pub fn read_journal(alloc: Global, text: &[u8]) -> Result<Journal, ReadError>
     ensures value { Gives (λ journal. journal) result (judge_journal text.now) }

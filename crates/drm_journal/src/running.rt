@@ -20,8 +20,8 @@ use std::alloc::Global;
 use std::io::Read;
 use std::mem;
 
-/// The buffers of a journal: those that its jobs leave when they run one after another, each with the packets that it has run, and
-/// those that it tells.
+/// The buffers of a journal: those that its jobs leave when they run one after another, each with the packets that it
+/// has run, and those that it tells.
 #[derive(Drop)]
 pub struct JournalBuffers {
     pub left: Sequence<Sequence<u8>>,
@@ -94,8 +94,9 @@ fn run_text(alloc: Global, text: &[u8]) -> Result<JournalBuffers, ReadError>
     })
 }
 
-/// The buffers of the journal that the text spells. Each job runs as soon as it is read, so the journal takes the memory of its
-/// buffers alone. It succeeds, refused memory apart, exactly where `read_journal` does, and else tells the same fault.
+/// Runs the journal that the text spells, and returns its buffers. Each job runs as soon as it is read, so the journal
+/// takes the memory of its buffers alone. It succeeds, refused memory apart, exactly where `read_journal` does, and
+/// else tells the same fault.
 pub fn run_journal(alloc: Global, text: &[u8]) -> Result<JournalBuffers, ReadError>
     ensures value { Gives (λ buffers. buffers) result (judge_buffers text.now) }
     ensures stands { IfOk result AreOfAJournal }
@@ -104,7 +105,7 @@ pub fn run_journal(alloc: Global, text: &[u8]) -> Result<JournalBuffers, ReadErr
     run_text(alloc, text)
 }
 
-/// The buffers of the journal that all bytes of the reader spell.
+/// Runs the journal that all bytes of the reader spell, and returns its buffers.
 pub fn run_journal_from<R: Read>(
     alloc: Global,
     reader: &mut Source<R>,

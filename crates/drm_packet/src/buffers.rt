@@ -48,7 +48,7 @@ impl Buffers {
         }
     }
 
-    /// The buffers, to look at.
+    /// Lends the buffers.
     pub fn as_slice(&self) -> &[BufferId]
         ensures { result.now ≡ self.now }
     {

@@ -12,7 +12,7 @@ use drm_buffer::{Buffer, Store};
 use drm_types::BufferId;
 
 impl Packet {
-    /// The buffer that the packet writes: none, where it is a stall.
+    /// Returns the buffer that the packet writes: none, where it is a stall.
     pub fn target(&self) -> Option<BufferId>
         ensures { result ≡ target_of self.now }
     {
@@ -23,7 +23,7 @@ impl Packet {
         }
     }
 
-    /// The other buffer that the packet reads, where it reads another than it writes.
+    /// Returns the other buffer that the packet reads, if it reads another than it writes.
     pub fn source(&self) -> Option<BufferId>
         ensures { result ≡ source_of self.now }
     {
@@ -71,7 +71,7 @@ impl Packet {
         }
     }
 
-    /// Whether a buffer is out that the packet reads or writes.
+    /// Returns whether a buffer is out that the packet reads or writes.
     pub fn asks_out(&self, store: &Store) -> bool
         ensures { result ≡ list_any (is_out_of store.now) (touches self.now) }
     {
@@ -112,8 +112,8 @@ impl Packet {
         put_into(store, self.source(), read);
     }
 
-    /// Runs the packet in a store in which its buffers are in: they go out, it runs on them, and they come back. A stall
-    /// changes nothing. It takes no memory.
+    /// Runs the packet in a store in which its buffers are in: they go out, it runs on them, and they come back. A
+    /// stall changes nothing. It takes no memory.
     pub fn run_in(&self, store: &mut Store)
         requires range { IsTrue (is_in_range self.now store.old.bytes) }
         requires target { (t : ℕ) → target_of self.now ≡ Some t → slice_get store.old.out t ≡ Some false }

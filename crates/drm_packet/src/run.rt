@@ -9,7 +9,7 @@ use drm_buffer::{Memory, size_in};
 use drm_types::{BufferId, Sequence};
 
 impl Packet {
-    /// The buffers that the packet reads.
+    /// Returns the buffers that the packet reads.
     pub fn reads(&self) -> Buffers
         ensures { result ≡ read_by self.now }
     {
@@ -20,7 +20,7 @@ impl Packet {
         }
     }
 
-    /// The buffers that the packet writes.
+    /// Returns the buffers that the packet writes.
     pub fn writes(&self) -> Buffers
         ensures { result ≡ written_by self.now }
     {
@@ -31,14 +31,14 @@ impl Packet {
         }
     }
 
-    /// Whether each range of the packet has at least one byte and lies within its buffer, which is there.
+    /// Returns whether each range of the packet has at least one byte and lies within its buffer, which is there.
     pub fn in_range(&self, memory: &Memory) -> bool
         ensures { result ≡ is_in_range self.now memory.now }
     {
         self.lies_within(memory.buffers())
     }
 
-    /// The same of buffers that are in no memory yet, as those of a device's description.
+    /// Returns what `in_range` does, of buffers that are in no memory yet, as those of a device's description.
     pub fn lies_within(&self, buffers: &[Sequence<u8>]) -> bool
         ensures { result ≡ is_in_range self.now buffers.now }
     {

@@ -185,7 +185,7 @@ fn add_header_line(
     Ok(section)
 }
 
-/// The device that the next lines describe, up to the line `go`.
+/// Reads the device that the next lines describe, up to the line `go`.
 #[tactic(auto, unfolding(crate::specs::Header::header_of))]
 pub fn read_header(alloc: Global, lines: &mut Lines) -> Result<DeviceSpec, ReadError>
     ensures value { Gives (λ spec. (spec, lines.new)) result (header_at lines.old) }

@@ -35,8 +35,8 @@ fn has_colon(word: &[u8]) -> bool
     word.iter().any(|b| *b == b':')
 }
 
-/// What a word without a colon is that keeps its buffer from others, by its first byte. It stands apart, since more than four ways
-/// at once become a jump through a table.
+/// What a word without a colon is that keeps its buffer from others, by its first byte. It stands apart, since more
+/// than four ways at once become a jump through a table.
 #[inline(never)]
 fn held_kind(word: &[u8]) -> Option<Kind>
     ensures { result ≡ held_by_first word.now }
@@ -60,7 +60,8 @@ fn first_kind(word: &[u8]) -> Option<Kind>
     }
 }
 
-/// What a word is read as: where it begins as no declaration and no fence, a packet, whose name then tells whether it is one.
+/// What a word is read as: where it begins as no declaration and no fence, a packet, whose name then tells whether it
+/// is one.
 fn read_kind(word: &[u8]) -> Kind
     ensures { result ≡ kind_read word.now }
 {
@@ -308,8 +309,8 @@ fn read_tail(position: Position, word: &[u8]) -> Result<u32, Fault>
     }
 }
 
-/// How many packets to take room for, where one is read and so many bytes of the line are left. They spell more only where
-/// their packets are shorter than most, or where the job has too many.
+/// How many packets to take room for, where one is read and so many bytes of the line are left. They spell more only
+/// where their packets are shorter than most, or where the job has too many.
 fn most_packets(left: usize) -> usize
     ensures least { 1 ≤ result }
     ensures most { result ≤ 64 }
@@ -317,8 +318,8 @@ fn most_packets(left: usize) -> usize
     (1 + left.div_ceil(PACKET_BYTES)).min(MAX_PACKETS)
 }
 
-/// Adds a packet, behind which `left` bytes of the line are left. Where there are some, the first one takes room for the packets
-/// that these may spell too, so that a list mostly takes memory once.
+/// Adds a packet, behind which `left` bytes of the line are left. Where there are some, the first one takes room for
+/// the packets that these may spell too, so that a list mostly takes memory once.
 fn add_packet(
     alloc: Global,
     packets: &mut ShortList<Packet>,
@@ -398,7 +399,7 @@ fn fill_job(alloc: Global, draft: &mut Draft, words: &mut Words) -> Result<(), R
     add_words(alloc, draft, words)
 }
 
-/// The job that the words left spell.
+/// Reads the job that the words left spell.
 #[inline(always)]
 pub fn read_job(alloc: Global, words: &mut Words) -> Result<Draft, ReadError>
     ensures { Gives (λ d. d) result (job_at words.old) }
@@ -423,7 +424,7 @@ pub fn push_job(alloc: Global, jobs: &mut Vec<Draft>, words: &mut Words) -> Resu
     fill_job(alloc, &mut jobs[place], words)
 }
 
-/// The draft as a job of the device.
+/// Returns the draft as a job of the device.
 #[tactic(auto, unfolding(crate::specs::Job::is_job))]
 pub fn make_job(draft: Draft, spec: &DeviceSpec) -> Option<Job>
     ensures some { IfSome result (λ job. (job ≡ draft) × IsTrue (is_job spec.now draft)) }

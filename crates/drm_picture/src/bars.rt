@@ -37,8 +37,8 @@ pub enum Kind {
     Lock,
     /// A fence, from the arming of its job to its outcome.
     Fence,
-    /// A job that waits for a buffer, from its arming to the outcome of the last fence that holds it up there. It may wait
-    /// for several at once.
+    /// A job that waits for a buffer, from its arming to the outcome of the last fence that holds it up there. It may
+    /// wait for several at once.
     Waiting,
 }
 
@@ -404,7 +404,7 @@ fn first_end(kind: Kind, opening: Opening, behind: &[Step]) -> Option<usize>
     behind.iter().position(|step| is_end(kind, opening, step))
 }
 
-// The same, where none of so many steps at the begin ends it.
+// Returns what `first_end` does, if none of so many steps at the begin ends it.
 fn end_place(kind: Kind, opening: Opening, behind: &[Step], skipped: usize) -> Option<usize>
     requires { none_ends kind opening (take skipped behind.now) }
     ensures { result ≡ position (ends kind opening) behind.now }
@@ -554,7 +554,8 @@ pub(crate) fn push_bar(bars: &mut Vec<Bar>, found: Option<Bar>) -> Result<(), Al
     }
 }
 
-/// The bars of a kind that last beyond a place of the run, which arms jobs of these entities. From its end on, so that the place where each ends is known.
+/// The bars of a kind that last beyond a place of the run, which arms jobs of these entities. From its end on, so that
+/// the place where each ends is known.
 pub(crate) fn bars(
     alloc: Global,
     kind: Kind,

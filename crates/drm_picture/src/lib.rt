@@ -1,9 +1,10 @@
 //! A picture of a run: what happened to each ring, entity, buffer and fence, command by command.
 //!
 //! A run is a list of steps: a command, which is an event with the entity of its job, that job, and the answer. A
-//! `Picture` of a part of it is plain data: bars, from the command that begins something to the one that ends it; marks,
-//! at one command; waits, from one fence to an earlier one; columns, one for each command. `specs/Pictures` says which
-//! they are. Places are those of the whole run. How a picture is laid out and written is the work of the crates above.
+//! `Picture` of a part of it is plain data: bars, from the command that begins something to the one that ends it;
+//! marks, at one command; waits, from one fence to an earlier one; columns, one for each command. `specs/Pictures` says
+//! which they are. Places are those of the whole run. How a picture is laid out and written is the work of the crates
+//! above.
 #![tactic(auto)]
 
 mod bars;

@@ -47,7 +47,7 @@ pub struct Picture {
     pub waits: Vec<Wait>,
 }
 
-/// The steps of a run from one place to before another.
+/// Returns the steps of a run from one place to before another.
 pub fn part(steps: &[Step], from: usize, to: usize) -> &[Step]
     ensures { result.now ≡ part_of from to steps.now }
 {
@@ -55,7 +55,7 @@ pub fn part(steps: &[Step], from: usize, to: usize) -> &[Step]
     &run[from.min(run.len())..]
 }
 
-/// The picture of a run of a device of this shape, from one place to before another.
+/// Returns the picture of a run of a device of this shape, from one place to before another.
 pub fn picture_of(
     alloc: Global,
     shape: Shape,

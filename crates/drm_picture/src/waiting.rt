@@ -1,4 +1,5 @@
-//! Waiting: at which buffers a job waits, from where it is armed until the last fence that holds it up there has its outcome.
+//! Waiting: at which buffers a job waits, from where it is armed until the last fence that holds it up there has its
+//! outcome.
 
 ghost use Rattle.std.specs.Option.{option_copied};
 ghost use Rattle.std.specs.List.{All};
@@ -148,7 +149,7 @@ fn push_waiting(
     Ok(())
 }
 
-// The same, of fences of which only those that are armed before can hold the job up.
+// Adds the bars as `push_waiting` does. Of the fences only those that are armed before can hold the job up.
 fn push_waits(
     bars: &mut Vec<Bar>,
     run: &[Step],

@@ -15,8 +15,8 @@ use drm_state::Answer;
 use drm_types::{EntityId, FenceId};
 use std::alloc::{AllocError, Global};
 
-/// A job waits for an earlier one: where it was armed that one had no outcome, and it comes after it. Of several jobs of
-/// an entity the last stands for all, since they end in order.
+/// A job waits for an earlier one: where it was armed that one had no outcome, and it comes after it. Of several jobs
+/// of an entity the last stands for all, since they end in order.
 #[derive(Clone, Copy)]
 pub struct Wait {
     /// The fence of the job.
@@ -146,7 +146,7 @@ fn push_unseen(
     }
 }
 
-// The same of the fence of a bar, if it has no outcome at this place.
+// Adds the job of a bar of a fence, as `push_unseen` does, if its fence has no outcome at this place.
 fn push_earlier(
     jobs: &mut Vec<Earlier>,
     run: &[Step],
@@ -162,8 +162,8 @@ fn push_earlier(
     Ok(())
 }
 
-// Of the jobs that the later one comes after, and whose fences have no outcome at this place, the last of each entity, the
-// last first. The search goes from the last fence on, and stops where each entity has one.
+// Of the jobs that the later one comes after, and whose fences have no outcome at this place, the last of each entity,
+// the last first. The search goes from the last fence on, and stops where each entity has one.
 fn lasts_from_end(
     alloc: Global,
     run: &[Step],
@@ -185,7 +185,7 @@ fn lasts_from_end(
     Ok(jobs)
 }
 
-// The same in their order, of fences of which only those that are armed before count.
+// Returns the last jobs of the entities in their order. Of the fences only those that are armed before count.
 fn last_jobs(
     alloc: Global,
     run: &[Step],

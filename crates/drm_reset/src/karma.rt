@@ -32,7 +32,7 @@ fn count_one_more(count: &mut u16)
 }
 
 impl Karma {
-    /// The counts of a job that has met no hang.
+    /// Makes the counts of a job that has met no hang.
     pub fn zero() -> Karma
         ensures { result ≡ record { resets = 0; karma = 0 } }
     {
@@ -42,21 +42,21 @@ impl Karma {
         }
     }
 
-    /// How many hangs the job has met, at most 65,535.
+    /// Returns how many hangs the job has met, at most 65,535.
     pub fn resets(&self) -> u16
         ensures { result ≡ self.now.resets }
     {
         self.resets
     }
 
-    /// How many hangs the job is blamed for, at most 65,535 (`karma` of `struct drm_sched_job`).
+    /// Returns how many hangs the job is blamed for, at most 65,535 (`karma` of `struct drm_sched_job`).
     pub fn karma(&self) -> u16
         ensures { result ≡ self.now.karma }
     {
         self.karma
     }
 
-    /// Counts one more hang of a job whose entity has this priority (`drm_sched_increase_karma`), and answers whether
+    /// Counts one more hang of a job whose entity has this priority (`drm_sched_increase_karma`). It answers whether
     /// the karma is now above the hang limit of the ring, which makes the entity guilty.
     pub fn blame(&mut self, priority: Priority, hang_limit: u32) -> bool
         ensures counts { self.new ≡ blamed priority self.old }

@@ -26,7 +26,7 @@ impl Model for Deps {
 }
 
 impl Deps {
-    /// Nothing to wait for.
+    /// Makes a list with nothing to wait for.
     pub fn new() -> Deps
         ensures { result ≡ [] }
     {
@@ -34,36 +34,36 @@ impl Deps {
         Deps { list }
     }
 
-    /// Nothing is waited for any more. So a list that is kept for one job after another is filled with zeros once, as it is
-    /// made.
+    /// Empties the list: nothing is waited for any more. So a list that is kept for one job after another is filled
+    /// with zeros once, as it is made.
     pub fn clear(&mut self)
         ensures { self.new ≡ [] }
     {
         self.list.clear();
     }
 
-    /// How many entities there is a fence of.
+    /// Returns how many entities there is a fence of.
     pub fn len(&self) -> usize
         ensures { result ≡ length self.now }
     {
         self.list.len()
     }
 
-    /// Whether there is nothing to wait for.
+    /// Returns whether there is nothing to wait for.
     pub fn is_empty(&self) -> bool
         ensures { result ≡ (length self.now == 0) }
     {
         self.list.is_empty()
     }
 
-    /// Each entity with its fence, in the order in which the entities were first noted.
+    /// Returns each entity with its fence, in the order in which the entities were first noted.
     pub fn as_slice(&self) -> &[(EntityId, FenceId)]
         ensures { result.now ≡ self.now }
     {
         self.list.as_slice()
     }
 
-    /// The same, with what the type keeps of it.
+    /// Lends each entity with its fence, with what the type keeps of them.
     pub fn entries(&self) -> &[(EntityId, FenceId)]
         ensures list { result.now ≡ self.now }
         ensures once { IsPerEntity self.now }
@@ -72,7 +72,7 @@ impl Deps {
         &self.list
     }
 
-    /// The entity and the fence at a place, counted from 0.
+    /// Returns the entity and the fence at a place, counted from 0.
     pub fn at(&self, place: usize) -> (EntityId, FenceId)
         requires { place < length self.now }
         ensures { slice_get self.now place ≡ Some result }

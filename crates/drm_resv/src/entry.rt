@@ -17,8 +17,8 @@ pub struct Entry {
 }
 
 impl Entry {
-    /// Whether this new entry may stand in the place of an old one: the old fence has an outcome, or both are of one
-    /// entity, the new usage is at least as strong, and the new fence is no earlier.
+    /// Returns whether this new entry may stand in the place of an old one: the old fence has an outcome, or both are
+    /// of one entity, the new usage is at least as strong, and the new fence is no earlier.
     pub fn replaces(&self, old: &Entry, timeline: &Timeline) -> bool
         ensures { result ≡ replaces_in (has_ended_at timeline.now.list) self.now old.now }
     {

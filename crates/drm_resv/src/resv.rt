@@ -35,7 +35,7 @@ impl Model for Resv {
 }
 
 impl Resv {
-    /// The reservation of a buffer that nobody has used. It takes no memory yet.
+    /// Makes the reservation of a buffer that nobody has used. It takes no memory yet.
     pub fn new(alloc: Global) -> Resv
         ensures { result.kept ≡ record { entries = []; history = [] } }
     {
@@ -45,29 +45,29 @@ impl Resv {
         }
     }
 
-    /// The entries to wait for (`dma_resv_for_each_fence`).
+    /// Returns the entries to wait for (`dma_resv_for_each_fence`).
     pub fn fences(&self) -> &[Entry]
         ensures { result.now ≡ self.now.kept.entries }
     {
         &self.entries
     }
 
-    /// Each fence that was ever added, with its usage, in order. It is never cut.
+    /// Returns each fence that was ever added, with its usage, in order. It is never cut.
     pub fn history(&self) -> &[(FenceId, Usage)]
         ensures { result.now ≡ self.now.kept.history }
     {
         &self.history
     }
 
-    /// Whether there is room for one use more.
+    /// Returns whether there is room for one use more.
     pub fn has_room(&self) -> bool
         ensures { result ≡ self.now.has_room }
     {
         self.entries.len() < self.entries.capacity() && self.history.len() < self.history.capacity()
     }
 
-    /// Takes room for one use more (`dma_resv_reserve_fences`). Nothing but the room may change, and room that was there
-    /// stays, also where memory is refused. It asks for none where there is room, and so it cannot fail there.
+    /// Takes room for one use more (`dma_resv_reserve_fences`). Nothing but the room may change, and room that was
+    /// there stays, also where memory is refused. It asks for none where there is room, and so it cannot fail there.
     pub fn reserve(&mut self) -> Result<(), AllocError>
         ensures kept { self.new.kept ≡ self.old.kept }
         ensures ok { OnOk result (IsTrue self.new.has_room) }
@@ -90,8 +90,8 @@ impl Resv {
         }
     }
 
-    /// The least fence of the usage and of all stronger ones that has no outcome, if there is one: whom a reader of
-    /// the buffer still waits for (`dma_resv_test_signaled`).
+    /// Returns the least fence of the usage and of all stronger ones that has no outcome, if there is one: whom a
+    /// reader of the buffer still waits for (`dma_resv_test_signaled`).
     pub fn least_active(&self, usage: Usage, timeline: &Timeline) -> Option<FenceId>
         ensures { result ≡ least_active_of (has_ended_at timeline.now.list) usage self.now.kept.entries }
     {

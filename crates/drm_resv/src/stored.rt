@@ -16,8 +16,8 @@ pub(crate) struct Span {
     pub(crate) to: usize,
 }
 
-/// The fences that each armed job of a device waits for (`dependencies` of `struct drm_sched_job`), by the job's number.
-/// Contracts see the lists, and for how many jobs there is room.
+/// The fences that each armed job of a device waits for (`dependencies` of `struct drm_sched_job`), by the job's
+/// number. Contracts see the lists, and for how many jobs there is room.
 ///
 /// The lists stand one behind another in one list, whose room is taken at once for the most that so many jobs can wait
 /// for. What of that room is used is what they do wait for: memory that is never written costs a system nothing.
@@ -50,7 +50,8 @@ fn append(fences: &mut Vec<(EntityId, FenceId)>, entries: &[(EntityId, FenceId)]
 }
 
 impl StoredDeps {
-    /// No job has any yet. All memory that the lists of so many jobs need is taken here.
+    /// Makes the lists of a device, in which no job has any yet. All memory that the lists of so many jobs need is
+    /// taken here.
     pub fn new(alloc: Global, jobs: u32) -> Result<StoredDeps, AllocError>
         ensures { IfOk result (λ s. s ≡ record { lists = []; places = jobs }) }
     {
@@ -60,28 +61,29 @@ impl StoredDeps {
         Ok(StoredDeps { fences, spans })
     }
 
-    /// How many jobs have a list.
+    /// Returns how many jobs have a list.
     pub fn len(&self) -> usize
         ensures { result ≡ length self.now.lists }
     {
         self.spans.len()
     }
 
-    /// Whether no job has one.
+    /// Returns whether no job has one.
     pub fn is_empty(&self) -> bool
         ensures { result ≡ (length self.now.lists == 0) }
     {
         self.spans.is_empty()
     }
 
-    /// For how many jobs there is room.
+    /// Returns for how many jobs there is room.
     pub fn places(&self) -> usize
         ensures { result ≡ self.now.places }
     {
         self.spans.capacity()
     }
 
-    /// Each entity with the fence of it that the job waits for, in the order in which the entities were first noted.
+    /// Returns each entity with the fence of it that the job waits for, in the order in which the entities were first
+    /// noted.
     pub fn of(&self, job: usize) -> &[(EntityId, FenceId)]
         requires { job < length self.now.lists }
         ensures list { slice_get self.now.lists job ≡ Some result.now }
@@ -92,7 +94,7 @@ impl StoredDeps {
         &self.fences[from..to]
     }
 
-    /// The next job, for which there is room, waits for these. It takes no memory.
+    /// Adds the next job, for which there is room: it waits for these. It takes no memory.
     pub fn push(&mut self, deps: &Deps)
         requires { length self.old.lists < self.old.places }
         ensures lists { self.new.lists ≡ self.old.lists ++ deps.now ∷ [] }

@@ -23,21 +23,21 @@ impl Model for Credits {
 }
 
 impl Credits {
-    /// The credits of a ring with this limit and nothing pending.
+    /// Makes the credits of a ring with this limit and nothing pending.
     pub fn of(limit: u16) -> Credits
         ensures { result ≡ record { limit = limit; count = 0 } }
     {
         Credits { limit, count: 0 }
     }
 
-    /// How many credits there are.
+    /// Returns how many credits there are.
     pub fn limit(&self) -> u16
         ensures { result ≡ self.now.limit }
     {
         self.limit
     }
 
-    /// How many credits the pending jobs count.
+    /// Returns how many credits the pending jobs count.
     pub fn count(&self) -> u16
         ensures count { result ≡ self.now.count }
         ensures within { self.now.count ≤ self.now.limit }
@@ -45,21 +45,22 @@ impl Credits {
         self.count
     }
 
-    /// How many credits are left (`drm_sched_available_credits`).
+    /// Returns how many credits are left (`drm_sched_available_credits`).
     pub fn free(&self) -> u16
         ensures { result ≡ free_of self.now }
     {
         self.limit - self.count
     }
 
-    /// How many credits a job counts with: its own, and no more than the limit, so that each job fits an idle ring.
+    /// Returns how many credits a job counts with: its own, and no more than the limit, so that each job fits an idle
+    /// ring.
     pub fn need(&self, credits: u16) -> u16
         ensures { result ≡ need_of self.now credits }
     {
         credits.min(self.limit)
     }
 
-    /// One job more is pending, which fits.
+    /// Counts one job more that is pending, which fits.
     pub fn take(&mut self, credits: u16)
         requires { need_of self.old credits ≤ free_of self.old }
         ensures { self.new ≡ taken credits self.old }
@@ -67,7 +68,7 @@ impl Credits {
         self.count += credits.min(self.limit);
     }
 
-    /// A pending job has finished, which counted so much.
+    /// Takes off what a pending job counted, which has finished.
     pub fn give_back(&mut self, credits: u16)
         requires { need_of self.old credits ≤ self.old.count }
         ensures { self.new ≡ given_back credits self.old }

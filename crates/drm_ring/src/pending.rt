@@ -35,8 +35,8 @@ impl Model for PendingList {
 }
 
 impl PendingList {
-    /// Nothing pending, with room for as many jobs as there are credits, since each counts one at least. The room is
-    /// taken at once.
+    /// Makes a list with nothing pending, with room for as many jobs as there are credits, since each counts one at
+    /// least. The room is taken at once.
     pub fn new(alloc: Global, credit_limit: u16) -> Result<PendingList, AllocError>
         ensures { IfOk result (λ r. r ≡ record { state = record { pending = []; since = 0 }; passed = 0; credits = record { limit = credit_limit; count = 0 } }) }
     {
@@ -48,57 +48,56 @@ impl PendingList {
         })
     }
 
-    /// The numbers of the pending jobs.
+    /// Returns the numbers of the pending jobs.
     pub fn pending(&self) -> &VecDeque<FenceId>
         ensures { result.now.items ≡ self.now.state.pending }
     {
         &self.pending
     }
 
-    /// The first pending job.
+    /// Returns the first pending job.
     pub fn head(&self) -> Option<FenceId>
         ensures { result ≡ first self.now.state.pending }
     {
         self.pending.front().copied()
     }
 
-    /// The first job behind those that the ring is done with: the one whose packets it runs.
+    /// Returns the first job behind those that the ring is done with: the one whose packets it runs.
     pub fn current(&self) -> Option<FenceId>
         ensures { result ≡ slice_get self.now.state.pending self.now.passed }
     {
         self.pending.get(self.passed).copied()
     }
 
-    /// The moment from which the head's age counts.
+    /// Returns the moment from which the head's age counts.
     pub fn since(&self) -> Moment
         ensures { result ≡ self.now.state.since }
     {
         self.since
     }
 
-    /// The head's age counts from now.
+    /// Lets the head's age count from now.
     pub fn set_since(&mut self, now: Moment)
         ensures { self.new ≡ since_row now self.old }
     {
         self.since = now;
     }
 
-    /// The credits that the pending jobs count.
+    /// Returns the credits that the pending jobs count.
     pub fn credits(&self) -> &Credits
         ensures { result.now ≡ self.now.credits }
     {
         &self.credits
     }
 
-    /// Whether there is room for one more job.
+    /// Returns whether there is room for one more job.
     pub fn has_room(&self) -> bool
         ensures { result ≡ nat_lt (length self.now.state.pending) self.now.credits.limit }
     {
         self.pending.len() < self.credits.limit() as usize
     }
 
-    /// One job more, for which there is room, and which fits with its credits. The age of the first one counts from
-    /// now.
+    /// Adds a job, for which there is room, and which fits with its credits. The age of the first one counts from now.
     pub fn put(&mut self, number: FenceId, credits: u16, now: Moment)
         requires room { length self.old.state.pending < self.old.credits.limit }
         requires fits { need_of self.old.credits credits ≤ free_of self.old.credits }
@@ -111,7 +110,7 @@ impl PendingList {
         self.credits.take(credits);
     }
 
-    /// The head leaves, and gives its credits back. The age of the next one counts from now.
+    /// Takes the head out, and gives its credits back. The age of the next one counts from now.
     pub fn pop(&mut self, credits: u16, now: Moment)
         requires { need_of self.old.credits credits ≤ self.old.credits.count }
         ensures { self.new ≡ popped_row credits now self.old }
@@ -124,7 +123,7 @@ impl PendingList {
         self.credits.give_back(credits);
     }
 
-    /// The jobs that the ring is done with by now are passed over: those before the first one that is open.
+    /// Passes over the jobs that the ring is done with by now: those before the first one that is open.
     pub fn mark_skip<F: Fn(FenceId) -> bool>(&mut self, is_open: F)
         requires { F.IsAlwaysCallable is_open }
         ensures passes { PassesTo (F.post is_open) self.old.state.pending self.old.passed self.new.passed }

@@ -25,7 +25,7 @@ impl Model for Rings {
 }
 
 impl Rings {
-    /// The rings of a device, with nothing pending. Each has room for as many jobs as its credit limit, since a
+    /// Makes the rings of a device, with nothing pending. Each has room for as many jobs as its credit limit, since a
     /// pending job counts at least one credit; the room is taken at once.
     pub fn new(alloc: Global, spec: &DeviceSpec) -> Result<Rings, AllocError>
         ensures { IfOk result (λ r. r ≡ map idle_row spec.now.rings) }
@@ -37,14 +37,14 @@ impl Rings {
         Ok(Rings { lists })
     }
 
-    /// How many rings there are.
+    /// Returns how many rings there are.
     pub fn len(&self) -> usize
         ensures { result ≡ length self.now }
     {
         self.lists.len()
     }
 
-    /// The numbers of the ring's pending jobs.
+    /// Returns the numbers of the ring's pending jobs.
     pub fn pending(&self, ring: RingId) -> &VecDeque<FenceId>
         requires { ring < length self.now }
         ensures { result.now.items ≡ pending_at self.now ring }
@@ -52,7 +52,7 @@ impl Rings {
         self.lists[ring as usize].pending()
     }
 
-    /// The ring's first pending job.
+    /// Returns the ring's first pending job.
     pub fn head(&self, ring: RingId) -> Option<FenceId>
         requires { ring < length self.now }
         ensures { result ≡ head_at self.now ring }
@@ -60,7 +60,7 @@ impl Rings {
         self.lists[ring as usize].head()
     }
 
-    /// The ring's first pending job behind those that it is done with: the one whose packets it runs.
+    /// Returns the ring's first pending job behind those that it is done with: the one whose packets it runs.
     pub fn current(&self, ring: RingId) -> Option<FenceId>
         requires { ring < length self.now }
         ensures { result ≡ current_at self.now ring }
@@ -68,7 +68,7 @@ impl Rings {
         self.lists[ring as usize].current()
     }
 
-    /// The moment from which the head's age counts.
+    /// Returns the moment from which the head's age counts.
     pub fn since(&self, ring: RingId) -> Moment
         requires { ring < length self.now }
         ensures { IfSome (slice_get self.now ring) (λ r. result ≡ r.state.since) }
@@ -76,7 +76,7 @@ impl Rings {
         self.lists[ring as usize].since()
     }
 
-    /// The head's age counts from now: a hang was met.
+    /// Lets the head's age count from now: a hang was met.
     pub fn set_since(&mut self, ring: RingId, now: Moment)
         requires { ring < length self.old }
         ensures { self.new ≡ ring_row_changed self.old ring (since_row now) }
@@ -84,7 +84,7 @@ impl Rings {
         self.lists[ring as usize].set_since(now);
     }
 
-    /// The credits that the ring's pending jobs count.
+    /// Returns the credits that the ring's pending jobs count.
     pub fn credits(&self, ring: RingId) -> &Credits
         requires { ring < length self.now }
         ensures { IfSome (slice_get self.now ring) (λ r. result.now ≡ r.credits) }
@@ -92,8 +92,8 @@ impl Rings {
         self.lists[ring as usize].credits()
     }
 
-    /// Whether there is room for one more pending job on the ring. There is, where one more fits with its credits and
-    /// each job counts one at least.
+    /// Returns whether there is room for one more pending job on the ring. There is, where one more fits with its
+    /// credits and each job counts one at least.
     pub fn has_room(&self, ring: RingId) -> bool
         requires { ring < length self.now }
         ensures { IfSome (slice_get self.now ring) (λ r. result ≡ nat_lt (length r.state.pending) r.credits.limit) }
@@ -101,8 +101,8 @@ impl Rings {
         self.lists[ring as usize].has_room()
     }
 
-    /// One more job at the end of the ring's list (`drm_sched_job_begin`), for which there is room, and which fits with
-    /// its credits. Where nothing was pending it is the head, and its age counts from now.
+    /// Adds a job at the end of the ring's list (`drm_sched_job_begin`), for which there is room, and which fits with
+    /// its credits. If nothing was pending it is the head, and its age counts from now.
     pub fn put(&mut self, ring: RingId, number: FenceId, credits: u16, now: Moment)
         requires there { ring < length self.old }
         requires room { IfSome (slice_get self.old ring) (λ r. length r.state.pending < r.credits.limit) }
@@ -112,8 +112,8 @@ impl Rings {
         self.lists[ring as usize].put(number, credits, now);
     }
 
-    /// Takes the ring's head out (`drm_sched_get_finished_job`), and gives its credits back. Where another one becomes
-    /// the head, its age counts from now.
+    /// Takes the ring's head out (`drm_sched_get_finished_job`), and gives its credits back. If another one becomes the
+    /// head, its age counts from now.
     pub fn pop(&mut self, ring: RingId, credits: u16, now: Moment)
         requires there { ring < length self.old }
         requires counted { IfSome (slice_get self.old ring) (λ r. need_of r.credits credits ≤ r.credits.count) }
@@ -122,8 +122,8 @@ impl Rings {
         self.lists[ring as usize].pop(credits, now);
     }
 
-    /// The jobs that the ring is done with by now are passed over, up to the first one that is open: it runs no packet
-    /// of them any more. A job that was passed over is not asked about again.
+    /// Passes over the jobs that the ring is done with by now, up to the first one that is open: it runs no packet of
+    /// them any more. A job that was passed over is not asked about again.
     pub fn mark_skip<F: Fn(FenceId) -> bool>(&mut self, ring: RingId, is_open: F)
         requires there { ring < length self.old }
         requires callable { F.IsAlwaysCallable is_open }

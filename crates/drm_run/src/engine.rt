@@ -48,8 +48,9 @@ impl<'a, P: Progress> Gate for Open<'a, P> {
     }
 }
 
-/// Reads a script to its end, runs its jobs by so many submitters and by the workers of its rings, each with so many turns
-/// to try in vain, and writes the journal of the run. Moments are the readings of a counter. `progress` is told how far it is.
+/// Reads a script to its end, runs its jobs by so many submitters and by the workers of its rings, and writes the
+/// journal of the run. Each worker has so many turns to try in vain. Moments are the readings of a counter. `progress`
+/// is told how far it is.
 pub fn run<H: Threads + Wait + Sync, R: Read, W: Write, P: Progress + Sync>(
     alloc: Global,
     reader: &mut Source<R>,

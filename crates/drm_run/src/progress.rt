@@ -2,7 +2,7 @@
 
 /// Who is told how far a run is, while it goes on.
 pub trait Progress {
-    /// So many of all jobs have ended. A worker tells it, between two of its looks at the device.
+    /// Shows that so many of all jobs have ended. A worker calls it between two of its looks at the device.
     fn tell(&self, ended: u32, jobs: u32);
 }
 

@@ -1,5 +1,6 @@
-//! Tests of the engine `run`, with threads, by public items alone: scripts to journals between the reader and the writer of
-//! `drm_engine_tests`, which take their time and fail. Expected journals are written out, or are checked by the engine `check`.
+//! Tests of the engine `run`, with threads, by public items alone: scripts to journals between the reader and the
+//! writer of `drm_engine_tests`, which take their time and fail. Expected journals are written out, or are checked by
+//! the engine `check`.
 #![tactic(auto)]
 
 ghost use Rattle.std.specs.Prelude.{◌<◌, ◌≤◌, Some};

@@ -41,7 +41,7 @@ impl Model for RunQueue {
 }
 
 impl RunQueue {
-    /// Nothing queued, with room for this many entities, which is taken at once.
+    /// Makes a queue with nothing in it, and room for this many entities, which is taken at once.
     pub fn new(alloc: Global, entities: u32) -> Result<RunQueue, AllocError>
         ensures { IfOk result (λ q. q ≡ replicate entities None) }
     {
@@ -51,7 +51,7 @@ impl RunQueue {
         })
     }
 
-    /// How many entities there is room for.
+    /// Returns how many entities there is room for.
     pub fn entities(&self) -> usize
         ensures { result ≡ length self.now }
     {
@@ -59,7 +59,8 @@ impl RunQueue {
     }
 
     /// Gives the entity this key, in place of the one that it may have (`drm_sched_rq_add_entity`). It takes as many
-    /// comparisons as the number of entities has binary digits, twice where there was one, and moves the entities behind it.
+    /// comparisons as the number of entities has binary digits, twice where there was one, and moves the entities
+    /// behind it.
     pub fn set(&mut self, entity: EntityId, priority: Priority, age: FenceId)
         requires { entity < length self.old }
         ensures { self.new ≡ slice_set self.old entity (Some (record { priority = priority; age = age })) }
@@ -84,8 +85,8 @@ impl RunQueue {
         }
     }
 
-    /// The first entity that is ready (`drm_sched_rq_select_entity_fifo`): of the least key for which `ready` answers true.
-    /// `ready` is asked from the front on, of no entity without a key, and no further than the answer.
+    /// Returns the first entity that is ready (`drm_sched_rq_select_entity_fifo`): of the least key for which `ready`
+    /// answers true. `ready` is asked from the front on, of no entity without a key, and no further than the answer.
     pub fn first<F: Fn(EntityId) -> bool>(&self, ready: F) -> Option<EntityId>
         requires { (entity : ℕ) (key : Key) → HasKey self.now entity key → F.pre ready entity }
         ensures found { IfSome result (IsFirstReady (F.post ready) self.now) }

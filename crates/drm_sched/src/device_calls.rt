@@ -44,14 +44,14 @@ use std::alloc::{AllocError, Global};
 use std::collections::VecDeque;
 use std::marker::Model;
 
-/// A device: its memory, its armed jobs, its rings and its entities (`drm_gpu_scheduler`, without the reservations
-/// that tell a job what to wait for). All that it has stands in a place of memory of its own, so a device is handed over as
+/// A device: its memory, its armed jobs, its rings and its entities (`drm_gpu_scheduler`, without the reservations that
+/// tell a job what to wait for). All that it has stands in a place of memory of its own, so a device is handed over as
 /// one word.
 ///
 /// A ring runs its packets one at a time, by `step`, or beside the device: `begin_step` sends a packet out with its
-/// buffers, and `report` takes it back. Contracts see a device as its state, in which a buffer that is out has the bytes
-/// that went out, and the mark of each ring that has a packet out. A call that is refused changes nothing, and none but
-/// `build` takes memory.
+/// buffers, and `report` takes it back. Contracts see a device as its state, with the mark of each ring that has a
+/// packet out. A buffer that is out has the bytes there that went out. A call that is refused changes nothing, and none
+/// but `build` takes memory.
 #[derive(Drop)]
 pub struct Device {
     parts: Box<Parts>,
@@ -69,11 +69,12 @@ impl Model for Device {
 }
 
 impl Device {
-    /// A device on which no job was armed. It takes the description over, and all memory that it needs in its life.
+    /// Makes a device on which no job was armed. It takes the description over, and all memory that it needs in its
+    /// life.
     ///
     /// # Errors
     ///
-    /// Where the description is out of its limits, or memory is refused.
+    /// It fails if the description is out of its limits, or there is no memory.
     pub fn build(alloc: Global, spec: DeviceSpec) -> Result<Device, BuildError>
         ensures ok { IfOk result (λ device. (device ≡ unmarked (opened_device spec)) × (spec_fault spec ≡ None)) }
         ensures lawful { IfOk result (λ device. IsLawfulDevice device.state) }
@@ -102,8 +103,8 @@ impl Device {
     ///
     /// # Errors
     ///
-    /// `PacketOut` where the ring has a packet out, or a buffer of its next packet is out; else `Idle` where no pending
-    /// job has packets left.
+    /// `PacketOut` if the ring has a packet out, or a buffer of its next packet is out; else `Idle` if no pending job
+    /// has packets left.
     pub fn step(&mut self, ring: RingId) -> Result<Stepped, StepError>
         requires there { ring < length self.old.state.spec.rings }
         ensures call { StepIs ring result self.old self.new }
@@ -118,7 +119,7 @@ impl Device {
     ///
     /// # Errors
     ///
-    /// Those of `step`.
+    /// It fails as `step` does.
     pub fn begin_step(&mut self, ring: RingId) -> Result<Begun, StepError>
         requires there { ring < length self.old.state.spec.rings }
         ensures call { BeginIs ring result self.old self.new }
@@ -130,7 +131,7 @@ impl Device {
         self.parts.begin_step(ring)
     }
 
-    /// Whether the ring has a packet out, which blocks a finish and a timeout.
+    /// Returns whether the ring has a packet out, which blocks a finish and a timeout.
     pub fn has_packet_out(&self, ring: RingId) -> bool
         requires there { ring < length self.now.state.spec.rings }
         ensures { result ≡ ring_out self.now ring }
@@ -138,7 +139,8 @@ impl Device {
         self.parts.has_out(ring)
     }
 
-    /// Whether a packet that is out blocks a step of the ring: its own, or one that has a buffer of its next packet.
+    /// Returns whether a packet that is out blocks a step of the ring: its own, or one that has a buffer of its next
+    /// packet.
     pub fn is_step_blocked(&self, ring: RingId) -> bool
         requires there { ring < length self.now.state.spec.rings }
         ensures { result ≡ is_step_blocked self.now ring }
@@ -146,7 +148,7 @@ impl Device {
         self.parts.is_step_blocked(ring)
     }
 
-    /// Whether the buffer is out with a packet.
+    /// Returns whether the buffer is out with a packet.
     pub fn is_buffer_out(&self, buffer: BufferId) -> bool
         requires there { buffer < length self.now.state.memory }
         ensures { result ≡ is_out self.now buffer }
@@ -176,7 +178,7 @@ impl Device {
     ///
     /// # Errors
     ///
-    /// `PacketOut` where the ring has a packet out; else `Idle` where nothing is pending, or `NotComplete`.
+    /// `PacketOut` if the ring has a packet out; else `Idle` if nothing is pending, or `NotComplete`.
     pub fn finish(&mut self, ring: RingId, now: Moment) -> Result<Finished, FinishError>
         requires there { ring < length self.old.state.spec.rings }
         ensures call { FinishIs ring now result self.old self.new }
@@ -191,7 +193,7 @@ impl Device {
     ///
     /// # Errors
     ///
-    /// `PacketOut` where the ring has a packet out.
+    /// `PacketOut` if the ring has a packet out.
     pub fn timeout(&mut self, ring: RingId, now: Moment) -> Result<Expired, TimeoutError>
         requires there { ring < length self.old.state.spec.rings }
         ensures call { TimeoutIs ring now result self.old self.new }
@@ -252,8 +254,8 @@ impl Device {
         Ok(parts.arm(plan.job, &mut plan.deps))
     }
 
-    /// Why the device does not take the job: its entity is stopped, the device is full, or the job names a fence that is
-    /// not armed yet.
+    /// Returns why the device does not take the job: its entity is stopped, the device is full, or the job names a
+    /// fence that is not armed yet.
     pub fn arm_refusal(&self, job: &Job) -> Option<ArmError>
         ensures { option_map refusal_of_arm result ≡ arm_refusal self.now.state job.now }
     {
@@ -275,12 +277,12 @@ impl Device {
         self.parts.arm(job, deps)
     }
 
-    /// Copies the buffer's bytes, for one who holds its reservation, once every armed job that writes it has ended
-    /// (`dma_resv_test_signaled`). It takes no memory.
+    /// Copies the buffer's bytes, for a caller that holds its reservation, once every armed job that writes it has
+    /// ended (`dma_resv_test_signaled`). It takes no memory.
     ///
     /// # Errors
     ///
-    /// `PacketOut` where the buffer is out, else `Busy`, with the least fence of the reservation's writers that has no
+    /// `PacketOut` if the buffer is out, else `Busy`, with the least fence of the reservation's writers that has no
     /// outcome. Then nothing is copied.
     pub fn read_into(&self, buffer: BufferId, resv: &Resv, out: &mut [u8]) -> Result<(), ReadError>
         requires buffer { buffer < length self.now.state.memory }
@@ -304,7 +306,7 @@ impl Device {
         }
     }
 
-    /// The description that the device was built from, whose buffers it has. No event changes it.
+    /// Returns the description that the device was built from, whose buffers it has. No event changes it.
     pub fn spec(&self) -> &DeviceSpec
         ensures value { result.now ≡ self.now.state.spec }
         ensures buffers { length self.now.state.memory ≡ length self.now.state.spec.buffers }
@@ -312,7 +314,7 @@ impl Device {
         &self.parts.table.spec
     }
 
-    /// The bytes of the buffer, at this moment.
+    /// Returns the bytes of the buffer, at this moment.
     pub fn bytes(&self, buffer: BufferId) -> &[u8]
         requires there { buffer < length self.now.state.memory }
         requires inside { is_out self.now buffer ≡ false }
@@ -321,11 +323,11 @@ impl Device {
         self.parts.table.memory.bytes(buffer)
     }
 
-    /// The status of the job's finished fence (`dma_fence_get_status`), as `Phase::status` tells it.
+    /// Returns the status of the job's finished fence (`dma_fence_get_status`), as `Phase::status` tells it.
     ///
     /// # Errors
     ///
-    /// Where no job of this number is armed.
+    /// `NoFence` if no job of this number is armed.
     pub fn status(&self, fence: FenceId) -> Result<i32, NoFence>
         ensures { StatusIs fence result self.now }
     {
@@ -336,29 +338,29 @@ impl Device {
         }
     }
 
-    /// The finished fences of the armed jobs, by number: what a reservation's entries are looked up in.
+    /// Returns the finished fences of the armed jobs, by number: what a reservation's entries are looked up in.
     pub fn fences(&self) -> &Timeline
         ensures { result.now.list ≡ map fence_state_of self.now.state.journal }
     {
         &self.parts.table.fences
     }
 
-    /// How many jobs were armed: the number that the next one gets.
+    /// Returns how many jobs were armed: the number that the next one gets.
     pub fn armed(&self) -> u32
         ensures { result ≡ length self.now.state.journal }
     {
         self.parts.table.journal.len() as u32
     }
 
-    /// How many jobs have an outcome: their finished fences are signaled (`dma_fence_is_signaled`).
+    /// Returns how many jobs have an outcome: their finished fences are signaled (`dma_fence_is_signaled`).
     pub fn ended(&self) -> u32
         ensures { result ≡ length (filter (λ r. has_ended r.phase) self.now.state.journal) }
     {
         self.parts.table.loads.ended
     }
 
-    /// What holds of every device at every moment, for a caller that keeps more over it and has changed it. The call does
-    /// nothing.
+    /// Tells a proof what holds of every device at every moment, for a caller that keeps more over it and has changed
+    /// it. The call does nothing.
     pub fn facts(&self)
         ensures steady { IsSteady self.now.state }
         ensures limits { spec_fault self.now.state.spec ≡ None }
@@ -368,8 +370,8 @@ impl Device {
         let _spec = &self.parts.table.spec;
     }
 
-    /// How many jobs are queued for the ring or pending on it: those of its records that have no outcome (the `score`
-    /// of a `drm_gpu_scheduler`, by which `drm_sched_pick_best` chooses).
+    /// Returns how many jobs are queued for the ring or pending on it: those of its records that have no outcome (the
+    /// `score` of a `drm_gpu_scheduler`, by which `drm_sched_pick_best` chooses).
     pub fn load(&self, ring: RingId) -> u32
         requires there { ring < length self.now.state.spec.rings }
         ensures { result ≡ load_of self.now.state.journal ring }
@@ -377,14 +379,14 @@ impl Device {
         self.parts.table.load(ring)
     }
 
-    /// What is known of each armed job, by its number.
+    /// Returns what is known of each armed job, by its number.
     pub fn records(&self) -> &[JobRecord]
         ensures { result.now ≡ self.now.state.journal }
     {
         self.parts.table.journal.as_slice()
     }
 
-    /// The numbers of the ring's pending jobs, in their order (`pending_list` of `struct drm_gpu_scheduler`).
+    /// Returns the numbers of the ring's pending jobs, in their order (`pending_list` of `struct drm_gpu_scheduler`).
     pub fn pending(&self, ring: RingId) -> &VecDeque<FenceId>
         requires there { ring < length self.now.state.spec.rings }
         ensures { result.now.items ≡ pending_of self.now.state ring }
@@ -392,7 +394,8 @@ impl Device {
         self.parts.table.rings.pending(ring)
     }
 
-    /// The job that the ring takes next, whether it fits or not (`drm_sched_select_entity`). It looks at no dependency.
+    /// Returns the job that the ring takes next, whether it fits or not (`drm_sched_select_entity`). It looks at no
+    /// dependency.
     pub fn choice(&self, ring: RingId) -> Option<FenceId>
         requires there { ring < length self.now.state.spec.rings }
         ensures { result ≡ choice self.now.state ring }
@@ -401,7 +404,7 @@ impl Device {
         parts.heads.choice(&parts.table, ring)
     }
 
-    /// The first job in the queue of the entity (`drm_sched_entity_queue_peek`).
+    /// Returns the first job in the queue of the entity (`drm_sched_entity_queue_peek`).
     pub fn head(&self, entity: EntityId) -> Option<FenceId>
         requires there { entity < length self.now.state.spec.entities }
         ensures { result ≡ option_map (λ n. n.0) (first (queue_of entity self.now.state.journal)) }
@@ -409,7 +412,7 @@ impl Device {
         self.parts.table.entities.head(entity)
     }
 
-    /// The first pending job of the ring that has packets to run: the one that the ring runs.
+    /// Returns the first pending job of the ring that has packets to run: the one that the ring runs.
     pub fn current(&self, ring: RingId) -> Option<FenceId>
         requires there { ring < length self.now.state.spec.rings }
         ensures { result ≡ current_of self.now.state ring }
@@ -417,7 +420,7 @@ impl Device {
         self.parts.table.current(ring)
     }
 
-    /// The credits that the ring has left (`drm_sched_available_credits`).
+    /// Returns the credits that the ring has left (`drm_sched_available_credits`).
     pub fn free_credits(&self, ring: RingId) -> u32
         requires there { ring < length self.now.state.spec.rings }
         ensures { result ≡ free_credits self.now.state ring }
@@ -425,7 +428,7 @@ impl Device {
         self.parts.table.rings.credits(ring).free() as u32
     }
 
-    /// The moment from which the age of the ring's head counts.
+    /// Returns the moment from which the age of the ring's head counts.
     pub fn since(&self, ring: RingId) -> Moment
         requires there { ring < length self.now.state.spec.rings }
         ensures { result ≡ option_map_or (λ r. r.since) (slice_get self.now.state.rings ring) 0 }
@@ -433,7 +436,7 @@ impl Device {
         self.parts.table.rings.since(ring)
     }
 
-    /// Whether the entity takes no more jobs (`stopped` of `struct drm_sched_entity`).
+    /// Returns whether the entity takes no more jobs (`stopped` of `struct drm_sched_entity`).
     pub fn is_stopped(&self, entity: EntityId) -> bool
         requires there { entity < length self.now.state.spec.entities }
         ensures { result ≡ is_stopped self.now.state entity }
@@ -441,7 +444,8 @@ impl Device {
         self.parts.table.is_stopped(entity)
     }
 
-    /// Whether the entity is guilty of a hang, so that its jobs are skipped (`guilty` of `struct drm_sched_entity`).
+    /// Returns whether the entity is guilty of a hang, so that its jobs are skipped (`guilty` of
+    /// `struct drm_sched_entity`).
     pub fn is_guilty(&self, entity: EntityId) -> bool
         requires there { entity < length self.now.state.spec.entities }
         ensures { result ≡ is_guilty self.now.state entity }
@@ -449,11 +453,11 @@ impl Device {
         self.parts.table.entities.is_guilty(entity)
     }
 
-    /// What is known of the job of this number.
+    /// Returns what is known of the job of this number.
     ///
     /// # Errors
     ///
-    /// Where no job of this number is armed.
+    /// `NoFence` if no job of this number is armed.
     pub fn record(&self, fence: FenceId) -> Result<&JobRecord, NoFence>
         ensures { MatchResult result (λ r. slice_get self.now.state.journal fence ≡ Some r.now) (LacksFence fence self.now) }
     {

@@ -17,8 +17,8 @@ use drm_types::{DeviceSpec, EntityId, FenceId, Priority, RingId};
 use std::alloc::{AllocError, Global};
 
 /// The heads of the queues, as a pick looks at them: a run queue for each ring, with the entities that are not stopped
-/// and whose heads run on it, and the fences that these heads wait for (`sched_rq` of `struct drm_gpu_scheduler`,
-/// `dependency` of `struct drm_sched_entity`).
+/// and whose heads run on it (`sched_rq` of `struct drm_gpu_scheduler`). Beside it are the fences that these heads wait
+/// for (`dependency` of `struct drm_sched_entity`).
 #[derive(Drop)]
 pub struct Heads {
     pub queues: Vec<RunQueue>,

@@ -14,8 +14,8 @@ use std::mem;
 /// What a ring begins, where its next packet is to run beside the device.
 #[derive(Drop)]
 pub enum Begun {
-    /// The packet goes out: the job's fence, the packet's number in it, a copy of the packet, the buffer that it writes,
-    /// and the other one that it reads, where it reads another. A `Stall` that waits no longer has no buffers.
+    /// The packet goes out: the job's fence, the packet's number in it, a copy of the packet, the buffer that it
+    /// writes, and the other one that it reads, where it reads another. A `Stall` that waits no longer has no buffers.
     Work {
         fence: FenceId,
         packet: u32,

@@ -17,8 +17,8 @@ use std::alloc::{AllocError, Global};
 use std::marker::Model;
 use std::vec::IntoIter;
 
-/// How many jobs a chunk has. The memory of so many is mapped for them alone, so the system has it back as soon as the last of
-/// them was taken.
+/// How many jobs a chunk has. The memory of so many is mapped for them alone, so the system has it back as soon as the
+/// last of them was taken.
 const JOBS: usize = 2_048;
 
 /// How many events the jobs of a full chunk have at least, where each is submitted, picked, run and finished.
@@ -66,8 +66,8 @@ fn next_event(kept: Event<()>, jobs: &mut IntoIter<Draft>) -> Event<Draft>
     }
 }
 
-/// Events in their order. Contracts see them as a list. One that brings a job is kept without it, since a job takes five
-/// times the memory of all other events: the jobs stand beside, in their order.
+/// Events in their order. Contracts see them as a list. An event that brings a job is kept without it, since a job
+/// takes five times the memory of all other events: the jobs stand beside, in their order.
 #[derive(Drop)]
 pub struct Chunk {
     kept: Vec<Event<()>>,
@@ -125,8 +125,8 @@ impl Chunk {
         Ok(())
     }
 
-    /// Adds an event that brings the job which the words left spell at the end. The job is read where it is kept. What the
-    /// list has where that fails tells nothing.
+    /// Adds an event that brings the job which the words left spell at the end. The job is read where it is kept. What
+    /// the list has where that fails tells nothing.
     #[inline]
     pub(crate) fn push_read(
         &mut self,
@@ -144,7 +144,7 @@ impl Chunk {
         push_job(alloc, &mut self.jobs, words)
     }
 
-    /// The events, to be taken one after the other.
+    /// Gives the events, to be taken one after the other.
     pub fn into_left(self) -> ChunkLeft
         ensures { result ≡ self }
     {
@@ -178,7 +178,7 @@ impl Model for ChunkLeft {
 }
 
 impl ChunkLeft {
-    /// The next event, if one is left.
+    /// Returns the next event, if one is left.
     #[inline]
     #[tactic(auto, using(crate::proofs::Joined::has_job))]
     pub fn next(&mut self) -> Option<Event<Draft>>

@@ -125,8 +125,8 @@ fn read_context_event(
     }
 }
 
-/// Reads the job that the words left spell, and adds the event that brings it. Few commands have one, so its room is not made
-/// for all.
+/// Reads the job that the words left spell, and adds the event that brings it. Few commands have one, so its room is
+/// not made for all.
 #[inline(never)]
 fn read_with_job(
     alloc: Global,

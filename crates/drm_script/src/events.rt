@@ -35,7 +35,7 @@ impl Model for Events {
 }
 
 impl Events {
-    /// No events.
+    /// Makes an empty list of events.
     pub fn new(alloc: Global) -> Events
         ensures { result ≡ [] }
     {
@@ -66,8 +66,8 @@ impl Events {
         Ok(())
     }
 
-    /// Adds an event that brings the job which the words left spell at the end. The job is read where it is kept. What the
-    /// list has where that fails tells nothing.
+    /// Adds an event that brings the job which the words left spell at the end. The job is read where it is kept. What
+    /// the list has where that fails tells nothing.
     #[inline]
     pub(crate) fn push_read(
         &mut self,
@@ -85,7 +85,7 @@ impl Events {
         self.last.push_read(alloc, kept, words)
     }
 
-    /// The events, to be taken chunk by chunk.
+    /// Gives the events, to be taken chunk by chunk.
     pub fn into_chunks(self) -> Chunks
         ensures { all_of result ≡ self }
     {
@@ -96,7 +96,7 @@ impl Events {
         }
     }
 
-    /// The events, to be taken one after the other.
+    /// Gives the events, to be taken one after the other.
     pub fn into_left(self) -> EventsLeft
         ensures { result ≡ self }
     {
@@ -127,7 +127,7 @@ impl Model for Chunks {
 }
 
 impl Chunks {
-    /// The next chunk, if one is left.
+    /// Returns the next chunk, if one is left.
     pub fn next(&mut self) -> Option<Chunk>
         ensures some { IfSome result (λ chunk. self.old ≡ chunk ∷ self.new) }
         ensures none { IfNone result (self.old ≡ []) }
@@ -159,7 +159,7 @@ impl Model for EventsLeft {
 }
 
 impl EventsLeft {
-    /// The next event, if one is left.
+    /// Returns the next event, if one is left.
     pub fn next(&mut self) -> Option<Event<Draft>>
         ensures some { IfSome result (λ event. self.old ≡ event ∷ self.new) }
         ensures none { IfNone result (self.old ≡ []) }

@@ -1,9 +1,10 @@
 //! Scripts as text: the language in which runs of the scheduler are written down.
 //!
-//! `read_script` and `read_run` give what a text spells, or its first fault with line and column, and `read_script_from` and
-//! `read_run_from` what the bytes of a reader spell. All are exact: what is read is what the definitions `judge_script` and
-//! `judge_run` say, and these accept just the texts of the grammar. What other texts share with scripts is read in
-//! `drm_parse`; answers are written in `drm_answer`, journals read and written in `drm_journal`.
+//! `read_script` and `read_run` give what a text spells, or its first fault with line and column, and
+//! `read_script_from` and `read_run_from` what the bytes of a reader spell. All are exact: what is read is what the
+//! definitions `judge_script` and `judge_run` say, and these accept just the texts of the grammar. What other texts
+//! share with scripts is read in `drm_parse`; answers are written in `drm_answer`, journals read and written in
+//! `drm_journal`.
 #![tactic(auto)]
 
 mod chunk;

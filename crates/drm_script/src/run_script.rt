@@ -128,8 +128,8 @@ fn read_text(alloc: Global, text: &[u8]) -> Result<RunScript, ReadError>
     Ok(RunScript { spec, jobs })
 }
 
-/// The script for threads that the text spells. It succeeds, refused memory apart, exactly on the texts that spell
-/// one, and else tells the text's first fault.
+/// Reads the script for threads that the text spells. It succeeds, refused memory apart, exactly on the texts that
+/// spell one, and else tells the text's first fault.
 pub fn read_run(alloc: Global, text: &[u8]) -> Result<RunScript, ReadError>
     ensures value { Gives (λ script. script) result (judge_run text.now) }
     ensures found { IfOk result (λ script. SpellsRun text.now script) }
@@ -140,7 +140,7 @@ pub fn read_run(alloc: Global, text: &[u8]) -> Result<RunScript, ReadError>
     read_text(alloc, text)
 }
 
-/// The script for threads that all bytes of the reader spell.
+/// Reads the script for threads that all bytes of the reader spell.
 pub fn read_run_from<R: Read>(
     alloc: Global,
     reader: &mut Source<R>,

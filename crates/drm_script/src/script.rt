@@ -64,7 +64,7 @@ fn read_text(alloc: Global, text: &[u8]) -> Result<Script, ReadError>
     })
 }
 
-/// The script that the text spells. It succeeds, refused memory apart, exactly on the texts that spell one, and
+/// Reads the script that the text spells. It succeeds, refused memory apart, exactly on the texts that spell one, and
 /// else tells the text's first fault.
 pub fn read_script(alloc: Global, text: &[u8]) -> Result<Script, ReadError>
     ensures value { Gives (λ script. script) result (judge_script text.now) }
@@ -76,7 +76,7 @@ pub fn read_script(alloc: Global, text: &[u8]) -> Result<Script, ReadError>
     read_text(alloc, text)
 }
 
-/// The script that all bytes of the reader spell.
+/// Reads the script that all bytes of the reader spell.
 pub fn read_script_from<R: Read>(
     alloc: Global,
     reader: &mut Source<R>,

@@ -1,5 +1,5 @@
-//! Tests of the crates that read and write texts by what they offer, in a crate of their own: where a test changes, what it
-//! tests stays proved.
+//! Tests of the crates that read and write texts by what they offer, in a crate of their own: where a test changes,
+//! what it tests stays proved.
 //!
 //! The root has what several tests use: the fault that one expects, a text behind another, and a reader of few bytes
 //! at a time, of whose reads one is interrupted.

@@ -41,11 +41,11 @@ impl Model for Serial {
 }
 
 impl Serial {
-    /// The machine, which begins with copies of these buffers.
+    /// Makes the machine, which begins with copies of these buffers.
     ///
     /// # Errors
     ///
-    /// Where memory is refused.
+    /// It fails if there is no memory.
     pub fn new(alloc: Global, initial: &Sequence<Sequence<u8>>) -> Result<Serial, AllocError>
         ensures { IfOk result (λ machine. machine ≡ initial.now) }
     {
@@ -81,7 +81,7 @@ impl Serial {
         run_each(&packets[..ran], &mut self.memory);
     }
 
-    /// The buffers, given back.
+    /// Gives the buffers back.
     pub fn into_buffers(self) -> Sequence<Sequence<u8>>
         ensures { result ≡ self }
     {

@@ -107,7 +107,7 @@ pub enum Answer {
     Ticket { ticket: Ticket },
     /// The context holds the buffer now.
     Held,
-    /// An older context holds the buffer: this one should let go of what it holds (`-EDEADLK`).
+    /// An older context holds the buffer: this one should release what it holds (`-EDEADLK`).
     Older { holder: Ticket },
     /// A younger context holds the buffer: this one may wait.
     Younger { holder: Ticket },

@@ -5,7 +5,7 @@ use crate::journal::JobRecord;
 use drm_resv::Deps;
 use drm_types::{EntityId, FenceId};
 
-/// The first of these fences that was not armed yet.
+/// Returns the first of these fences that was not armed yet.
 pub fn first_unarmed(after: &[FenceId], armed: u32) -> Option<FenceId>
     ensures { result ≡ find (λ f. nat_le armed f) after.now }
 {
@@ -22,7 +22,7 @@ fn entity_of(journal: &[JobRecord], fence: FenceId) -> EntityId
     }
 }
 
-/// The fences that the job names are noted beside those that its reservations ask to wait for
+/// Notes the fences that the job names beside those that its reservations ask to wait for
 /// (`drm_sched_job_add_dependency`).
 pub fn note_named(journal: &[JobRecord], after: &[FenceId], deps: &mut Deps)
     requires { (r : JobRecord) (f : ℕ) → slice_get journal.now f ≡ Some r → r.job.entity < 64 }

@@ -18,7 +18,7 @@ fn is_queued(phase: Phase) -> bool
     }
 }
 
-/// Whether the fence is met for a job of the ring: its job has ended, or was given to the same ring, which runs
+/// Returns whether the fence is met for a job of the ring: its job has ended, or was given to the same ring, which runs
 /// its jobs in order.
 pub fn is_met(journal: &[JobRecord], fence: FenceId, ring: RingId) -> bool
     ensures { result ≡ is_at journal.now fence (is_met_on ring) }

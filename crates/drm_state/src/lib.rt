@@ -1,8 +1,8 @@
 //! The state of a device: its definitions, the laws over them, and the steps on the parts of which tables are made.
 //!
-//! The definitions of a device stand here (`specs/State`, `Order`, `Choice`, `Refusals`, `Outcomes`, `Lawful`), with its
-//! answers and errors. The record of a job and the loads of rings are types of their own, whose calls promise what one event
-//! changes of them; the pending jobs of the rings are those of `drm_ring`. `drm_table` puts them together.
+//! The definitions of a device stand here (`specs/State`, `Order`, `Choice`, `Refusals`, `Outcomes`, `Lawful`), with
+//! its answers and errors. The record of a job and the loads of rings are types of their own, whose calls promise what
+//! one event changes of them. The pending jobs of the rings are those of `drm_ring`. `drm_table` puts them together.
 #![tactic(auto)]
 
 mod answer;

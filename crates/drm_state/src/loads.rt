@@ -15,7 +15,7 @@ pub struct Loads {
 }
 
 impl Loads {
-    /// The loads of so many rings and entities before the first job. No later call takes memory.
+    /// Makes the loads of so many rings and entities before the first job. No later call takes memory.
     pub fn new(alloc: Global, rings: usize, entities: usize) -> Result<Loads, AllocError>
         ensures live { IfOk result (λ l. l.live.items ≡ replicate rings 0) }
         ensures last { IfOk result (λ l. l.last.items ≡ replicate entities None) }
@@ -28,7 +28,7 @@ impl Loads {
         })
     }
 
-    /// The ring has one job more, which is the last one of the entity.
+    /// Counts one job more of the ring, which is the last one of the entity.
     pub fn add(&mut self, ring: RingId, entity: EntityId, number: FenceId)
         requires ring { ring < vec_len self.old.live }
         requires entity { entity < vec_len self.old.last }
@@ -41,7 +41,7 @@ impl Loads {
         self.last[entity as usize] = Some(number);
     }
 
-    /// A job of the ring has its outcome.
+    /// Takes off a job of the ring, which has its outcome.
     pub fn end(&mut self, ring: RingId)
         requires ring { ring < vec_len self.old.live }
         requires some { (n : ℕ) → slice_get self.old.live.items ring ≡ Some n → 0 < n }

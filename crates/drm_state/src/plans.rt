@@ -26,7 +26,8 @@ pub type Held = Vec<(BufferId, Resv)>;
 
 impl Plan {
     /// Collects what the job waits for from the reservations that are held. It looks at no device, and what it collects
-    /// covers in each one that these reservations fit, so also in the one that the arming finds later. It takes no memory.
+    /// covers in each one that these reservations fit, so also in the one that the arming finds later. It takes no
+    /// memory.
     pub fn collect(job: Job, held: &[(BufferId, Resv)]) -> Plan
         ensures job { result.job ≡ job }
         ensures collected { IsCollected job (kept_of held.now) result.deps }

@@ -16,7 +16,7 @@ fn skip(journal: &mut Vec<JobRecord>, number: FenceId, entity: EntityId)
     record.is_skipped = record.job.entity() == entity || record.is_skipped;
 }
 
-/// The entity's jobs among these are skipped.
+/// Skips the entity's jobs among these.
 pub fn condemn(journal: &mut Vec<JobRecord>, pending: &VecDeque<FenceId>, entity: EntityId)
     requires { (k f : ℕ) → slice_get pending.now.items k ≡ Some f → f < vec_len journal.old }
     ensures journal { journal.new.items ≡ all_skipped entity journal.old.items pending.now.items }
@@ -27,8 +27,8 @@ pub fn condemn(journal: &mut Vec<JobRecord>, pending: &VecDeque<FenceId>, entity
     }
 }
 
-/// The job met one more hang, which its entity of this priority is blamed for (`drm_sched_increase_karma`). Answers
-/// whether that makes the entity guilty.
+/// Counts one more hang of the job, which its entity of this priority is blamed for (`drm_sched_increase_karma`).
+/// Answers whether that makes the entity guilty.
 pub fn blame(
     journal: &mut Vec<JobRecord>,
     number: FenceId,

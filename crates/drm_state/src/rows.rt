@@ -8,7 +8,7 @@ use crate::journal::JobRecord;
 use drm_ring::Rings;
 use drm_types::{FenceId, RingId};
 
-/// Whether the ring is done with the job: all its packets ran, or it is skipped.
+/// Returns whether the ring is done with the job: all its packets ran, or it is skipped.
 pub fn is_complete(armed: &JobRecord) -> bool
     ensures { result ≡ is_complete_record armed.now }
 {
@@ -25,7 +25,7 @@ fn is_open(journal: &[JobRecord], fence: FenceId) -> bool
     }
 }
 
-/// The ring passes over the jobs that it is done with by now. It was done with those that it passed over before.
+/// Passes over the jobs that the ring is done with by now. It was done with those that it passed over before.
 pub fn pass_over(rings: &mut Rings, ring: RingId, journal: &[JobRecord])
     requires there { ring < length rings.old }
     requires passed { passed_at rings.old ring ≤ passed_of (is_open_at journal.now) (pending_at rings.old ring) }
@@ -34,7 +34,7 @@ pub fn pass_over(rings: &mut Rings, ring: RingId, journal: &[JobRecord])
     rings.mark_skip(ring, |fence| is_open(journal, fence));
 }
 
-/// How many credits the job counts with on a ring of this limit.
+/// Returns how many credits the job counts with on a ring of this limit.
 pub fn counted_credits(journal: &[JobRecord], fence: FenceId, limit: u16) -> u16
     ensures { result ≡ option_map_or (λ r. min r.job.credits limit) (slice_get journal.now fence) 0 }
 {

@@ -11,7 +11,7 @@ use drm_fence::{Phase, Timeline};
 use drm_packet::Packet;
 use drm_types::{FenceId, Outcome};
 
-/// Whether the packet waits for more resets of its job.
+/// Returns whether the packet waits for more resets of its job.
 pub fn must_stall(packet: Packet, resets: u16) -> bool
     ensures { result ≡ must_stall_at packet resets }
 {
@@ -23,7 +23,7 @@ pub fn must_stall(packet: Packet, resets: u16) -> bool
     }
 }
 
-/// How the job ends, if the ring is done with it.
+/// Returns how the job ends, if the ring is done with it.
 pub fn final_outcome(journal: &[JobRecord], fence: FenceId) -> Option<Outcome>
     ensures { result ≡ option_map_or ending (slice_get journal.now fence) None }
 {
@@ -38,7 +38,7 @@ pub fn final_outcome(journal: &[JobRecord], fence: FenceId) -> Option<Outcome>
     }
 }
 
-/// The job was given to its ring (`drm_sched_fence_scheduled`).
+/// Notes that the job was given to its ring (`drm_sched_fence_scheduled`).
 pub fn schedule_job(
     journal: &mut Vec<JobRecord>,
     fences: &mut Timeline,
@@ -58,7 +58,7 @@ pub fn schedule_job(
     fences.schedule(number);
 }
 
-/// The job has its outcome (`drm_sched_fence_finished`).
+/// Gives the job its outcome (`drm_sched_fence_finished`).
 pub fn end_job(
     journal: &mut Vec<JobRecord>,
     fences: &mut Timeline,

@@ -42,7 +42,8 @@ fn none_is_of(journal: &[JobRecord], pending: &VecDeque<FenceId>, entity: Entity
     pending.iter().all(|fence| !is_of(journal, *fence, entity))
 }
 
-/// Whether the jobs that the entity's first queued one waits for all have outcomes, and none of the entity is pending.
+/// Returns whether the jobs that the entity's first queued one waits for all have outcomes, and none of the entity is
+/// pending.
 pub fn may_end(
     journal: &[JobRecord],
     deps: &[(EntityId, FenceId)],

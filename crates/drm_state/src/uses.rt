@@ -11,8 +11,8 @@ use drm_job::Job;
 use drm_resv::Resv;
 use drm_types::{BufferId, FenceId, adds};
 
-/// Adds the use of a job to the reservation of a buffer, where the job uses it (`dma_resv_add_fence`): the job gets this
-/// fence, of this timeline.
+/// Adds the use of a job to the reservation of a buffer, where the job uses it (`dma_resv_add_fence`): the job gets
+/// this fence, of this timeline.
 pub fn add_use(resv: &mut Resv, buffer: BufferId, job: &Job, fence: FenceId, timeline: &Timeline)
     requires room { (usage : Usage) → usage_at buffer job.now ≡ Some usage → IsTrue resv.old.has_room }
     requires entity { job.now.entity < 64 }

@@ -33,7 +33,7 @@ impl From<io::Error> for InputError {
     }
 }
 
-/// The error of a text that was read, as that of its reader.
+/// Returns the error of a text that was read, as that of its reader.
 pub fn to_input_error(error: ReadError) -> InputError
     ensures { result ≡ input_error_of error }
 {
@@ -118,7 +118,7 @@ fn fill<R: Read>(reader: &mut Source<R>, text: &mut Vec<u8>) -> io::Result<usize
     Ok(len)
 }
 
-/// The bytes of the reader, of which no more are read than show that they are too many for a text. The first read
+/// Reads the bytes of the reader, of which no more are read than show that they are too many for a text. The first read
 /// that fails is the last, also where it was interrupted.
 pub fn read_input<R: Read>(alloc: Global, reader: &mut Source<R>) -> io::Result<Vec<u8>>
     ensures text { IfOk result (λ text. IfSome reader.old.remaining (λ input. text.items ≡ take 1048577 input)) }

@@ -1,9 +1,10 @@
 //! Byte streams: a whole text from a reader, and bytes to a writer.
 //!
-//! A `Source` is a reader that counts its reads and notes where one failed, a `Sink` a writer that notes where a write failed: so
-//! a failure is a fact that contracts state. `read_input` gives the bytes of a source, no more than show that they are too many
-//! for a text. `put_all` writes all of the bytes to a sink, or tells that a front of them was written. Both say what was taken of
-//! the stream and what it has then, where reads and writes fail too, and that they fail exactly where a read or a write did.
+//! A `Source` is a reader that counts its reads and notes where one failed, a `Sink` a writer that notes where a write
+//! failed. So a failure is a fact that contracts state. `read_input` gives the bytes of a source, no more than show
+//! that they are too many for a text. `put_all` writes all of the bytes to a sink, or tells that a front of them was
+//! written. Both say what was taken of the stream and what it has then, also if a read or a write fails. They fail
+//! exactly where a read or a write did.
 #![tactic(auto)]
 
 mod input;

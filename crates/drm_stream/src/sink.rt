@@ -47,7 +47,7 @@ fn write_some<W: Write>(writer: &mut W, bytes: &[u8]) -> io::Result<usize>
 }
 
 impl<W: Write> Sink<W> {
-    /// A sink to which nothing was written.
+    /// Makes a sink to which nothing was written.
     pub fn new(writer: W) -> Sink<W>
         ensures { result ≡ record { contents = W.contents writer; failed = false } }
     {
@@ -57,7 +57,7 @@ impl<W: Write> Sink<W> {
         }
     }
 
-    /// The writer, as the writes have left it.
+    /// Gives back the writer, as the writes have left it.
     pub fn into_inner(self) -> W
         ensures { W.contents result ≡ self.contents }
     {

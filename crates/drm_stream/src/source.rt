@@ -9,8 +9,8 @@ ghost use Rattle.drm_stream.specs.Transfer.{TellsError};
 use std::io::{self, ErrorKind, Read};
 use std::marker::Model;
 
-/// A reader, the number of its reads, and whether one of them failed. Only `read` asks the reader and writes these notes, and
-/// nothing takes one back.
+/// A reader, the number of its reads, and whether one of them failed. Only `read` asks the reader and writes these
+/// notes, and nothing takes one back.
 #[derive(Drop)]
 pub struct Source<R: Read> {
     reader: R,
@@ -31,7 +31,7 @@ impl<R: Read> Model for Source<R> {
 }
 
 impl<R: Read> Source<R> {
-    /// A source of which nothing was read.
+    /// Makes a source of which nothing was read.
     pub fn new(reader: R) -> Source<R>
         ensures { result ≡ record { remaining = R.remaining reader; reads = 0; failed = false; refused = false } }
     {
@@ -43,7 +43,7 @@ impl<R: Read> Source<R> {
         }
     }
 
-    /// The reader, as the reads have left it.
+    /// Gives back the reader, as the reads have left it.
     pub fn into_inner(self) -> R
         ensures { R.remaining result ≡ self.remaining }
     {

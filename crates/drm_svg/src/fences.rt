@@ -58,7 +58,7 @@ impl Fences {
         }
     }
 
-    /// All of them.
+    /// Returns all of them.
     pub fn as_slice(&self) -> &[Placed]
         ensures { result.now ≡ self.now }
     {

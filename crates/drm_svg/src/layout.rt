@@ -105,7 +105,7 @@ fn place_fences(
     Ok(placed)
 }
 
-/// Where everything of the picture is drawn.
+/// Returns where everything of the picture is drawn.
 pub fn lay_out(alloc: Global, picture: &Picture) -> Result<Layout, AllocError>
     ensures { IfOk result (IsLayout picture.now) }
 {

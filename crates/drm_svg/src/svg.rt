@@ -128,7 +128,8 @@ fn put_dot(out: &mut Vec<u8>, column: usize, row: usize) -> Result<(), AllocErro
     put_text(out, DOT_END)
 }
 
-// Puts a wait: a line in the column of its command, from the row of the fence that waits to a dot in that of the earlier.
+// Puts a wait: a line in the column of its command, from the row of the fence that waits to a dot in that of the
+// earlier.
 #[tactic(auto, unfolding(crate::specs::Svg::wait_text))]
 fn put_wait(
     out: &mut Vec<u8>,
@@ -190,7 +191,7 @@ fn put_svg(
     put_text(out, "</svg>\n")
 }
 
-/// The text of a picture.
+/// Writes the text of a picture.
 pub fn write_svg(alloc: Global, picture: &Picture) -> Result<Vec<u8>, AllocError>
     ensures { IfOk result (λ text. IsSvg picture.now text.items) }
 {

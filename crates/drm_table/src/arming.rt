@@ -15,7 +15,7 @@ use drm_state::{ArmError, JobRecord, first_unarmed, note_named};
 use drm_types::{EntityId, FenceId, RingId};
 
 impl Table {
-    /// How many jobs are queued for the ring or pending on it (`drm_gpu_scheduler.score`).
+    /// Returns how many jobs are queued for the ring or pending on it (`drm_gpu_scheduler.score`).
     pub fn load(&self, ring: RingId) -> u32
         requires there { ring < length self.now.spec.rings }
         requires whole { IsWhole self.now }
@@ -99,7 +99,7 @@ impl Table {
         }
     }
 
-    /// Why the job is not armed: its entity is stopped, the device is full, or it names a fence not armed yet.
+    /// Returns why the job is not armed: its entity is stopped, the device is full, or it names a fence not armed yet.
     pub fn arm_refusal(&self, job: &Job) -> Option<ArmError>
         requires { IsWhole self.now }
         ensures { option_map refusal_of_arm result ≡ arm_refusal_of (state_of self.now) job.now }

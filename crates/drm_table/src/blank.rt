@@ -14,7 +14,7 @@ use drm_types::DeviceSpec;
 use std::alloc::{AllocError, Global};
 
 impl Table {
-    /// The tables of a device on which no job was armed. All memory that its events need is taken here.
+    /// Makes the tables of a device on which no job was armed. All memory that its events need is taken here.
     pub fn open(alloc: Global, spec: DeviceSpec) -> Result<Table, AllocError>
         requires limits { spec_fault spec ≡ None }
         ensures opened { IfOk result (λ t. state_of t ≡ opened_device spec) }

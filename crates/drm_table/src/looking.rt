@@ -7,7 +7,7 @@ use drm_resv::Resv;
 use drm_types::{FenceId, Usage};
 
 impl Table {
-    /// The least fence without an outcome among the reservation's entries of WRITE and stronger: a read of the
+    /// Returns the least fence without an outcome among the reservation's entries of WRITE and stronger: a read of the
     /// buffer has to wait for it.
     pub fn busy_fence(&self, resv: &Resv) -> Option<FenceId>
         requires { self.now.fences.list ≡ map fence_state_of self.now.journal.items }

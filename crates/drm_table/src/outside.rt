@@ -9,7 +9,7 @@ use drm_state::pass_over;
 use drm_types::{FenceId, RingId};
 
 impl Table {
-    /// Whether a buffer of the ring's next packet is out.
+    /// Returns whether a buffer of the ring's next packet is out.
     pub fn next_is_out(&self, ring: RingId) -> bool
         requires there { ring < length self.now.spec.rings }
         requires whole { IsWhole self.now }

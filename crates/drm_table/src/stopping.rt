@@ -11,7 +11,7 @@ use drm_state::{CancelError, ReapError, end_job, may_end};
 use drm_types::{EntityId, FenceId, Outcome};
 
 impl Table {
-    /// Whether the entity takes no jobs any more.
+    /// Returns whether the entity takes no jobs any more.
     pub fn is_stopped(&self, entity: EntityId) -> bool
         ensures { result ≡ is_stopped (state_of self.now) entity }
     {

@@ -34,7 +34,7 @@ impl Table {
         self.spec.rings.as_slice()[ring as usize]
     }
 
-    /// The first pending job of the ring that has packets to run.
+    /// Returns the first pending job of the ring that has packets to run.
     pub fn current(&self, ring: RingId) -> Option<FenceId>
         requires there { ring < length self.now.spec.rings }
         requires whole { IsWhole self.now }

@@ -1,5 +1,5 @@
-//! The check on worked drafts, and which jobs conflict. The device has two buffers of four bytes, one ring, an entity of
-//! NORMAL priority and one of KERNEL priority.
+//! The check on worked drafts, and which jobs conflict. The device has two buffers of four bytes, one ring, an entity
+//! of NORMAL priority and one of KERNEL priority.
 use crate::expect::expect_eq;
 use crate::job::Want::{DeclaredTwice, Fault, Fits, MoveNotKernel, NoBuffer};
 use crate::job::Work::{Add, Copy, Fill, Stall};

@@ -30,7 +30,7 @@ pub enum TextFault {
 }
 
 impl TextFault {
-    /// The number under which the fault is reported.
+    /// Returns the number under which the fault is reported.
     pub fn number(self) -> u32
         ensures { result ≡ number_of_fault self }
     {
@@ -50,7 +50,8 @@ impl TextFault {
 /// The first fault of a text.
 #[derive(Clone, Copy, Debug, PartialEq, Eq)]
 pub enum Fault {
-    /// A fault of the text, with its line and its column in bytes. Both count from 1, and are 0 where the text is too long.
+    /// A fault of the text, with its line and its column in bytes. Both count from 1, and are 0 where the text is too
+    /// long.
     Text {
         line: u32,
         column: u32,
@@ -103,7 +104,7 @@ pub struct Position {
 }
 
 impl Position {
-    /// A fault of the word that begins here.
+    /// Returns a fault of the word that begins here.
     #[inline]
     pub fn fault(self, what: TextFault) -> Fault
         ensures { result ≡ fault_at self what }

@@ -26,7 +26,7 @@ fn read_digit(byte: u8) -> Option<u8>
     if value < 16 { Some(value) } else { None }
 }
 
-/// The byte that two digits spell, if they spell one.
+/// Returns the byte that two digits spell, if they spell one.
 pub fn read_byte(word: &[u8]) -> Option<u8>
     ensures { result ≡ byte_of word.now }
 {
@@ -82,7 +82,7 @@ fn read_bytes(alloc: Global, word: &[u8], fault: Fault) -> Result<Sequence<u8>, 
     Ok(Sequence::from_vec(bytes))
 }
 
-/// The bytes that the next word spells. Where memory is refused, the word has no fault.
+/// Reads the bytes that the next word spells. Where memory is refused, the word has no fault.
 #[tactic(auto, unfolding(crate::specs::Hexadecimal::bytes_at))]
 pub fn read_bytes_word(alloc: Global, words: &mut Words) -> Result<Sequence<u8>, ReadError>
     ensures value { Gives (λ bytes. (bytes, words.new)) result (bytes_at words.old) }
@@ -93,7 +93,7 @@ pub fn read_bytes_word(alloc: Global, words: &mut Words) -> Result<Sequence<u8>,
     read_bytes(alloc, word, fault)
 }
 
-/// The bytes that the next word spells, which ends the line. Where memory is refused, the word has no fault.
+/// Reads the bytes that the next word spells, which ends the line. Where memory is refused, the word has no fault.
 #[tactic(auto, unfolding(crate::specs::Hexadecimal::last_bytes_at))]
 pub fn read_last_bytes(alloc: Global, words: &mut Words) -> Result<Sequence<u8>, ReadError>
     ensures value { Gives (λ bytes. bytes) result (last_bytes_at words.old) }
@@ -115,7 +115,7 @@ fn digit_for(value: u8) -> u8
     }
 }
 
-/// Each byte as two digits, into room for them.
+/// Fills room with two digits for each byte.
 pub fn fill_digits(room: &mut [u8], bytes: &[u8])
     requires { length room.old ≡ 2 * length bytes.now }
     ensures { room.new ≡ text_of_bytes bytes.now }
@@ -158,7 +158,8 @@ fn put_block(out: &mut Vec<u8>, bytes: &[u8]) -> Result<(), AllocError>
     out.extend_from_slice(room)
 }
 
-/// Each byte as two digits. Many bytes are written block by block, so that no more than a block is filled with zeros first.
+/// Puts each byte as two digits. Many bytes are written block by block, so that no more than a block is filled with
+/// zeros first.
 pub fn put_bytes(out: &mut Vec<u8>, bytes: &[u8]) -> Result<(), AllocError>
     ensures { OnOk result (out.new.items ≡ out.old.items ++ text_of_bytes bytes.now) }
 {

@@ -41,7 +41,7 @@ pub enum Command {
     Dump,
 }
 
-/// Whether the word is this one. Words are short, so that to compare them byte by byte costs less than a call.
+/// Returns whether the word is this one. Words are short, so that to compare them byte by byte costs less than a call.
 #[inline]
 pub fn is_word(word: &[u8], known: &[u8]) -> bool
     ensures { result ≡ bytes_eq word.now known.now }
@@ -57,7 +57,7 @@ pub fn is_word(word: &[u8], known: &[u8]) -> bool
     true
 }
 
-/// The line that begins with this word.
+/// Returns which line begins with this word.
 #[inline(always)]
 #[tactic(auto, unfolding(crate::specs::Keywords::keyword_of))]
 pub fn read_keyword(word: &[u8]) -> Option<Keyword>

@@ -1,9 +1,8 @@
-//! Lines and words: how a text is cut, what its numbers and bytes spell, and the faults of a text with their
-//! places.
+//! Lines and words: how a text is cut, what its numbers and bytes spell, and the faults of a text with their places.
 //!
-//! A text is read from left to right, each line and each word judged wholly before the next, with no copy and no
-//! memory taken but for bytes that are kept. Every reader answers what its definition of the same level says, so
-//! the first fault that a reader meets is the first fault of the text.
+//! A text is read from left to right, each line and each word judged wholly before the next. It is not copied, and no
+//! memory is taken but for bytes that are kept. Every reader answers what its definition of the same level says, so the
+//! first fault that a reader meets is the first fault of the text.
 #![tactic(auto)]
 
 mod fault;

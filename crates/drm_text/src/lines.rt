@@ -34,7 +34,7 @@ impl<'a> Model for Line<'a> {
 }
 
 impl<'a> Line<'a> {
-    /// A line that is not judged yet.
+    /// Makes a line that is not judged yet.
     pub fn new(number: u32, bytes: &'a [u8]) -> Line<'a>
         requires { length bytes.now ≤ 1048576 }
         ensures { result ≡ record { number = number; bytes = bytes.now } }
@@ -46,7 +46,7 @@ impl<'a> Line<'a> {
         }
     }
 
-    /// The number of the line. The first has number 1.
+    /// Returns the number of the line. The first has number 1.
     pub fn number(&self) -> u32
         ensures { result ≡ self.now.number }
     {
@@ -64,7 +64,7 @@ impl<'a> Line<'a> {
         check_text(self.number, self.bytes)
     }
 
-    /// All words of the line.
+    /// Returns all words of the line.
     #[inline(always)]
     pub fn words(&self) -> Words<'a>
         ensures { result ≡ record { line = self.now.number; rest = cut_from 32 self.now.bytes 0 } }
@@ -72,7 +72,7 @@ impl<'a> Line<'a> {
         Words::new(self.number, self.bytes)
     }
 
-    /// The first word of the line, cut off its words, which stay where the caller has them.
+    /// Reads the first word of the line, cut off its words, which stay where the caller has them.
     #[inline(always)]
     #[tactic(auto, unfolding(crate::specs::Lines::start_at))]
     pub fn read_start(&self, words: &mut Words<'a>) -> Result<Keyword, Fault>
@@ -86,7 +86,7 @@ impl<'a> Line<'a> {
         Ok(keyword)
     }
 
-    /// The first word of the line, and its other words.
+    /// Returns the first word of the line, and its other words.
     #[inline(always)]
     pub fn start(&self) -> Result<(Keyword, Words<'a>), Fault>
         ensures { Reads (λ start. start) result (start_at self.now.number self.now.bytes) }
@@ -121,7 +121,7 @@ impl<'a> Model for Lines<'a> {
 }
 
 impl<'a> Lines<'a> {
-    /// All lines of a text. No fault of them is told yet.
+    /// Begins to cut a text into its lines. No fault of them is told yet.
     pub fn new(text: &'a [u8]) -> Lines<'a>
         requires { length text.now ≤ 1048576 }
         ensures { result ≡ lines_of text.now }
@@ -140,14 +140,14 @@ impl<'a> Lines<'a> {
         }
     }
 
-    /// The number of the next line.
+    /// Returns the number of the next line.
     pub fn number(&self) -> u32
         ensures { result ≡ self.now.line }
     {
         self.line
     }
 
-    /// The next line that has an end.
+    /// Returns the next line that has an end.
     pub fn next(&mut self) -> Option<Line<'a>>
         ensures some { IfSome result (λ line. (line ≡ record { number = self.old.line; bytes = self.old.bytes })
             × (self.old.more ≡ self.new.bytes ∷ self.new.more) × (self.new.line ≡ self.old.line + 1)) }
@@ -164,7 +164,7 @@ impl<'a> Lines<'a> {
         Some(line)
     }
 
-    /// That nothing stands behind the last line end.
+    /// Checks that nothing stands behind the last line end.
     pub fn end(&self) -> Result<(), Fault>
         ensures { Reads (λ _. tt) result (last_line self.now.line self.now.bytes) }
     {
@@ -261,7 +261,7 @@ fn check_text(line: u32, bytes: &[u8]) -> Result<(), Fault>
     find_fault(line, bytes)
 }
 
-/// The fault of a line that is not allowed at its place.
+/// Returns the fault of a line that is not allowed at its place.
 pub fn order_fault(line: u32) -> Fault
     ensures { result ≡ out_of_order line }
 {

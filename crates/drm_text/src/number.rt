@@ -3,7 +3,7 @@
 ghost use Rattle.std.specs.Prelude.{◌≡◌, ◌+◌, ◌≤◌, IfSome};
 ghost use Rattle.drm_text.specs.Number.{with_digit, digits_up_to, number_up_to};
 
-/// The number with one more digit, if the byte is a digit and the number is at most `most`.
+/// Returns the number with one more digit, if the byte is a digit and the number is at most `most`.
 pub fn next_value(value: u64, byte: u8, most: u64) -> Option<u64>
     ensures { result ≡ with_digit most value byte }
 {
@@ -14,7 +14,7 @@ pub fn next_value(value: u64, byte: u8, most: u64) -> Option<u64>
     (value <= most).then_some(value)
 }
 
-/// The number that one byte spells, if it is a digit and the number is at most `most`.
+/// Returns the number that one byte spells, if it is a digit and the number is at most `most`.
 #[inline(always)]
 pub fn digit_value(byte: u8, most: u64) -> Option<u64>
     ensures value { result ≡ with_digit most 0 byte }
@@ -40,7 +40,7 @@ fn read_digits(word: &[u8], most: u64) -> Option<u64>
     Some(value)
 }
 
-/// The number of at most `most` that the word spells, if it spells one.
+/// Reads the number of at most `most` that the word spells, if it spells one.
 pub fn read_number(word: &[u8], most: u64) -> Option<u64>
     ensures value { result ≡ number_up_to most word.now }
     ensures small { IfSome result (λ n. n ≤ most) }

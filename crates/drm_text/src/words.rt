@@ -28,7 +28,7 @@ impl<'a> Model for Words<'a> {
 }
 
 impl<'a> Words<'a> {
-    /// The words of a line with this number.
+    /// Makes the words of a line with this number.
     #[inline]
     pub fn new(line: u32, bytes: &'a [u8]) -> Words<'a>
         requires { length bytes.now ≤ 1048576 }
@@ -40,7 +40,7 @@ impl<'a> Words<'a> {
         }
     }
 
-    /// Where the next word begins.
+    /// Returns where the next word begins.
     #[inline]
     pub fn position(&self) -> Position
         ensures { result ≡ position_of self.now }
@@ -51,7 +51,7 @@ impl<'a> Words<'a> {
         }
     }
 
-    /// How many bytes of the line are left, with the spaces between its words.
+    /// Returns how many bytes of the line are left, with the spaces between its words.
     #[inline]
     pub fn left(&self) -> usize
         ensures { result ≡ length (join_with_byte 32 self.now.rest.parts) }
@@ -59,7 +59,7 @@ impl<'a> Words<'a> {
         self.rest.left()
     }
 
-    /// The next word, if one is left. It may be empty.
+    /// Returns the next word, if one is left. It may be empty.
     #[inline]
     pub fn next(&mut self) -> Option<&'a [u8]>
         ensures some { IfSome result (λ word. (self.old.rest.parts ≡ word.now ∷ self.new.rest.parts)
@@ -69,7 +69,7 @@ impl<'a> Words<'a> {
         self.rest.next()
     }
 
-    /// A fault of the next word.
+    /// Returns a fault of the next word.
     #[inline]
     pub fn fault(&self, what: TextFault) -> Fault
         ensures { result ≡ fault_here self.now what }
@@ -77,7 +77,7 @@ impl<'a> Words<'a> {
         self.position().fault(what)
     }
 
-    /// A fault of the whole line.
+    /// Returns a fault of the whole line.
     pub fn fault_of_line(&self, what: TextFault) -> Fault
         ensures { result ≡ Text self.now.line 1 what }
     {
@@ -88,8 +88,8 @@ impl<'a> Words<'a> {
         }
     }
 
-    /// That a word is missing behind the last one, told at the column after the line's last byte, or that the word which
-    /// was cut last is empty, told at its column.
+    /// That a word is missing behind the last one, told at the column after the line's last byte, or that the word
+    /// which was cut last is empty, told at its column.
     fn missing(&self) -> Fault
         ensures { result ≡ Text self.now.line self.now.rest.at what.Word }
     {
@@ -100,7 +100,7 @@ impl<'a> Words<'a> {
         }
     }
 
-    /// The next word, which has to be there and may not be empty.
+    /// Reads the next word, which has to be there and may not be empty.
     #[inline]
     #[tactic(auto, unfolding(crate::specs::Words::word_at))]
     pub fn word(&mut self) -> Result<&'a [u8], Fault>
@@ -115,7 +115,7 @@ impl<'a> Words<'a> {
         }
     }
 
-    /// A number of at most `most`.
+    /// Reads a number of at most `most`.
     #[inline(always)]
     #[tactic(auto, unfolding(crate::specs::Words::number_at, crate::specs::Words::word_at))]
     pub fn number(&mut self, most: u64) -> Result<u64, Fault>
@@ -132,7 +132,7 @@ impl<'a> Words<'a> {
         }
     }
 
-    /// A number of at most `most`, which ends the line.
+    /// Reads a number of at most `most`, which ends the line.
     #[inline]
     #[tactic(auto, unfolding(crate::specs::Words::last_number_at))]
     pub fn last_number(&mut self, most: u64) -> Result<u64, Fault>
@@ -145,7 +145,7 @@ impl<'a> Words<'a> {
         Ok(number)
     }
 
-    /// The number of one of `count` things.
+    /// Reads the number of one of `count` things.
     #[inline]
     #[tactic(auto, unfolding(crate::specs::Words::name_at))]
     pub fn name(&mut self, count: usize) -> Result<u32, Fault>
@@ -161,7 +161,7 @@ impl<'a> Words<'a> {
         Ok(name)
     }
 
-    /// The number of one of `count` things, which ends the line.
+    /// Reads the number of one of `count` things, which ends the line.
     #[inline]
     #[tactic(auto, unfolding(crate::specs::Words::last_name_at))]
     pub fn last_name(&mut self, count: usize) -> Result<u32, Fault>
@@ -174,7 +174,7 @@ impl<'a> Words<'a> {
         Ok(name)
     }
 
-    /// That no word is left.
+    /// Checks that no word is left.
     #[inline]
     #[tactic(auto, unfolding(crate::specs::Words::end_at))]
     pub fn end(&mut self) -> Result<(), Fault>

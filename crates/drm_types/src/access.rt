@@ -32,7 +32,7 @@ pub enum Usage {
     Bookkeep,
 }
 
-/// The weakest usage that a job with this access waits for (`dma_resv_usage_rw`).
+/// Returns the weakest usage that a job with this access waits for (`dma_resv_usage_rw`).
 ///
 /// It is right that the names cross: a new reader waits for the writers, and a new writer for the readers too, which
 /// asking for READ gives since WRITE is the stronger. So a hold asks for KERNEL, the moves alone, and a move asks for
@@ -48,7 +48,7 @@ pub fn wanted(access: Access) -> Usage
     }
 }
 
-/// The usage that a job with this access adds (`dma_resv_add_fence`).
+/// Returns the usage that a job with this access adds (`dma_resv_add_fence`).
 pub fn adds(access: Access) -> Usage
     ensures { result ≡ added_usage access }
 {
@@ -73,7 +73,7 @@ impl Usage {
         }
     }
 
-    /// Whether this usage is at least as strong as the other.
+    /// Returns whether this usage is at least as strong as the other.
     pub fn is_as_strong_as(self, other: Usage) -> bool
         ensures { result ≡ is_as_strong self other }
     {

@@ -37,14 +37,14 @@ impl Model for BufferId {
 }
 
 impl BufferId {
-    /// The buffer at this place.
+    /// Makes the buffer at this place.
     pub fn new(number: u32) -> BufferId
         ensures { result ≡ number }
     {
         BufferId(number)
     }
 
-    /// Its place in the device.
+    /// Returns its place in the device.
     pub fn number(self) -> u32
         ensures { result ≡ self }
     {

@@ -20,7 +20,7 @@ impl<T> Model for Sequence<T> {
 }
 
 impl<T> Sequence<T> {
-    /// An empty list, which takes no memory yet.
+    /// Makes an empty list, which takes no memory yet.
     pub fn new(alloc: Global) -> Sequence<T>
         ensures { result ≡ [] }
     {
@@ -29,14 +29,14 @@ impl<T> Sequence<T> {
         }
     }
 
-    /// The list of these items.
+    /// Makes the list of these items.
     pub fn from_vec(items: Vec<T>) -> Sequence<T>
         ensures { result ≡ items.items }
     {
         Sequence { items }
     }
 
-    /// The items, given back.
+    /// Gives the items back.
     pub fn into_vec(self) -> Vec<T>
         ensures { result.items ≡ self }
     {
@@ -44,21 +44,21 @@ impl<T> Sequence<T> {
         items
     }
 
-    /// The items, to look at.
+    /// Lends the items.
     pub fn as_slice(&self) -> &[T]
         ensures { result.now ≡ self.now }
     {
         &self.items
     }
 
-    /// How many items there are.
+    /// Returns how many items there are.
     pub fn len(&self) -> usize
         ensures { result ≡ length self.now }
     {
         self.items.len()
     }
 
-    /// Whether there is no item.
+    /// Returns whether there is no item.
     pub fn is_empty(&self) -> bool
         ensures { result ≡ is_nil self.now }
     {

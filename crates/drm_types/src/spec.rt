@@ -18,7 +18,7 @@ pub enum Priority {
 }
 
 impl Priority {
-    /// The place of the priority in their order, highest first.
+    /// Returns the place of the priority in their order, highest first.
     pub fn rank(self) -> u32
         ensures { result ≡ rank_of self }
     {

@@ -9,8 +9,8 @@ use crate::sequence::Sequence;
 use crate::spec::{BadSpec, DeviceSpec, EntitySpec, RingSpec};
 
 impl DeviceSpec {
-    /// Whether the description is within its limits; if not, the first part that is not, in the order of
-    /// the parts.
+    /// Checks that the description is within its limits. If it is not, it returns the first part that is not, in the
+    /// order of the parts.
     pub fn check(&self) -> Result<(), BadSpec>
         ensures { MatchResult result (λ _. spec_fault self.now ≡ None) (λ bad. spec_fault self.now ≡ Some bad) }
     {

@@ -26,7 +26,7 @@ fn empty_shares(alloc: Global, count: usize, submitters: usize) -> Result<Vec<Ve
 ///
 /// # Errors
 ///
-/// Where memory for the lists is refused. The jobs are dropped.
+/// It fails if there is no memory for the lists. The jobs are dropped.
 pub fn deal(alloc: Global, jobs: Vec<Job>, submitters: u32) -> Result<Vec<Vec<Job>>, AllocError>
     requires { 0 < submitters }
     ensures shares { IfOk result (λ shares. AreShares (λ share. share.items) submitters jobs.items shares.items) }

@@ -25,8 +25,8 @@ use std::alloc::Global;
 use std::sync::Wait;
 use std::thread::Threads;
 
-// Takes the device apart once all workers are over, whose passes were joined, and reports what they have left, where that is
-// a run of so many jobs.
+// Takes the device apart once all workers are over, whose passes were joined, and reports what they have left, where
+// that is a run of so many jobs.
 fn take_apart(
     gpu: Gpu,
     alloc: Global,
@@ -107,15 +107,16 @@ fn drive<R: Threads + Wait + Sync, C: Clock + Sync, G: Gate + Sync>(
     take_apart(gpu, alloc, pass, armed, counts, limits.jobs)
 }
 
-/// Runs the jobs on a new device of this description, by workers in threads of their own, and reports what they have left.
-/// The job at place k is armed by submitter k mod `submitters`, each in the order of its jobs. Workers are numbered:
-/// the submitters, a scheduler for each ring, a ring worker for each ring, the watchdog. Each may try `turns` times in
-/// vain. The lists of the report are made before the first thread starts.
+/// Runs the jobs on a new device of this description, by workers in threads of their own, and reports what they have
+/// left. The job at place k is armed by submitter k mod `submitters`, each in the order of its jobs. Workers are
+/// numbered: the submitters, a scheduler for each ring, a ring worker for each ring, the watchdog. Each may try `turns`
+/// times in vain. The lists of the report are made before the first thread starts.
 ///
 /// # Errors
 ///
-/// Where the description is out of its limits, where memory is refused (but not to a submission, which is tried again),
-/// where a thread cannot be started, and where a worker has no turn left before it is done.
+/// It fails if the description is out of its limits, there is no memory (but a submission is tried again), a thread
+/// cannot be started, or a worker has no turn left before it is done. A report that is refused after all workers were
+/// done says that worker 0 gave up: it does not happen, since only the workers have passes, but no clause can say so.
 pub fn run_all<R: Threads + Wait + Sync, C: Clock + Sync, G: Gate + Sync>(
     alloc: Global,
     spec: DeviceSpec,

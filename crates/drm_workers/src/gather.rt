@@ -25,7 +25,8 @@ pub(crate) fn first_that_gave_up(dones: &[Done]) -> Option<usize>
     None
 }
 
-/// What the schedulers, the ring workers and the watchdog have counted. The lists are made before the first thread starts.
+/// What the schedulers, the ring workers and the watchdog have counted. The lists are made before the first thread
+/// starts.
 #[derive(Drop)]
 pub(crate) struct Counts {
     pub(crate) picked: Vec<u32>,

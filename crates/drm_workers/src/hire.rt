@@ -98,13 +98,13 @@ fn hire_on_rings(
     Ok(pass)
 }
 
-/// The workers of a run, each at the place of its number: a submitter for each share of jobs, a scheduler for each ring, a
-/// ring worker for each ring, and the watchdog. Each has a pass of its own that is split from this one, of which the rest
-/// comes back.
+/// Makes the workers of a run, each at the place of its number: a submitter for each share of jobs, a scheduler for
+/// each ring, a ring worker for each ring, and the watchdog. Each has a pass of its own that is split from this one, of
+/// which the rest comes back.
 ///
 /// # Errors
 ///
-/// Where memory for the lists is refused.
+/// It fails if there is no memory for the lists.
 pub fn hire_all(
     gpu: &Gpu,
     alloc: Global,

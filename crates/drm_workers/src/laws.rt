@@ -16,8 +16,8 @@ pub fn armed_jobs_stay()
     ensures { ArmedJobsStay }
 {}
 
-/// An arming that is not refused arms the number that it answers. One that is refused arms none, nor does a call by which a
-/// pass drives the device.
+/// An arming that is not refused arms the number that it answers. An arming that is refused arms none, nor does a call
+/// by which a pass drives the device.
 pub fn only_armings_arm()
     ensures { OnlyArmingsArm }
 {}

@@ -1,13 +1,13 @@
 //! The workers that drive a shared device in threads of their own: submitters arm jobs, for each ring one worker picks
 //! and one runs packets and finishes, and a watchdog looks for hangs.
 //!
-//! `run_all` runs a list of jobs on a new device and gives a report (`specs/Reports`): each job was armed once, has
-//! its outcome, and the buffers are those of the machine that runs the jobs one after another. `deal` gives each
-//! submitter its share of the list, `hire_all` makes the workers, each with a pass of its own, `run_workers` runs each
-//! `Worker` in a thread (`specs/Works`), `gather` joins their passes (`specs/Gathers`), and `tell` makes the report. A
-//! worker that tries in vain costs a turn and yields. One that has none left gives back all that it holds, runs the
-//! packet that it has out, and stops. That workers get on is not promised: they wait for one another. Ended jobs are
-//! counted beside the device.
+//! `run_all` runs a list of jobs on a new device and gives a report (`specs/Reports`): each job was armed once, has its
+//! outcome, and the buffers are those of the machine that runs the jobs one after another. Below it `hire_all` makes
+//! the workers, `run_workers` runs each `Worker` in a thread (`specs/Works`), and `gather` joins their passes
+//! (`specs/Gathers`).
+//!
+//! A worker that tries in vain loses a turn and yields. One that has none left releases what it holds, runs the packet
+//! that it has out, and stops. No clause promises that workers get on.
 #![tactic(auto)]
 
 mod counting;
@@ -36,7 +36,7 @@ pub use work::{Done, Duty, Limits, Worker};
 
 /// What tells workers the time.
 pub trait Clock {
-    /// The moment of a pick, a finish or a look at a head. Moments need not rise.
+    /// Returns the moment of a pick, a finish or a look at a head. Moments need not rise.
     fn now(&self) -> Moment;
 }
 
@@ -55,7 +55,7 @@ pub enum Point {
 
 /// What holds workers up, and is told how far they are.
 pub trait Gate {
-    /// Whether the worker may go on from this point. It asks until this answers true.
+    /// Returns whether the worker may go on from this point. The worker asks until it does.
     fn open(&self, worker: u32, point: Point) -> bool;
 
     /// The watchdog tells between its looks how many jobs have ended.

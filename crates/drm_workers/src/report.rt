@@ -22,14 +22,13 @@ pub struct Report {
     pub resets: u32,
 }
 
-/// The report of a run of so many jobs, where all of them were armed and have their outcomes, none was stopped, and
-/// the jobs that were picked and finished on each ring are as many as its records. The work is in proportion to the
-/// records.
+/// Returns the report of a run of so many jobs, if all were armed and have their outcomes, none was stopped, and the
+/// counts of jobs picked and finished on each ring are those of the records. The work is in proportion to the records.
 ///
 /// # Errors
 ///
-/// Where a job is missing, has no outcome, was stopped before it ran, or was counted otherwise. What the device left
-/// comes back.
+/// It fails if a job is missing, has no outcome, was stopped before it ran, or was counted otherwise. What the device
+/// left comes back.
 pub fn tell(
     closed: Closed,
     armed: Vec<Vec<FenceId>>,

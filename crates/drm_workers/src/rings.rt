@@ -35,8 +35,8 @@ struct Ran {
     is_last: bool,
 }
 
-// Where so many jobs of all have ended, after so many calls that changed nothing: whether that is all, and else whether a
-// turn is left.
+// Where so many jobs of all have ended, after so many calls that changed nothing: whether that is all, and else whether
+// a turn is left.
 fn follow(ended: u32, jobs: u32, turns: &mut Turns, vain: u32) -> Next {
     if ended >= jobs {
         return Next::Done;
@@ -83,8 +83,8 @@ pub(crate) fn schedule<R: Wait, C: Clock>(
     unreachable!()
 }
 
-// Sends the ring's next packet out, asks the gate, and runs the packet outside the device's lock. It answers whether one
-// ran; where no turn is left at the gate, it runs all the same, so that its job does not stand still.
+// Sends the ring's next packet out, asks the gate, and runs the packet outside the device's lock. It answers whether
+// one ran; where no turn is left at the gate, it runs all the same, so that its job does not stand still.
 fn run_packet<R: Wait, G: Gate>(
     gpu: &Gpu,
     pass: Pass,
@@ -208,8 +208,8 @@ fn look<R: Wait, C: Clock>(gpu: &Gpu, pass: &mut Pass, rings: u32, clock: &C, rt
     count
 }
 
-/// Looks for hangs, until all jobs have ended. It counts them, and tells the gate how many jobs have ended. While jobs end it
-/// sleeps between two looks.
+/// Looks for hangs, until all jobs have ended. It counts them, and tells the gate how many jobs have ended. While jobs
+/// end it sleeps between two looks.
 pub(crate) fn watch<R: Wait, C: Clock, G: Gate>(
     gpu: &Gpu,
     pass: &mut Pass,

@@ -38,12 +38,13 @@ fn join_all<R: Threads>(handles: Vec<Handle>, dones: &mut Vec<Done>, rt: &R)
     }
 }
 
-/// Runs each worker in a thread of its own, and waits for all of them. What each gives back stands in the worker's place.
+/// Runs each worker in a thread of its own, and waits for all of them. What each gives back stands in the worker's
+/// place.
 ///
 /// # Errors
 ///
-/// Where memory for the lists is refused (`Memory`), or a thread cannot be started (`NoThread`): the workers that run are
-/// told to give up then, and are waited for.
+/// It fails if there is no memory for the lists (`Memory`), or a thread cannot be started (`NoThread`). The workers
+/// that run are told to give up then, and the call waits for them.
 pub fn run_workers<R: Threads + Wait + Sync, C: Clock + Sync, G: Gate + Sync>(
     gpu: &Gpu,
     alloc: Global,

@@ -3,8 +3,8 @@ use std::sync::Wait;
 use std::sync::atomic::{AtomicBool, AtomicU64, Ordering};
 use std::time::Duration;
 
-/// How far a run is, for its workers: how many jobs have ended, and whether the turns of all are over. Who looks at it does
-/// not enter the device.
+/// How far a run is, for its workers: how many jobs have ended, and whether the turns of all are over. Who looks at it
+/// does not enter the device.
 #[derive(Drop)]
 pub(crate) struct RunState {
     ended: AtomicU64,

@@ -7,7 +7,8 @@ use crate::{Gate, Point};
 use std::sync::Wait;
 use std::thread;
 
-/// The turns that a worker has left, and how many jobs it has ended. All turns are gone where a thread could not be started.
+/// The turns that a worker has left, and how many jobs it has ended. All turns are gone where a thread could not be
+/// started.
 #[derive(Drop)]
 pub(crate) struct Turns<'a> {
     left: u32,
@@ -25,8 +26,8 @@ impl<'a> Turns<'a> {
         }
     }
 
-    /// Makes so many turns, and answers whether another is left. Where one is, the worker yields at once: who tries in vain
-    /// takes the device from those who get on.
+    /// Makes so many turns, and answers whether another is left. Where one is, the worker yields at once: who tries in
+    /// vain takes the device from those who get on.
     pub(crate) fn make(&mut self, turns: u32) -> bool {
         self.left = self.left.saturating_sub(turns);
         let are_left = self.are_left();

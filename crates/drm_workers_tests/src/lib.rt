@@ -1,7 +1,7 @@
 //! Tests of runs by workers in threads, by public items alone.
 //!
-//! They run on the pair of `drm_gpu_tests`: two buffers of four zeros, two rings, on each of them an entity, and room for
-//! eight jobs. The gates and clocks of `gates` make workers meet, hold one of them up, or let time pass.
+//! They run on the pair of `drm_gpu_tests`: two buffers of four zeros, two rings, on each of them an entity, and room
+//! for eight jobs. The gates and clocks of `gates` make workers meet, hold one of them up, or let time pass.
 #![tactic(auto)]
 
 ghost use Rattle.std.specs.Prelude.{◌≡◌, ◌<◌, All, IfOk, IfSome, vec_len};

@@ -17,7 +17,8 @@ fn a_gate_that_never_opens_is_given_up(rt: HostRuntime) -> Result<(), Fail> {
     Ok(())
 }
 
-// One of two submitters, whose jobs all fill one buffer, is held up at the point. It gives all back and gives up, and the other one arms its jobs.
+// One of two submitters, whose jobs all fill one buffer, is held up at the point. It gives all back and gives up, and
+// the other one arms its jobs.
 fn gives_up<R: Threads + Wait + Abort + Sync>(worker: u32, point: Point, rt: &R, alloc: Global) {
     let gate = Shut { worker, point };
     let fault = run(8, 1, 2, 1_000, &Still, &gate, rt, alloc).err();

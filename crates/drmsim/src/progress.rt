@@ -8,7 +8,8 @@ use std::time::Instant;
 /// How long a line stands at the least, in milliseconds.
 const PAUSE: u128 = 100;
 
-/// A line on standard error that is rewritten while a run goes on, at most ten times a second, where that is a terminal.
+/// A line on standard error that is rewritten while a run goes on, at most ten times a second, where that is a
+/// terminal.
 #[derive(Drop)]
 pub struct ProgressLine<'a> {
     rt: &'a HostRuntime,
@@ -19,7 +20,7 @@ pub struct ProgressLine<'a> {
 }
 
 impl<'a> ProgressLine<'a> {
-    /// A line that is not written yet.
+    /// Makes a line that is not written yet.
     pub fn new(rt: &'a HostRuntime) -> ProgressLine<'a> {
         let began = if rt.stderr().is_terminal() {
             Instant::now(rt).ok()

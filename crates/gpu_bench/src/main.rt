@@ -1,12 +1,12 @@
 //! gpu_bench: what the calls of a device that threads share cost.
 //!
-//! Each word `PART:THREADS:ROUNDS` makes so many rounds in each of so many threads, 8 at most, and prints what was done:
-//! the sum of the answers, the jobs that were armed, the packets that ran, and the sum of all bytes of the device. How
-//! long the rounds took, in nanoseconds, goes to standard error. A thread has a pass, a ring, an entity and a buffer of
-//! its own. `arm` submits a job with one buffer, `round` gives a job to its ring, runs its packet and ends it, `submit`
-//! does both, `status` looks at a fence. `fills` and `adds` run packets of 4,096 bytes outside the lock of the device.
-//! `jobs` makes the jobs and no rounds.
-//! `bench/gpu/run` times it beside the same in plain Rust, whose sums are what the gate expects here.
+//! Each word `PART:THREADS:ROUNDS` makes so many rounds in each of so many threads, 8 at most, and prints what was
+//! done: the sum of the answers, the jobs that were armed, the packets that ran, and the sum of all bytes of the
+//! device. How long the rounds took, in nanoseconds, goes to standard error. A thread has a pass, a ring, an entity and
+//! a buffer of its own. `arm` submits a job with one buffer, `round` gives a job to its ring, runs its packet and ends
+//! it, `submit` does both, `status` looks at a fence. `fills` and `adds` run packets of 4,096 bytes outside the lock of
+//! the device. `jobs` makes the jobs and no rounds. `bench/gpu/run` times it beside the same in plain Rust, whose sums
+//! are what the gate expects here.
 #![tactic(auto)]
 
 ghost use Rattle.std.specs.Prelude.{◌≤◌, IfSome};

@@ -98,8 +98,8 @@ fn draft_of(
     })
 }
 
-/// A job by chance. What the buffers hold after many of them hangs on their order: some fill a buffer, some double it, some
-/// add another one, and they declare the two in either order. One in 32 hangs until its ring is reset.
+/// A job by chance. What the buffers hold after many of them hangs on their order: some fill a buffer, some double it,
+/// some add another one, and they declare the two in either order. One in 32 hangs until its ring is reset.
 pub(crate) fn any_draft(alloc: Global, chance: &mut Chance) -> Option<Draft> {
     let entity = chance.draw() % 4;
     let credits = (chance.draw() % 3) as u16 + 1;

@@ -105,7 +105,8 @@ pub(crate) fn split_and_join<R: Wait>(
     gpu.join(one, other)
 }
 
-// What a ring does until nothing is left, with the timeout handler behind it: a job that hangs is reset, and then goes on.
+// What a ring does until nothing is left, with the timeout handler behind it: a job that hangs is reset, and then goes
+// on.
 fn drive<R: Wait>(gpu: &Gpu, pass: &mut Pass, ring: RingId, now: Moment, tally: &mut Tally, rt: &R)
     requires { IsSmall gpu.now.spec × (pass.old.gpu ≡ gpu.now) × (ring < 2) }
     ensures { pass.new.gpu ≡ gpu.now }

@@ -83,8 +83,8 @@ fn judge_buffers(closed: &Closed, tally: &mut Tally, alloc: Global) -> Result<()
     Ok(())
 }
 
-// Counts the sums that are not those of the records: each number was given once, each packet ran once, and each job ended
-// once.
+// Counts the sums that are not those of the records: each number was given once, each packet ran once, and each job
+// ended once.
 fn judge_sums(records: &[JobRecord], tally: &mut Tally) {
     let mut packets = 0u64;
     let mut fences = 0u64;

@@ -1,12 +1,13 @@
 //! gpu_soak: a device that threads share, under load.
 //!
-//! `gpu_soak [DEVICES SECONDS SEED THREADS CALLS]` makes devices one after another, so many or until so many seconds are over, 0
-//! seconds being no limit. On each of them so many threads make calls by chance: they submit, through the lock in each of
-//! its ways, and give up at each place; they pick, step, finish, run packets outside the lock, time out, cancel, reap, look,
-//! split and join their passes, and read back, and gates hold them up at each of these. At the end the records, run one
-//! after another, have to leave the bytes of the device and those of each readback, and each job, packet and end was
-//! answered once. It prints how many answers were wrong, what was done goes to standard error, and the status is 1 where any
-//! was. `bench/soak/run` drives it.
+//! `gpu_soak [DEVICES SECONDS SEED THREADS CALLS]` makes devices one after another, so many or until so many seconds
+//! are over, 0 seconds being no limit. On each of them so many threads make calls by chance. They submit, through the
+//! lock in each of its ways, and give up at each place. They pick, step, finish, run packets outside the lock, time
+//! out, cancel, reap, look, split and join their passes, and read back. Gates hold them up at each of these.
+//!
+//! At the end the records, run one after another, have to leave the bytes of the device and those of each readback.
+//! Each job, packet and end was answered once. The program prints how many answers were wrong; what was done goes to
+//! standard error, and the status is 1 if any was wrong. `bench/soak/run` drives it.
 #![tactic(auto)]
 
 ghost use Rattle.std.specs.Prelude.{◌≡◌, IfOk};

@@ -1,11 +1,11 @@
 //! lock_bench: what the lock of the device costs, on one thread and in threads.
 //!
 //! Each word `KIND:THREADS:ROUNDS` shares so many rounds among so many threads, and prints a sum. A round draws a
-//! ticket, locks, counts what it holds, gives it back and ends. `one` locks one value of sixteen, `all` locks all
-//! sixteen in an order of the thread's own, `yielding` does that and yields the processor before it gives them back, and
-//! `sleeping` does that and sleeps a millisecond. A round of `packets` locks nothing: it enters twice, to begin a packet
-//! and to report it.
-//! `bench/lock/run` times it beside the same in plain Rust, whose sums are what the gate expects here.
+//! ticket, locks, counts what it holds, gives it back and ends. `one` locks one value of sixteen, and `all` locks all
+//! sixteen in an order of the thread's own. `yielding` does that and yields the processor before it gives them back,
+//! and `sleeping` sleeps a millisecond there. A round of `packets` locks nothing: it enters twice, to begin a packet
+//! and to report it. `bench/lock/run` times it beside the same in plain Rust, whose sums are what the gate expects
+//! here.
 #![tactic(auto)]
 
 ghost use Rattle.std.specs.Prelude.{◌≤◌, IfSome};

@@ -40,21 +40,21 @@ pub(crate) fn place_of<X>(held: &Vec<(BufferId, X)>, buffer: BufferId) -> Option
 }
 
 impl<P, X, T> Acquire<P, X, T> {
-    /// The ticket that was drawn: the lower is the older.
+    /// Returns the ticket that was drawn: the lower is the older.
     pub fn ticket(&self) -> Ticket
         ensures { result ≡ self.now.ticket }
     {
         self.ticket
     }
 
-    /// What is held, in the order of the claims.
+    /// Returns what is held, in the order of the claims.
     pub fn held(&self) -> &[(BufferId, X)]
         ensures { result.now ≡ self.now.seat.held.items }
     {
         self.seat.held.as_slice()
     }
 
-    /// From now on the caller locks no more (`ww_acquire_done`).
+    /// Seals the context: from now on the caller locks no more (`ww_acquire_done`).
     pub fn done(&mut self)
         requires { self.old.sealed ≡ false }
         ensures sealed { self.new ≡ record self.old { sealed = true } }
@@ -63,7 +63,8 @@ impl<P, X, T> Acquire<P, X, T> {
         self.sealed = true;
     }
 
-    /// The value of a buffer that is held. What the caller writes to it shows to others only once it is given back.
+    /// Returns the value of a buffer that is held. What the caller writes to it shows to others only once it is given
+    /// back.
     pub fn value(&mut self, buffer: BufferId) -> &mut X
         requires { (i : ℕ) × HasAt buffer i self.old.seat.held.items }
         ensures* writes_back { sem 𝓛 (LendsValue P.row X.row T.row self.entry (index_of buffer self.old.seat.held.items) buffer result) }

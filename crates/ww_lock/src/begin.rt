@@ -37,8 +37,8 @@ impl<P, X: Drop, T> Seat<P, X, T> {
 }
 
 impl<W: Ward> Board<W> {
-    /// Draws the next ticket (`ww_acquire_init`), which is above each ticket that the seat knows of. Room for every value
-    /// of the board is taken before: the list that the seat had for its last ticket, or at first new memory.
+    /// Draws the next ticket (`ww_acquire_init`), which is above each ticket that the seat knows of. Room for every
+    /// value of the board is taken before: the list that the seat had for its last ticket, or at first new memory.
     pub fn begin<R: Wait>(
         &self,
         seat: Seat<W::Pivot, W::Value, W::Task>,

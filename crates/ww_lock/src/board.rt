@@ -48,7 +48,8 @@ pub struct Announcement<P, X, T> {
     pub held: Snapshot<Vec<(BufferId, X)>>,
     /// What becomes of the caller's task.
     pub change: Snapshot<TaskChange<T>>,
-    /// Whether the caller's calls gain one, from the pivot found to the one left. One that was posted is there already.
+    /// Whether the caller's calls gain one, from the pivot found to the one left. A call that was posted is there
+    /// already.
     pub is_call: bool,
 }
 

@@ -133,8 +133,8 @@ fn show<W: Ward>(
 }
 
 impl<W: Ward> Board<W> {
-    /// Makes a second seat, for another caller. It has seen what the first has seen, and has made no calls. Each has half
-    /// of the part of the board that the first had.
+    /// Makes a second seat, for another caller. It has seen what the first has seen, and has made no calls. Each has
+    /// half of the part of the board that the first had.
     pub fn split(
         &self,
         seat: Seat<W::Pivot, W::Value, W::Task>,
@@ -177,8 +177,8 @@ impl<W: Ward> Board<W> {
         Seat { place, held }
     }
 
-    /// Waits until the pivot is at home, and takes it. Nobody else has it until the caller leaves. Each value that the caller
-    /// holds fits the pivot found, as it is owed.
+    /// Waits until the pivot is at home, and takes it. Nobody else has it until the caller leaves. Each value that the
+    /// caller holds fits the pivot found, as it is owed.
     pub fn enter<R: Wait>(&self, seat: &mut Seat<W::Pivot, W::Value, W::Task>, rt: &R) -> W::Pivot
         requires { Sits false (table_of self.now) seat.old }
         ensures sits { Sits true (table_of self.now) seat.new }
@@ -190,9 +190,9 @@ impl<W: Ward> Board<W> {
         take_pivot(&self.table.shared, &self.waiters, &mut seat.place, rt)
     }
 
-    /// Brings the pivot home. The caller owes what it holds from now on as it is. `change` says whether a task begins or
-    /// ends with this call, and `is_call` whether the caller's calls gain one: a call that only waits, or that was posted
-    /// already, adds none. Where no call is noted, the pivot brought home and the one found grow to one another.
+    /// Brings the pivot home. The caller owes what it holds from now on as it is. `change` says whether a task begins
+    /// or ends with this call, and `is_call` whether the caller's calls gain one: a call that only waits, or that was
+    /// posted already, adds none. Where no call is noted, the pivot brought home and the one found grow to one another.
     pub fn leave(
         &self,
         seat: &mut Seat<W::Pivot, W::Value, W::Task>,
@@ -238,8 +238,8 @@ impl<W: Ward> Board<W> {
         look(&self.table.shared, &mut seat.place, word, fence)
     }
 
-    /// Shows what becomes of the pivot by the word of a fence, before the pivot is brought home. A caller may do so once
-    /// before it leaves, and then has to leave this very pivot. It owes what it holds from now on as it is.
+    /// Shows what becomes of the pivot by the word of a fence, before the pivot is brought home. A caller may do so
+    /// once before it leaves, and then has to leave this very pivot. It owes what it holds from now on as it is.
     pub fn post(
         &self,
         seat: &mut Seat<W::Pivot, W::Value, W::Task>,

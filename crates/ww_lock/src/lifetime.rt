@@ -61,8 +61,8 @@ fn take_value<P: Drop, X: Drop, T: Drop>(
 }
 
 impl<W: Ward> Board<W> {
-    /// Makes a board of at most 64 values, of a pivot that all of them fit, and of `posts` fence words, which start at 0,
-    /// and its first seat. It refuses where memory does.
+    /// Makes a board of at most 64 values, of a pivot that all of them fit, and of `posts` fence words, which start at
+    /// 0, and its first seat. It fails if there is no memory.
     pub fn new(
         alloc: Global,
         pivot: W::Pivot,
@@ -109,14 +109,14 @@ impl<W: Ward> Board<W> {
         ))
     }
 
-    /// How many values the board has, at home or out.
+    /// Returns how many values the board has, at home or out.
     pub fn buffers(&self) -> u32
         ensures { result ≡ self.now.buffers }
     {
         self.buffers
     }
 
-    /// How many fence words it has.
+    /// Returns how many fence words it has.
     pub fn posts(&self) -> u32
         ensures { result ≡ self.now.posts }
     {

@@ -43,7 +43,7 @@ pub enum LockError {
 pub struct Sealed;
 
 impl<W: Ward> Board<W> {
-    /// Locks a value if it is at home, and never waits (one attempt of `ww_mutex_lock`). Where the value is out, it says
+    /// Locks a value if it is at home, and never waits (one attempt of `ww_mutex_lock`). If the value is out, it says
     /// who holds it.
     pub fn try_lock(
         &self,

@@ -6,8 +6,8 @@ ghost use Rattle.ww_lock.specs.Lending.{LendsHeld, number_or};
 use crate::board::Place;
 use drm_types::BufferId;
 
-/// A pass to a board, for one caller, with what it holds. What it knows is said by clauses alone. Its only bytes are the
-/// list of what it holds, which is empty while the seat has no ticket and whose room serves the next one.
+/// A pass to a board, for one caller, with what it holds. What it knows is said by clauses alone. Its only bytes are
+/// the list of what it holds, which is empty while the seat has no ticket and whose room serves the next one.
 #[derive(Drop)]
 pub struct Seat<P, X, T> {
     pub(crate) place: Place<P, X, T>,

@@ -7,10 +7,11 @@ use crossbeam_utils::Backoff;
 use std::sync::Wait;
 use std::sync::atomic::{AtomicU32, Ordering};
 
-/// How many callers sleep on a word of the board, or are about to: where there is none, no wake is sent.
+/// How many callers sleep on a word of the board, or are about to. If there is none, no wake is sent, since a wake is a
+/// call of the system. The count is of the whole board, so some wakes are needless.
 ///
-/// A caller counts itself before it looks at the word and sleeps, and who changes a word asks for the count behind the
-/// change. So one of the two sees the other, and no sleeper is passed over.
+/// A caller counts itself before it looks at the word and sleeps, and a caller that changes a word asks for the count
+/// behind the change. So one of the two sees the other, and no sleeper is passed over.
 #[derive(Drop)]
 pub(crate) struct Sleepers {
     count: AtomicU32,
@@ -23,8 +24,9 @@ impl Sleepers {
         }
     }
 
-    // Spins for a while, and later sleeps for as long as the low half of the word is the one that was judged. Where that
-    // half is 0 it goes on spinning: the word of a value that is at home is 0 too, so a sleep would not see a release.
+    // Spins for a while, since a lock is mostly held for less time than a sleep and a wake take. Later it sleeps for as
+    // long as the low half of the word is the one that was judged. If that half is 0 it goes on spinning: the word of a
+    // value that is at home is 0 too, so a sleep would not see a release.
     pub(crate) fn pause<W: Ward, R: Wait>(
         &self,
         shared: &SharedTable<W>,

@@ -5,9 +5,9 @@ use std::sync::atomic::{AtomicBool, AtomicU64, Ordering};
 
 /// A queue of callers that wait for a condition (`wait_queue_head_t`).
 ///
-/// A caller prepares, looks at the condition, and sleeps where it does not hold. Who makes it hold wakes behind the change.
-/// So one of the two sees the other: a wake between a caller's two calls keeps it from sleeping. Where nobody sleeps, a wake
-/// is one load. While one is on its way no other is sent: who was woken asks for the next.
+/// A caller prepares, looks at the condition, and sleeps where it does not hold. A caller that makes it hold wakes
+/// behind the change. So one of the two sees the other: a wake between a caller's two calls keeps it from sleeping. If
+/// nobody sleeps, a wake is one load. While one is on its way no other is sent: who was woken asks for the next.
 #[derive(Drop)]
 pub struct WaitQueue {
     // A caller may sleep to whom no wake is on its way.
@@ -25,7 +25,7 @@ pub struct WaitEntry {
 }
 
 impl WaitEntry {
-    /// A wait that begins.
+    /// Makes a wait that begins.
     pub fn new() -> WaitEntry {
         WaitEntry {
             backoff: Backoff::new(),
@@ -35,7 +35,7 @@ impl WaitEntry {
 }
 
 impl WaitQueue {
-    /// A queue in which nobody waits (`init_waitqueue_head`).
+    /// Makes a queue in which nobody waits (`init_waitqueue_head`).
     pub fn new() -> WaitQueue {
         WaitQueue {
             waiting: AtomicBool::new(false),
@@ -51,8 +51,8 @@ impl WaitQueue {
         }
     }
 
-    /// Waits behind a look that failed (`schedule`): spins, or sleeps until a wake that is sent behind `prepare`. It may
-    /// return for no reason, so the caller prepares and looks again.
+    /// Waits behind a look that failed (`schedule`): spins, or sleeps until a wake that is sent behind `prepare`. It
+    /// may return for no reason, so the caller prepares and looks again.
     pub fn sleep<R: Wait>(&self, entry: &mut WaitEntry, rt: &R) {
         match entry.prepared.take() {
             None => entry.backoff.snooze(),

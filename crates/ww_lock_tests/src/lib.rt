@@ -1,8 +1,8 @@
 //! Tests of the lock by its public items alone, on one thread and in threads.
 //!
-//! The helpers of this file keep the conditions of the calls that they make, for any ward or for counters beside a pivot
-//! that says nothing of them. The tests stand in modules of their own: `locking` backs off and comes back, `words` posts
-//! and looks, `tasks` begins and ends a task, `waiting` is woken, `appending` and `counting` run threads.
+//! The helpers of this file keep the conditions of the calls that they make, for any ward or for counters beside a
+//! pivot that says nothing of them. The tests stand in modules of their own: `locking` backs off and comes back,
+//! `words` posts and looks, `tasks` begins and ends a task, `waiting` is woken, `appending` and `counting` run threads.
 #![tactic(auto)]
 
 ghost use Rattle.std.specs.Prelude.{◌≡◌, ◌<◌, ◌≤◌, ℕ, All, [], Some, vec_capacity, IfOk, IfSome};

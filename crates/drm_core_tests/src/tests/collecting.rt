@@ -53,8 +53,8 @@ fn hold(alloc: Global, device: &Device) -> Option<Held> {
     Some(held)
 }
 
-/// What the job waits for: the writer of buffer 0 and the readers of buffer 1, of which the reader with fence 4 is of the
-/// writer's entity and later.
+/// What the job waits for: the writer of buffer 0 and the readers of buffer 1, of which the reader with fence 4 is of
+/// the writer's entity and later.
 fn collects(alloc: Global, device: &Device) -> bool {
     let Ok(draft) = draft_of(alloc, READS_AND_WRITES) else {
         return false;

@@ -33,8 +33,8 @@ fn is_armed(alloc: Global, core: &mut Core) -> bool {
     )
 }
 
-/// Whether the job is armed, picked, run and finished, and its fence has signaled success: the worked call of the head of
-/// `drm_core`.
+/// Whether the job is armed, picked, run and finished, and its fence has signaled success: the worked call of the head
+/// of `drm_core`.
 fn goes_to_its_end(alloc: Global, core: &mut Core) -> bool {
     is_armed(alloc, core)
         && matches!(
