@@ -110,7 +110,8 @@ class Trial:
         if found:
             return next(iter(found.values()))
         said = [it for reasons in failures(self.sources.name, lines).values() for it in reasons]
-        if not any(map(FUNCTION.match, lines)):
+        # A crate of lemmas has no function: there the lemma itself is refused.
+        if not any(map(FUNCTION.match, lines)) and (self.sources.source.functions or not said):
             return Result(BAD if status == 1 else UNTRIED, next((it for it in lines if "error" in it), lines[-1]))
         if status == 1 and said:
             return judge(said)
