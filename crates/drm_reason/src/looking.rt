@@ -260,7 +260,7 @@ fn pending(device: &Device, fence: FenceId, job: &JobRecord) -> Reason
 // ---- any job
 
 impl Watch {
-    /// A watch of the job of this number, of which nothing is known.
+    /// Makes a watch of the job of this number. It knows nothing of the job yet.
     pub fn of(fence: FenceId) -> Watch
         ensures fence { result.fence ≡ fence }
         ensures known { (device : DeviceState) → Knows device result }
@@ -335,7 +335,7 @@ impl Watch {
     }
 }
 
-/// The reason of the job of this number. It goes once over the earlier jobs, as a watch does.
+/// Returns the reason of the job of this number. It goes once over the earlier jobs, as a watch does.
 pub fn reason_of(device: &Device, fence: FenceId) -> Reason
     ensures { result ≡ reason_in device.now.state fence }
 {
