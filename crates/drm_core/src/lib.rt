@@ -17,6 +17,7 @@ mod locking;
 mod looking;
 mod machine;
 mod names;
+mod outline;
 mod planned;
 mod planning;
 mod submission;
