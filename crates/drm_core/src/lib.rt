@@ -31,3 +31,4 @@ pub use drm_sched::{
 pub use event::Event;
 pub use laws::{every_run_is_lawful, headline};
 pub use machine::Core;
+pub use outline::put_number;
