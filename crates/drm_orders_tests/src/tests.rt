@@ -64,8 +64,6 @@ timeout 1 100\n\
 fn counts_a_hang_under_a_watchdog_that_looks_once(rt: HostRuntime) -> Result<(), Fail> {
     let found = count_orders(rt.alloc(), HANG, true, true, 100_000)?.ok_or("there are few")?;
     assert_eq!(rt; found.states, 3345);
-    assert_eq!(rt; found.moves, 5756);
-    assert_eq!(rt; found.stuck, 5);
     Ok(())
 }
 
@@ -88,8 +86,6 @@ cancel 0\n\
 fn counts_a_producer_that_is_cancelled_at_any_moment(rt: HostRuntime) -> Result<(), Fail> {
     let found = count_orders(rt.alloc(), CANCEL, true, true, 100_000)?.ok_or("there are few")?;
     assert_eq!(rt; found.states, 953);
-    assert_eq!(rt; found.moves, 2056);
-    assert_eq!(rt; found.stuck, 0);
     Ok(())
 }
 
@@ -113,7 +109,5 @@ timeout 0 100\n\
 fn counts_a_stall_under_a_watchdog_that_looks_once(rt: HostRuntime) -> Result<(), Fail> {
     let found = count_orders(rt.alloc(), STALL, true, true, 100_000)?.ok_or("there are few")?;
     assert_eq!(rt; found.states, 1120);
-    assert_eq!(rt; found.moves, 2455);
-    assert_eq!(rt; found.stuck, 4);
     Ok(())
 }
