@@ -31,4 +31,4 @@ pub use drm_sched::{
 pub use event::Event;
 pub use laws::{every_run_is_lawful, headline};
 pub use machine::Core;
-pub use outline::put_number;
+pub use outline::{put_draft, put_job, put_number};
