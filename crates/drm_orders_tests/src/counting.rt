@@ -2,6 +2,7 @@
 
 use drm_core::Event;
 use drm_explorer::{Exploration, explore};
+use drm_job::Draft;
 use drm_orders::Orders;
 use drm_scene::{Move, Scene};
 use drm_script::{Events, read_script};
@@ -22,7 +23,7 @@ pub struct Counted {
     pub over: usize,
 }
 
-fn all_events(alloc: Global, events: Events) -> Result<Vec<Event>, AllocError> {
+fn all_events(alloc: Global, events: Events) -> Result<Vec<Event<Draft>>, AllocError> {
     let mut all = Vec::new(alloc);
     let mut rest = events.into_left();
     while let Some(event) = rest.next() {
