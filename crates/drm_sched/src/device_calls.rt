@@ -387,7 +387,7 @@ impl Device {
         requires there { ring < length self.now.state.spec.rings }
         ensures { result.now.items ≡ pending_of self.now.state ring }
     {
-        &self.parts.table.rings[ring as usize].pending
+        self.parts.table.rings.pending(ring)
     }
 
     /// The moment from which the age of the ring's head counts.
@@ -395,7 +395,7 @@ impl Device {
         requires there { ring < length self.now.state.spec.rings }
         ensures { result ≡ option_map_or (λ r. r.since) (slice_get self.now.state.rings ring) 0 }
     {
-        self.parts.table.rings[ring as usize].since
+        self.parts.table.rings.since(ring)
     }
 
     /// Whether the entity takes no more jobs (`stopped` of `struct drm_sched_entity`).
