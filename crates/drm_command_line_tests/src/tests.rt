@@ -30,6 +30,16 @@ fn command_lines(rt: HostRuntime) -> Result<(), Fail> {
     assert_eq!(rt; read_words(rt.alloc(), &runs)?, work);
     let one = words_of(rt.alloc(), &["drmsim", "explain", "46"])?;
     assert_eq!(rt; read_words(rt.alloc(), &one)?, Request::Explain(Some("46")));
+    let orders = words_of(
+        rt.alloc(),
+        &["drmsim", "explore", "--mutex", "--states", "9"],
+    )?;
+    let explore = Request::Explore {
+        backs_off: false,
+        reaps: true,
+        most: Some("9"),
+    };
+    assert_eq!(rt; read_words(rt.alloc(), &orders)?, explore);
     let all = words_of(rt.alloc(), &["drmsim", "explain"])?;
     assert_eq!(rt; read_words(rt.alloc(), &all)?, Request::Explain(None));
     Ok(())
