@@ -1,0 +1,4 @@
+pub mod Seen
+pub mod Changed
+pub mod Spans
+pub mod Commands

@@ -1,0 +1,8 @@
+use Rattle.std.proofs.Common.{subst, sym}
+use Rattle.drm_core.specs.Lawful.{IsLawful}
+use Rattle.drm_engine.proofs.Pieces.{opened_lawful}
+use Rattle.drm_why.proofs.why.life.Goals as goal
+
+pub take_seen-seens-requires-clause-lawful : goal.take_seen-seens-requires-clause-lawful
+take_seen-seens-requires-clause-lawful c =
+    subst IsLawful (sym c.in-Ok.ensures.ok.0) (opened_lawful c.args.script.spec c.every_run_is_lawful.ensures)

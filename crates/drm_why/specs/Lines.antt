@@ -1,0 +1,83 @@
+-- The lines of the life of a job.
+use Rattle.std.specs.Prelude.{ℕ, ◌+◌, ◌-◌, List, [], ◌∷◌, ◌++◌, Option, Some, None, codes, flat_map}
+use Rattle.std.specs.Fmt.{decimal}
+use Rattle.std.specs.Option.{option_map_or}
+use Rattle.drm_types.specs.Firsts.{first}
+use Rattle.drm_core.specs.declared.event.Event.{Event}
+use Rattle.drm_core.specs.declared.event.Event.TheVariants as event
+use Rattle.drm_picture.specs.Commands.{moment_of, word_of}
+use Rattle.drm_reason.specs.declared.reason.Reason.{Reason}
+use Rattle.drm_reason.specs.declared.reason.Reason.TheVariants as reason
+use Rattle.drm_why.specs.Sentences.{one_in, said_of, two_in}
+use Rattle.drm_why.specs.declared.seeing.Change.{Change}
+
+-- a number behind a space
+abbrev pub spaced : ℕ → List ℕ
+spaced number = 32 ∷ decimal number
+
+-- the numbers of a command, up to the entity of its job
+abbrev pub numbers_of : Event ℕ → List ℕ
+numbers_of (event.Submit entity) = entity ∷ []
+numbers_of (event.Begin ctx) = ctx ∷ []
+numbers_of (event.Try ctx buffer) = ctx ∷ buffer ∷ []
+numbers_of (event.Done ctx) = ctx ∷ []
+numbers_of (event.Drop ctx buffer) = ctx ∷ buffer ∷ []
+numbers_of (event.End ctx) = ctx ∷ []
+numbers_of (event.Plan ctx entity) = ctx ∷ entity ∷ []
+numbers_of (event.Arm ctx) = ctx ∷ []
+numbers_of (event.Pick ring now) = ring ∷ now ∷ []
+numbers_of (event.Step ring) = ring ∷ []
+numbers_of (event.Finish ring now) = ring ∷ now ∷ []
+numbers_of (event.Timeout ring now) = ring ∷ now ∷ []
+numbers_of (event.Cancel entity) = entity ∷ []
+numbers_of (event.Reap entity) = entity ∷ []
+numbers_of (event.Read ctx buffer) = ctx ∷ buffer ∷ []
+numbers_of (event.Status fence) = fence ∷ []
+numbers_of (event.Dump buffer) = buffer ∷ []
+
+-- the text of a command, up to the entity of its job
+abbrev pub text_of_command : Event ℕ → List ℕ
+text_of_command command = word_of command ++ flat_map spaced (numbers_of command)
+
+-- the moment that a command tells
+abbrev pub text_of_moment : Option ℕ → List ℕ
+text_of_moment (Some now) = codes ", at moment " ++ decimal now
+text_of_moment None = []
+
+-- a change: the number of the command, its text, the moment that it tells, and what is said of the job behind it
+unfoldable pub line_of_change : Change → List ℕ
+line_of_change change =
+    decimal change.place ++ codes " " ++ text_of_command change.command ++ text_of_moment (moment_of change.command)
+    ++ codes ": " ++ said_of change.reason ++ codes "\n"
+
+-- how long what began with a change held, up to this place and this moment, in commands and in moments
+unfoldable pub line_of_span : Change → ℕ → ℕ → List ℕ
+line_of_span change place clock =
+    two_in (codes "for ") (place - change.place) (codes " commands and ") (clock - change.clock) ++ codes " moments: "
+    ++ said_of change.reason ++ codes "\n"
+
+-- an outcome stays: how long it held is not told
+abbrev pub held_text : Reason → List ℕ → List ℕ
+held_text (reason.Ended outcome) line = []
+held_text other line = line
+
+-- where what began with a change ends, and the moment that was told last there: at the next change, or at the end
+abbrev pub end_of : List Change → ℕ → ℕ
+end_of behind place = option_map_or (λ next. next.place) (first behind) place
+
+abbrev pub clock_at_end : List Change → ℕ → ℕ
+clock_at_end behind clock = option_map_or (λ next. next.clock) (first behind) clock
+
+abbrev pub spans_text : ℕ → ℕ → List Change → List ℕ
+spans_text place clock [] = []
+spans_text place clock (change ∷ behind) =
+    held_text change.reason (line_of_span change (end_of behind place) (clock_at_end behind clock)) ++ spans_text place clock behind
+
+-- what is told of a job whose reason never changes: it was not armed
+abbrev pub head_text : ℕ → List Change → List ℕ
+head_text fence [] = one_in (codes "fence ") fence (codes " is not armed\n")
+head_text fence (change ∷ changes) = []
+
+-- the life of a job: its changes, and how long each reason held in so many commands, with this moment told last
+unfoldable pub text_of_life : ℕ → List Change → ℕ → ℕ → List ℕ
+text_of_life fence changes place clock = head_text fence changes ++ flat_map line_of_change changes ++ spans_text place clock changes

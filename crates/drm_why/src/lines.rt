@@ -1,0 +1,207 @@
+//! The lines of the life of a job.
+
+ghost use Rattle.std.specs.Prelude.{◌≡◌, ◌+◌, ◌<◌, ◌++◌, IfOk, OnOk, drop, flat_map, length};
+ghost use Rattle.drm_why.specs.Lines.{clock_at_end, end_of, head_text, held_text, line_of_change, line_of_span, numbers_of, spaced, spans_text, text_of_command, text_of_life, text_of_moment};
+
+use crate::seeing::Change;
+use crate::sentences::put_said;
+use crate::text::{put_number, put_one, put_text, put_two};
+use drm_core::Event;
+use drm_picture::{moment, word};
+use drm_reason::Reason;
+use drm_types::{EntityId, FenceId, Moment};
+use std::alloc::{AllocError, Global};
+
+// Puts a number behind a space.
+fn put_spaced(out: &mut Vec<u8>, number: u64) -> Result<(), AllocError>
+    ensures { OnOk result (out.new.items ≡ out.old.items ++ spaced number) }
+{
+    put_text(out, " ")?;
+    put_number(out, number)
+}
+
+// Puts numbers, each behind a space.
+fn put_numbers(out: &mut Vec<u8>, numbers: &[u64]) -> Result<(), AllocError>
+    ensures { OnOk result (out.new.items ≡ out.old.items ++ flat_map spaced numbers.now) }
+{
+    for number in numbers {
+        put_spaced(out, *number)?;
+    }
+    Ok(())
+}
+
+// Puts the numbers of a command, up to the entity of its job.
+fn put_names(out: &mut Vec<u8>, command: Event<EntityId>) -> Result<(), AllocError>
+    ensures { OnOk result (out.new.items ≡ out.old.items ++ flat_map spaced (numbers_of command)) }
+{
+    match command {
+        Event::Submit { job } => put_numbers(out, &[u64::from(job)]),
+        Event::Begin { ctx } => put_numbers(out, &[u64::from(ctx)]),
+        Event::Try { ctx, buffer } => {
+            put_numbers(out, &[u64::from(ctx), u64::from(buffer.number())])
+        }
+        Event::Done { ctx } => put_numbers(out, &[u64::from(ctx)]),
+        Event::Drop { ctx, buffer } => {
+            put_numbers(out, &[u64::from(ctx), u64::from(buffer.number())])
+        }
+        Event::End { ctx } => put_numbers(out, &[u64::from(ctx)]),
+        Event::Plan { ctx, job } => put_numbers(out, &[u64::from(ctx), u64::from(job)]),
+        Event::Arm { ctx } => put_numbers(out, &[u64::from(ctx)]),
+        Event::Pick { ring, now } => put_numbers(out, &[u64::from(ring), now]),
+        Event::Step { ring } => put_numbers(out, &[u64::from(ring)]),
+        Event::Finish { ring, now } => put_numbers(out, &[u64::from(ring), now]),
+        Event::Timeout { ring, now } => put_numbers(out, &[u64::from(ring), now]),
+        Event::Cancel { entity } => put_numbers(out, &[u64::from(entity)]),
+        Event::Reap { entity } => put_numbers(out, &[u64::from(entity)]),
+        Event::Read { ctx, buffer } => {
+            put_numbers(out, &[u64::from(ctx), u64::from(buffer.number())])
+        }
+        Event::Status { fence } => put_numbers(out, &[u64::from(fence)]),
+        Event::Dump { buffer } => put_numbers(out, &[u64::from(buffer.number())]),
+    }
+}
+
+// Puts the text of a command, up to the entity of its job.
+fn put_command(out: &mut Vec<u8>, command: Event<EntityId>) -> Result<(), AllocError>
+    ensures { OnOk result (out.new.items ≡ out.old.items ++ text_of_command command) }
+{
+    put_text(out, word(command))?;
+    put_names(out, command)
+}
+
+// Puts the moment that a command tells, if it tells one.
+fn put_moment(out: &mut Vec<u8>, moment: Option<Moment>) -> Result<(), AllocError>
+    ensures { OnOk result (out.new.items ≡ out.old.items ++ text_of_moment moment) }
+{
+    match moment {
+        Some(now) => {
+            put_text(out, ", at moment ")?;
+            put_number(out, now)
+        }
+        None => Ok(()),
+    }
+}
+
+// Puts the line of a change.
+#[tactic(auto, unfolding(crate::specs::Lines::line_of_change))]
+fn put_change(out: &mut Vec<u8>, change: &Change) -> Result<(), AllocError>
+    ensures { OnOk result (out.new.items ≡ out.old.items ++ line_of_change change.now) }
+{
+    put_number(out, change.place as u64)?;
+    put_text(out, " ")?;
+    put_command(out, change.command)?;
+    put_moment(out, moment(change.command))?;
+    put_text(out, ": ")?;
+    put_said(out, change.reason)?;
+    put_text(out, "\n")
+}
+
+// Puts the lines of the changes.
+fn put_changes(out: &mut Vec<u8>, changes: &[Change]) -> Result<(), AllocError>
+    ensures { OnOk result (out.new.items ≡ out.old.items ++ flat_map line_of_change changes.now) }
+{
+    for change in changes {
+        put_change(out, change)?;
+    }
+    Ok(())
+}
+
+// Puts how long what began with a change held.
+#[tactic(auto, unfolding(crate::specs::Lines::line_of_span))]
+fn put_span(
+    out: &mut Vec<u8>,
+    change: &Change,
+    place: usize,
+    clock: Moment,
+) -> Result<(), AllocError>
+    ensures { OnOk result (out.new.items ≡ out.old.items ++ line_of_span change.now place clock) }
+{
+    let commands = place.saturating_sub(change.place) as u64;
+    let moments = clock.saturating_sub(change.clock);
+    put_two(out, "for ", commands, " commands and ", moments)?;
+    put_text(out, " moments: ")?;
+    put_said(out, change.reason)?;
+    put_text(out, "\n")
+}
+
+// Puts the same, where the change brought no outcome.
+fn put_held(
+    out: &mut Vec<u8>,
+    change: &Change,
+    place: usize,
+    clock: Moment,
+) -> Result<(), AllocError>
+    ensures { OnOk result (out.new.items ≡ out.old.items ++ held_text change.now.reason (line_of_span change.now place clock)) }
+{
+    match change.reason {
+        Reason::Ended(_) => Ok(()),
+        _ => put_span(out, change, place, clock),
+    }
+}
+
+// Where what began with the change of this number ends.
+fn end(changes: &[Change], place: usize, number: usize) -> usize
+    requires { number < length changes.now }
+    ensures { result ≡ end_of (drop (number + 1) changes.now) place }
+{
+    match changes.get(number + 1) {
+        Some(next) => next.place,
+        None => place,
+    }
+}
+
+// The moment that was told last there.
+fn clock_there(changes: &[Change], clock: Moment, number: usize) -> Moment
+    requires { number < length changes.now }
+    ensures { result ≡ clock_at_end (drop (number + 1) changes.now) clock }
+{
+    match changes.get(number + 1) {
+        Some(next) => next.clock,
+        None => clock,
+    }
+}
+
+// Puts how long each reason held.
+fn put_spans(
+    out: &mut Vec<u8>,
+    changes: &[Change],
+    place: usize,
+    clock: Moment,
+) -> Result<(), AllocError>
+    ensures { OnOk result (out.new.items ≡ out.old.items ++ spans_text place clock changes.now) }
+{
+    for (number, change) in changes.iter().enumerate() {
+        let ends = end(changes, place, number);
+        let last = clock_there(changes, clock, number);
+        put_held(out, change, ends, last)?;
+    }
+    Ok(())
+}
+
+// Puts what is told where nothing changes.
+fn put_head(out: &mut Vec<u8>, fence: FenceId, changes: &[Change]) -> Result<(), AllocError>
+    ensures { OnOk result (out.new.items ≡ out.old.items ++ head_text fence changes.now) }
+{
+    match changes {
+        [] => put_one(out, "fence ", u64::from(fence), " is not armed\n"),
+        _ => Ok(()),
+    }
+}
+
+/// The text of the life of a job, of so many commands, behind which this moment was told last.
+#[tactic(auto, unfolding(crate::specs::Lines::text_of_life))]
+pub(crate) fn life_text(
+    alloc: Global,
+    fence: FenceId,
+    changes: &[Change],
+    place: usize,
+    clock: Moment,
+) -> Result<Vec<u8>, AllocError>
+    ensures { IfOk result (λ text. text.items ≡ text_of_life fence changes.now place clock) }
+{
+    let mut out = Vec::new(alloc);
+    put_head(&mut out, fence, changes)?;
+    put_changes(&mut out, changes)?;
+    put_spans(&mut out, changes, place, clock)?;
+    Ok(out)
+}

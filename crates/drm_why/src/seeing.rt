@@ -1,0 +1,116 @@
+//! What is seen of a job while commands happen, and where its reason changes.
+
+ghost use Rattle.std.specs.Prelude.{◌≡◌, ◌↔◌, IfOk, IsTrue};
+ghost use Rattle.drm_core.specs.Lawful.{IsLawful};
+ghost use Rattle.drm_core.specs.Run.{AllNamesExist};
+ghost use Rattle.drm_reason.specs.declared.reason.Reason.TheVariants as reason;
+ghost use Rattle.drm_why.specs.Seeing.{AreChanges, Sees, clock_behind, clock_of, command_of};
+
+use drm_core::{Core, Event};
+use drm_job::Draft;
+use drm_picture::moment;
+use drm_reason::{Reason, Watch, knowledge_stays};
+use drm_script::Events;
+use drm_types::{EntityId, FenceId, Moment};
+use std::alloc::{AllocError, Global};
+
+/// What is seen of a job behind one command.
+#[derive(Clone, Copy)]
+pub struct Seen {
+    /// What the command does: the event, with the entity of the job that it brings.
+    pub command: Event<EntityId>,
+    /// The reason of the job behind it.
+    pub reason: Reason,
+}
+
+/// A command behind which the reason of the job is another than before.
+#[derive(Clone, Copy)]
+pub struct Change {
+    /// The number of the command, counted from 0.
+    pub place: usize,
+    /// What the command does.
+    pub command: Event<EntityId>,
+    /// The moment that was told last, by this command or before it.
+    pub clock: Moment,
+    /// The reason behind it.
+    pub reason: Reason,
+}
+
+// What a command does: the event with the entity of the job that it brings.
+fn command(event: &Event<Draft>) -> Event<EntityId>
+    ensures { result ≡ command_of event.now }
+{
+    event.map_job(|draft| draft.entity)
+}
+
+// Whether the reasons are the same.
+fn are_same(one: Reason, other: Reason) -> bool
+    ensures { IsTrue result ↔ (one ≡ other) }
+{
+    one == other
+}
+
+// The moment that was told last behind this command.
+fn clock_after(clock: Moment, command: Event<EntityId>) -> Moment
+    ensures { result ≡ clock_behind clock command }
+{
+    moment(command).unwrap_or(clock)
+}
+
+/// Gives the core all events, and keeps each command with the reason that the job has behind it.
+pub(crate) fn take_seen(
+    alloc: Global,
+    core: &mut Core,
+    events: Events,
+    fence: FenceId,
+) -> Result<Vec<Seen>, AllocError>
+    requires names { AllNamesExist core.old.device.spec events }
+    requires lawful { IsLawful core.old }
+    ensures { IfOk result (λ seens. Sees fence core.old events seens.items core.new) }
+{
+    knowledge_stays();
+    let mut seens = Vec::new(alloc);
+    let mut watch = Watch::of(fence);
+    let mut rest = events.into_left();
+    while let Some(event) = rest.next() {
+        let command = command(&event);
+        core.apply(alloc, event);
+        let reason = watch.look(core.device());
+        seens.push(Seen { command, reason })?;
+    }
+    Ok(seens)
+}
+
+/// The changes of what was seen, from a core on which no job was armed.
+pub(crate) fn changes(alloc: Global, seens: &[Seen]) -> Result<Vec<Change>, AllocError>
+    ensures { IfOk result (λ changes. AreChanges reason.NotArmed 0 0 seens.now changes.items) }
+{
+    let mut changes = Vec::new(alloc);
+    let mut before = Reason::NotArmed;
+    let mut clock = 0;
+    for (place, seen) in seens.iter().enumerate() {
+        clock = clock_after(clock, seen.command);
+        if are_same(seen.reason, before) {
+            continue;
+        }
+        changes.push(Change {
+            place,
+            command: seen.command,
+            clock,
+            reason: seen.reason,
+        })?;
+        before = seen.reason;
+    }
+    Ok(changes)
+}
+
+/// The moment that was told last of all.
+pub(crate) fn last_clock(seens: &[Seen]) -> Moment
+    ensures { result ≡ clock_of seens.now }
+{
+    let mut clock = 0;
+    for seen in seens {
+        clock = clock_after(clock, seen.command);
+    }
+    clock
+}
