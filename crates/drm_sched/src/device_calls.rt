@@ -1,6 +1,7 @@
 ghost use Rattle.std.specs.Prelude.{◌≡◌, ◌<◌, ℕ, length, Some, None, IfOk, IfErr, OnOk, MatchResult, map, option_map, slice_get, false};
 ghost use Rattle.std.specs.List.{filter};
 ghost use Rattle.std.specs.Option.{option_map_or};
+ghost use Rattle.drm_types.specs.Firsts.{first};
 ghost use Rattle.drm_types.specs.Limits.{spec_fault};
 ghost use Rattle.drm_buffer.specs.Memory.{bytes_of, sizes_of};
 ghost use Rattle.drm_buffer.specs.Stored.{is_out_of};
@@ -23,7 +24,8 @@ ghost use Rattle.drm_sched.specs.Calls.{PickIs, StepIs, FinishIs, TimeoutIs, Can
 ghost use Rattle.drm_sched.specs.Marks.{is_step_blocked, is_out, ring_out, unmarked, IsSteadyMarked};
 ghost use Rattle.drm_state.specs.Steady.{IsSteady};
 ghost use Rattle.drm_state.specs.Records.{fence_state_of};
-ghost use Rattle.drm_state.specs.Ring.{is_guilty, is_stopped, pending_of};
+ghost use Rattle.drm_state.specs.Choice.{choice, queue_of};
+ghost use Rattle.drm_state.specs.Ring.{current_of, free_credits, is_guilty, is_stopped, pending_of};
 ghost use Rattle.drm_state.specs.Errors.{refusal_of_arm, refusal_of_read};
 
 use crate::outside::Begun;
@@ -387,7 +389,40 @@ impl Device {
         requires there { ring < length self.now.state.spec.rings }
         ensures { result.now.items ≡ pending_of self.now.state ring }
     {
-        &self.parts.table.rings[ring as usize].pending
+        self.parts.table.rings.pending(ring)
+    }
+
+    /// The job that the ring takes next, whether it fits or not (`drm_sched_select_entity`). It looks at no dependency.
+    pub fn choice(&self, ring: RingId) -> Option<FenceId>
+        requires there { ring < length self.now.state.spec.rings }
+        ensures { result ≡ choice self.now.state ring }
+    {
+        let parts = &*self.parts;
+        parts.heads.choice(&parts.table, ring)
+    }
+
+    /// The first job in the queue of the entity (`drm_sched_entity_queue_peek`).
+    pub fn head(&self, entity: EntityId) -> Option<FenceId>
+        requires there { entity < length self.now.state.spec.entities }
+        ensures { result ≡ option_map (λ n. n.0) (first (queue_of entity self.now.state.journal)) }
+    {
+        self.parts.table.entities.head(entity)
+    }
+
+    /// The first pending job of the ring that has packets to run: the one that the ring runs.
+    pub fn current(&self, ring: RingId) -> Option<FenceId>
+        requires there { ring < length self.now.state.spec.rings }
+        ensures { result ≡ current_of self.now.state ring }
+    {
+        self.parts.table.current(ring)
+    }
+
+    /// The credits that the ring has left (`drm_sched_available_credits`).
+    pub fn free_credits(&self, ring: RingId) -> u32
+        requires there { ring < length self.now.state.spec.rings }
+        ensures { result ≡ free_credits self.now.state ring }
+    {
+        self.parts.table.rings.credits(ring).free() as u32
     }
 
     /// The moment from which the age of the ring's head counts.
@@ -395,7 +430,7 @@ impl Device {
         requires there { ring < length self.now.state.spec.rings }
         ensures { result ≡ option_map_or (λ r. r.since) (slice_get self.now.state.rings ring) 0 }
     {
-        self.parts.table.rings[ring as usize].since
+        self.parts.table.rings.since(ring)
     }
 
     /// Whether the entity takes no more jobs (`stopped` of `struct drm_sched_entity`).

@@ -1,21 +1,16 @@
-use Rattle.std.proofs.Common.{◌≡◌, ◌<◌, length, sym, subst}
+use Rattle.std.proofs.Common.{◌≡◌, ◌<◌, ◌∙◌, length, sym, subst}
 use Rattle.drm_state.specs.Ring.{pending_of}
-use Rattle.drm_table.proofs.TableFacts.{row_found, row_pending, row_there}
+use Rattle.drm_table.proofs.TableFacts.{pending_told, row_there}
 use Rattle.drm_sched.specs.Marks.{MarkedDevice}
 use Rattle.drm_sched.proofs.Boxed.{view_read, whole_read}
 use Rattle.drm_sched.proofs.device_calls.Device.pending.Goals as goal
 
-pub index-requires : goal.index-requires
-index-requires c =
-    let t = c.deref.result.now.table in
+pub pending-requires : goal.pending-requires
+pending-requires c =
     let there = subst (λ (d : MarkedDevice). c.args.ring < length d.state.spec.rings) (sym (view_read c.deref.ensures c.self.view_is)) c.requires.there in
-    subst (λ n. c.args.ring < n) (sym t.rings.ok.0) (row_there t c.args.ring (whole_read c.deref.ensures c.self.invariant.0).table there)
+    row_there c.deref.result.now.table c.args.ring (whole_read c.deref.ensures c.self.invariant.0).table there
 
 pub returns : goal.returns
 returns c =
-    let t = c.deref.result.now.table in
-    let row = c.index.result.now in
-    let there = subst (λ (d : MarkedDevice). c.args.ring < length d.state.spec.rings) (sym (view_read c.deref.ensures c.self.view_is)) c.requires.there in
-    let at = row_found t c.args.ring row (whole_read c.deref.ensures c.self.invariant.0).table there c.index.ensures in
-    subst (λ (d : MarkedDevice). row.pending.items ≡ pending_of d.state c.args.ring) (view_read c.deref.ensures c.self.view_is)
-    (sym (row_pending t c.args.ring row at))
+    subst (λ (d : MarkedDevice). c.pending.result.now.items ≡ pending_of d.state c.args.ring) (view_read c.deref.ensures c.self.view_is)
+    (c.pending.ensures ∙ pending_told c.deref.result.now.table.rings c.args.ring)
