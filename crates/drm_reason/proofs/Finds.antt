@@ -9,10 +9,11 @@ use Rattle.drm_state.specs.declared.journal.JobRecord.{JobRecord}
 use Rattle.drm_state.specs.Journal.{numbered}
 use Rattle.drm_state.specs.Choice.{queue_of}
 use Rattle.drm_state.specs.Chosen.{IsFirstQueued}
-use Rattle.drm_state.proofs.ChoiceIs.{first-filter, get_numbered, get_take, is_queued_of, numbered_get}
+use Rattle.drm_lists.proofs.Places.{get_numbered, get_take}
+use Rattle.drm_state.proofs.ChoiceIs.{first-filter, is_queued_of, numbered_get}
 use Rattle.drm_state.proofs.Found.{find_at, find_none}
 use Rattle.drm_state.proofs.Homes.{none_passes}
-use Rattle.drm_state.proofs.Pairs.{find_first}
+use Rattle.drm_lists.proofs.Searches.{find_first}
 
 -- ---- lists
 

@@ -13,7 +13,8 @@ use Rattle.drm_state.specs.State.{DeviceState}
 use Rattle.drm_state.specs.Grows.{EachInPlace, GoesOn, RecordGrows}
 use Rattle.drm_state.specs.Journal.{is_at, numbered}
 use Rattle.drm_state.specs.Order.{comes_after, is_met}
-use Rattle.drm_state.proofs.Records.{at_test, passes_at, stands_within}
+use Rattle.drm_lists.proofs.Places.{stands_within}
+use Rattle.drm_state.proofs.Records.{at_test, passes_at}
 use Rattle.drm_reason.specs.Reasons.{head_reason, is_going, least_going, least_unmet, must_follow, ready_reason, unmet_reason}
 use Rattle.drm_reason.specs.Standing.{is_unmet}
 use Rattle.drm_reason.specs.Watching.{IsKnownBelow, KnowledgeStays, NoneBelow}

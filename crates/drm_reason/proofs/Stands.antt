@@ -16,8 +16,8 @@ use Rattle.drm_state.specs.Chosen.{ChoiceIsLeast, IsFirstQueued, IsLeast, MayBeg
 use Rattle.drm_state.specs.Ring.{credits_of, current_of, free_credits, head_of, is_stopped, pending_of}
 use Rattle.drm_state.specs.Steady.{IsSteady}
 use Rattle.drm_state.proofs.Homes.{none_passes}
-use Rattle.drm_state.proofs.Pairs.{find_first}
-use Rattle.drm_state.proofs.Pending.{place_of}
+use Rattle.drm_lists.proofs.Searches.{find_first}
+use Rattle.drm_lists.proofs.Places.{place_of}
 use Rattle.drm_state.proofs.RanLawful.{is_going}
 use Rattle.drm_state.proofs.RingChange.{first_is}
 use Rattle.drm_reason.specs.declared.reason.Reason.TheVariants as reason

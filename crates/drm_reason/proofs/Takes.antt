@@ -26,9 +26,9 @@ use Rattle.drm_state.specs.Refusals.{finish_refusal, must_still_wait, pick_refus
 use Rattle.drm_state.specs.Outcomes.{at_record, ended_at, final_outcome, finish_outcome, finished_device, must_stall, pick_outcome, picked_device, ran_device, step_outcome, stepped_by}
 use Rattle.drm_state.specs.Steady.{IsSteady}
 use Rattle.drm_state.proofs.ChoiceIs.{all_of_filter}
-use Rattle.drm_state.proofs.Pending.{contains_at}
+use Rattle.drm_lists.proofs.Places.{contains_at, stands_within}
 use Rattle.drm_state.proofs.RanLawful.{IsCurrent, current_is}
-use Rattle.drm_state.proofs.Records.{at_test, stands_within}
+use Rattle.drm_state.proofs.Records.{at_test}
 use Rattle.drm_state.proofs.RingChange.{first_is}
 use Rattle.drm_reason.specs.declared.reason.Reason.{Reason}
 use Rattle.drm_reason.specs.declared.reason.Reason.TheVariants as reason

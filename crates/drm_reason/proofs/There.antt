@@ -19,7 +19,7 @@ use Rattle.drm_state.specs.Ring.{pending_of}
 use Rattle.drm_state.specs.Steady.{IsRingOf, IsSteady}
 use Rattle.drm_reason.specs.Watching.{IsThere}
 use Rattle.drm_state.proofs.Homes.{listed_there}
-use Rattle.drm_state.proofs.Records.{stands_within}
+use Rattle.drm_lists.proofs.Places.{stands_within}
 
 -- the entity of a job
 entity_there : (spec : DeviceSpec) (job : Draft) → IsJob spec job → job.entity < length spec.entities

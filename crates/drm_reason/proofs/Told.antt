@@ -14,8 +14,8 @@ use Rattle.drm_state.specs.Chosen.{ChoiceIsLeast, GoesBefore, IsFirstQueued, IsL
 use Rattle.drm_state.specs.Lawful.{IsLawfulDevice}
 use Rattle.drm_state.specs.Ring.{credits_of, current_of, free_credits, head_of, is_stopped, pending_of}
 use Rattle.drm_state.specs.Steady.{IsSteady}
-use Rattle.drm_state.proofs.Pairs.{find_first}
-use Rattle.drm_state.proofs.Pending.{contains_at}
+use Rattle.drm_lists.proofs.Searches.{find_first}
+use Rattle.drm_lists.proofs.Places.{contains_at}
 use Rattle.drm_state.proofs.RanLawful.{IsCurrent, current_is, is_going}
 use Rattle.drm_state.proofs.RingChange.{first_is}
 use Rattle.drm_reason.specs.declared.reason.How.{How}

@@ -1,10 +1,7 @@
-use Rattle.std.proofs.Common.{◌≡◌, ◌<◌, ◌∙◌, List, length, refl, subst, sym, ap, Option}
-use Rattle.std.specs.Prelude.{unwrap_or}
+use Rattle.std.proofs.Common.{List, subst, sym}
 use Rattle.drm_state.specs.declared.journal.JobRecord.{JobRecord}
-use Rattle.drm_state.proofs.Records.{at_index}
 use Rattle.drm_reason.specs.Standing.{is_unmet}
-use Rattle.drm_reason.specs.Watching.{IsKnownBelow, NoneBelow}
-use Rattle.drm_reason.proofs.Looks.{found_within, known_met, ready_told, waits_told}
+use Rattle.drm_reason.specs.Watching.{NoneBelow}
 use Rattle.drm_reason.proofs.looking.Watch.head.Goals as goal
 
 pub first_unmet-unmet-requires : goal.first_unmet-unmet-requires
