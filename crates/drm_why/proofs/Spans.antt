@@ -3,7 +3,8 @@ use Rattle.std.proofs.Common.{◌≡◌, ℕ, zero, suc, ◌+◌, ◌<◌, ◌�
 use Rattle.std.proofs.Math.ListN.{drop_of_length-le}
 use Rattle.std.proofs.Math.Seq.{drop-cons}
 use Rattle.drm_types.specs.Firsts.{first}
-use Rattle.drm_why.specs.Lines.{clock_at_end, end_of, held_text, line_of_span, spans_text}
+use Rattle.drm_why.specs.Lines.{held_text, line_of_span, spans_text}
+use Rattle.drm_why.specs.Longest.{clock_at_end, end_of}
 use Rattle.drm_why.specs.declared.seeing.Change.{Change}
 
 -- the first that is left

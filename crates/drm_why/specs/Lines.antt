@@ -1,14 +1,15 @@
 -- The lines of the life of a job.
-use Rattle.std.specs.Prelude.{ℕ, ◌+◌, ◌-◌, List, [], ◌∷◌, ◌++◌, Option, Some, None, codes, flat_map}
+use Rattle.std.specs.Prelude.{ℕ, ◌+◌, ◌-◌, List, [], ◌∷◌, ◌++◌, Option, Some, None, codes, drop, flat_map, slice_get}
 use Rattle.std.specs.Fmt.{decimal}
 use Rattle.std.specs.Option.{option_map_or}
-use Rattle.drm_types.specs.Firsts.{first}
 use Rattle.drm_core.specs.declared.event.Event.{Event}
 use Rattle.drm_core.specs.declared.event.Event.TheVariants as event
 use Rattle.drm_picture.specs.Commands.{moment_of, word_of}
 use Rattle.drm_reason.specs.declared.reason.Reason.{Reason}
 use Rattle.drm_reason.specs.declared.reason.Reason.TheVariants as reason
 use Rattle.drm_why.specs.Sentences.{one_in, said_of, two_in}
+use Rattle.drm_why.specs.Longest.{clock_at_end, commands_of, end_of}
+use Rattle.drm_why.specs.declared.chain.Link.{Link}
 use Rattle.drm_why.specs.declared.seeing.Change.{Change}
 
 -- a number behind a space
@@ -61,13 +62,6 @@ abbrev pub held_text : Reason → List ℕ → List ℕ
 held_text (reason.Ended outcome) line = []
 held_text other line = line
 
--- where what began with a change ends, and the moment that was told last there: at the next change, or at the end
-abbrev pub end_of : List Change → ℕ → ℕ
-end_of behind place = option_map_or (λ next. next.place) (first behind) place
-
-abbrev pub clock_at_end : List Change → ℕ → ℕ
-clock_at_end behind clock = option_map_or (λ next. next.clock) (first behind) clock
-
 abbrev pub spans_text : ℕ → ℕ → List Change → List ℕ
 spans_text place clock [] = []
 spans_text place clock (change ∷ behind) =
@@ -78,6 +72,26 @@ abbrev pub head_text : ℕ → List Change → List ℕ
 head_text fence [] = one_in (codes "fence ") fence (codes " is not armed\n")
 head_text fence (change ∷ changes) = []
 
--- the life of a job: its changes, and how long each reason held in so many commands, with this moment told last
-unfoldable pub text_of_life : ℕ → List Change → ℕ → ℕ → List ℕ
-text_of_life fence changes place clock = head_text fence changes ++ flat_map line_of_change changes ++ spans_text place clock changes
+-- a job and what is said of it
+unfoldable pub line_of_link : Link → List ℕ
+line_of_link link = one_in (codes "fence ") link.fence (codes " ") ++ said_of link.reason ++ codes "\n"
+
+-- for how many commands and moments a change held the job up, and by which jobs, one the other
+unfoldable pub lines_of_longest : ℕ → ℕ → List Link → List ℕ
+lines_of_longest commands moments links =
+    two_in (codes "held up longest, for ") commands (codes " commands and ") moments ++ codes " moments, by\n" ++ flat_map line_of_link links
+
+-- so of the change of this number
+abbrev pub longest_text : List Change → ℕ → ℕ → Option ℕ → List ℕ
+longest_text changes place clock None = []
+longest_text changes place clock (Some number) =
+    option_map_or
+    (λ change. lines_of_longest (commands_of changes place number) (clock_at_end (drop (number + 1) changes) clock - change.clock) change.links)
+    (slice_get changes number)
+    []
+
+-- the life of a job: its changes, how long each reason held in so many commands, with this moment told last, and by which
+-- jobs it was held up longest, where it was
+unfoldable pub text_of_life : ℕ → List Change → ℕ → ℕ → Option ℕ → List ℕ
+text_of_life fence changes place clock longest =
+    head_text fence changes ++ flat_map line_of_change changes ++ spans_text place clock changes ++ longest_text changes place clock longest

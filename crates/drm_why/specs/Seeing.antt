@@ -3,6 +3,7 @@ use Rattle.std.specs.Prelude.{◌≡◌, ℕ, ◌+◌, ◌⊎◌, List, [], ◌�
 use Rattle.drm_job.specs.declared.Draft.{Draft}
 use Rattle.drm_state.specs.declared.answer.Answer.{Answer}
 use Rattle.drm_state.specs.Grows.{Grows}
+use Rattle.drm_state.specs.State.{DeviceState}
 use Rattle.drm_core.specs.declared.event.Event.{Event}
 use Rattle.drm_core.specs.Jobs.{with_job}
 use Rattle.drm_core.specs.Lawful.{IsLawful}
@@ -11,26 +12,37 @@ use Rattle.drm_core.specs.Step.{Step}
 use Rattle.drm_picture.specs.Commands.{moment_of}
 use Rattle.drm_reason.specs.declared.reason.Reason.{Reason}
 use Rattle.drm_reason.specs.Reasons.{reason_of}
+use Rattle.drm_why.specs.declared.chain.Link.{Link}
 use Rattle.drm_why.specs.declared.seeing.Change.{Change}
 use Rattle.drm_why.specs.declared.seeing.Seen.{Seen}
+use Rattle.drm_why.specs.Chains.{IsChain}
 
 -- what a command does: the event with the entity of the job that it brings
 abbrev pub command_of : Event Draft → Event ℕ
 command_of event = with_job (λ draft. draft.entity) event
 
--- what is seen behind an event: what it does, and the reason that the job has in the core that it leads to
-abbrev pub seen_of : ℕ → Event Draft → CoreState → Seen
-seen_of fence event core = record { command = command_of event; reason = reason_of core.device fence }
+-- the jobs that hold up this one, which had one reason and has another now. Where it has the same they are not looked up
+abbrev pub AreLinks : DeviceState → ℕ → Reason → Reason → List Link → Type 0
+AreLinks device fence before now links =
+    ((now ≡ before) × (links ≡ [])) ⊎ ((now ≡ before → ⊥) × IsChain device fence now links)
 
--- a lawful run of these events leads from the old core to the new one, and this is seen of the job behind each of them
-abbrev pub Sees : ℕ → CoreState → List (Event Draft) → List Seen → CoreState → Type 0
-Sees fence old [] [] new = IsLawful old × (new ≡ old)
-Sees fence old (event ∷ events) (seen ∷ seens) new =
+-- what is seen of a job behind an event: what that does, the reason that the job has in the core that it leads to, where it
+-- had this one before, and the jobs that hold it up
+pub record IsSeen (fence : ℕ) (before : Reason) (event : Event Draft) (core : CoreState) (seen : Seen) : Type 0 where
+  pub command : seen.command ≡ command_of event
+  pub reason : seen.reason ≡ reason_of core.device fence
+  pub links : AreLinks core.device fence before seen.reason seen.links
+
+-- a lawful run of these events leads from the old core to the new one, and this is seen of the job behind each of them,
+-- where it had this reason before
+abbrev pub Sees : ℕ → Reason → CoreState → List (Event Draft) → List Seen → CoreState → Type 0
+Sees fence before old [] [] new = IsLawful old × (new ≡ old)
+Sees fence before old (event ∷ events) (seen ∷ seens) new =
     IsLawful old
     × ((answer : Answer) × (mid : CoreState) × Step old event answer mid × Grows old.device mid.device
-    × (seen ≡ seen_of fence event mid) × Sees fence mid events seens new)
-Sees fence old [] (seen ∷ seens) new = ⊥
-Sees fence old (event ∷ events) [] new = ⊥
+    × IsSeen fence before event mid seen × Sees fence seen.reason mid events seens new)
+Sees fence before old [] (seen ∷ seens) new = ⊥
+Sees fence before old (event ∷ events) [] new = ⊥
 
 -- the moment that was told last behind a command
 abbrev pub clock_behind : ℕ → Event ℕ → ℕ
@@ -41,7 +53,13 @@ abbrev pub clock_of : List Seen → ℕ
 clock_of seens = fold (λ clock seen. clock_behind clock seen.command) 0 seens
 
 abbrev pub change_at : ℕ → ℕ → Seen → Change
-change_at place clock seen = record { place = place; command = seen.command; clock = clock_behind clock seen.command; reason = seen.reason }
+change_at place clock seen = record {
+  place = place;
+  command = seen.command;
+  clock = clock_behind clock seen.command;
+  reason = seen.reason;
+  links = seen.links;
+}
 
 -- the changes of what is seen from this place on, before which the job had this reason and this moment was told last:
 -- one for each command behind which the reason is another than before it, and no other

@@ -1,8 +1,11 @@
 //! The lines of the life of a job.
 
-ghost use Rattle.std.specs.Prelude.{◌≡◌, ◌+◌, ◌<◌, ◌++◌, IfOk, OnOk, drop, flat_map, length};
-ghost use Rattle.drm_why.specs.Lines.{clock_at_end, end_of, head_text, held_text, line_of_change, line_of_span, numbers_of, spaced, spans_text, text_of_command, text_of_life, text_of_moment};
+ghost use Rattle.std.specs.Prelude.{◌≡◌, ◌<◌, ◌++◌, IfOk, OnOk, Some, flat_map, length};
+ghost use Rattle.drm_why.specs.Lines.{head_text, held_text, line_of_change, line_of_link, line_of_span, longest_text, numbers_of, spaced, spans_text, text_of_command, text_of_life, text_of_moment};
+ghost use Rattle.drm_why.specs.Longest.{LongestIs};
 
+use crate::chain::Link;
+use crate::longest::{clock_there, commands, end, longest};
 use crate::seeing::Change;
 use crate::sentences::put_said;
 use crate::text::{put_number, put_one, put_text, put_two};
@@ -65,7 +68,7 @@ fn put_names(out: &mut Vec<u8>, command: Event<EntityId>) -> Result<(), AllocErr
 fn put_command(out: &mut Vec<u8>, command: Event<EntityId>) -> Result<(), AllocError>
     ensures { OnOk result (out.new.items ≡ out.old.items ++ text_of_command command) }
 {
-    put_text(out, word(command))?;
+    put_text(out, word(&command))?;
     put_names(out, command)
 }
 
@@ -90,7 +93,7 @@ fn put_change(out: &mut Vec<u8>, change: &Change) -> Result<(), AllocError>
     put_number(out, change.place as u64)?;
     put_text(out, " ")?;
     put_command(out, change.command)?;
-    put_moment(out, moment(change.command))?;
+    put_moment(out, moment(&change.command))?;
     put_text(out, ": ")?;
     put_said(out, change.reason)?;
     put_text(out, "\n")
@@ -139,28 +142,6 @@ fn put_held(
     }
 }
 
-// Where what began with the change of this number ends.
-fn end(changes: &[Change], place: usize, number: usize) -> usize
-    requires { number < length changes.now }
-    ensures { result ≡ end_of (drop (number + 1) changes.now) place }
-{
-    match changes.get(number + 1) {
-        Some(next) => next.place,
-        None => place,
-    }
-}
-
-// The moment that was told last there.
-fn clock_there(changes: &[Change], clock: Moment, number: usize) -> Moment
-    requires { number < length changes.now }
-    ensures { result ≡ clock_at_end (drop (number + 1) changes.now) clock }
-{
-    match changes.get(number + 1) {
-        Some(next) => next.clock,
-        None => clock,
-    }
-}
-
 // Puts how long each reason held.
 fn put_spans(
     out: &mut Vec<u8>,
@@ -188,6 +169,61 @@ fn put_head(out: &mut Vec<u8>, fence: FenceId, changes: &[Change]) -> Result<(),
     }
 }
 
+/// Puts a job and what is said of it.
+#[tactic(auto, unfolding(crate::specs::Lines::line_of_link))]
+pub(crate) fn put_link(out: &mut Vec<u8>, link: Link) -> Result<(), AllocError>
+    ensures { OnOk result (out.new.items ≡ out.old.items ++ line_of_link link) }
+{
+    put_one(out, "fence ", u64::from(link.fence), " ")?;
+    put_said(out, link.reason)?;
+    put_text(out, "\n")
+}
+
+// Puts jobs, each with what is said of it.
+fn put_links(out: &mut Vec<u8>, links: &[Link]) -> Result<(), AllocError>
+    ensures { OnOk result (out.new.items ≡ out.old.items ++ flat_map line_of_link links.now) }
+{
+    for link in links {
+        put_link(out, *link)?;
+    }
+    Ok(())
+}
+
+// Puts for how long the change of this number held the job up, and by which jobs.
+#[tactic(auto, unfolding(crate::specs::Lines::lines_of_longest))]
+fn put_held_longest(
+    out: &mut Vec<u8>,
+    changes: &[Change],
+    place: usize,
+    clock: Moment,
+    number: usize,
+) -> Result<(), AllocError>
+    requires { number < length changes.now }
+    ensures { OnOk result (out.new.items ≡ out.old.items ++ longest_text changes.now place clock (Some number)) }
+{
+    let change = &changes[number];
+    let commands = commands(changes, place, number) as u64;
+    let moments = clock_there(changes, clock, number).saturating_sub(change.clock);
+    put_two(out, "held up longest, for ", commands, " commands and ", moments)?;
+    put_text(out, " moments, by\n")?;
+    put_links(out, change.links.as_slice())
+}
+
+// Puts by which jobs this one was held up longest.
+fn put_longest(
+    out: &mut Vec<u8>,
+    changes: &[Change],
+    place: usize,
+    clock: Moment,
+) -> Result<(), AllocError>
+    ensures { OnOk result ((most : _) × LongestIs changes.now place (length changes.now) most × (out.new.items ≡ out.old.items ++ longest_text changes.now place clock most)) }
+{
+    match longest(changes, place) {
+        Some(number) => put_held_longest(out, changes, place, clock, number),
+        None => Ok(()),
+    }
+}
+
 /// The text of the life of a job, of so many commands, behind which this moment was told last.
 #[tactic(auto, unfolding(crate::specs::Lines::text_of_life))]
 pub(crate) fn life_text(
@@ -197,11 +233,12 @@ pub(crate) fn life_text(
     place: usize,
     clock: Moment,
 ) -> Result<Vec<u8>, AllocError>
-    ensures { IfOk result (λ text. text.items ≡ text_of_life fence changes.now place clock) }
+    ensures { IfOk result (λ text. (most : _) × LongestIs changes.now place (length changes.now) most × (text.items ≡ text_of_life fence changes.now place clock most)) }
 {
     let mut out = Vec::new(alloc);
     put_head(&mut out, fence, changes)?;
     put_changes(&mut out, changes)?;
     put_spans(&mut out, changes, place, clock)?;
+    put_longest(&mut out, changes, place, clock)?;
     Ok(out)
 }

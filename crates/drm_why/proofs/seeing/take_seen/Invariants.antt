@@ -9,7 +9,7 @@ abbrev pub invariant-loop-event : goal.invariant-loop-event
 invariant-loop-event l = record {
   names : AllNamesExist l.core.device.spec l.rest;
   lawful : IsLawful l.core;
-  so_far : SeesOn l.fn.fence l.fn.core l.fn.events l.seens.items l.core l.rest;
+  so_far : SeesOn l.fn.fence l.fn.core l.fn.events l.seens.items l.before l.core l.rest;
   known : Knows l.core.device l.watch;
   fence : l.watch.fence ≡ l.fn.fence;
 }

@@ -1,4 +1,4 @@
-use Rattle.drm_why.proofs.why.tell_life.Goals as goal
+use Rattle.drm_why.proofs.why.tell.Goals as goal
 
 pub returns-in-Ok-put_all-clause-ending : goal.returns-in-Ok-put_all-clause-ending
 returns-in-Ok-put_all-clause-ending g c = (c.in-Ok.text.items, c.in-Ok.ensures, rw c.deref.ensures.value at c.in-Ok-put_all.ensures.ok)
