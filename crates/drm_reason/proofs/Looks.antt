@@ -160,7 +160,7 @@ unmet_stays job job' x x' i later earlier fails =
     ]
   where
     was_unmet : (is_met job.ring x ≡ true) ⊎ (is_met job.ring x ≡ false) → is_met job'.ring x' ≡ false → is_met job.ring x ≡ false
-    was_unmet (inr no) unmet = no
+    was_unmet (inr fails) unmet = fails
     was_unmet (inl met) unmet =
         absurd (both_ways (is_met job'.ring x') unmet (ap (λ k. is_met k x') later.ring ∙ met_stays job.ring x x' earlier met))
 
@@ -177,7 +177,7 @@ going_stays job job' x x' i later earlier fails =
     ]
   where
     was_going : (has_ended x.phase ≡ true) ⊎ (has_ended x.phase ≡ false) → has_ended x'.phase ≡ false → has_ended x.phase ≡ false
-    was_going (inr no) going = no
+    was_going (inr fails) going = fails
     was_going (inl ended) going = absurd (both_ways (has_ended x'.phase) going (ended_stays x.phase x'.phase earlier.phase ended))
 
     follows : must_follow job' i x' ≡ must_follow job i x

@@ -35,7 +35,7 @@ queued_from (Ended o) is = absurd (let never : false ≡ true = is in cc (never)
 module _ (d : DeviceState) (n : ℕ) where
   -- ---- step by step
 
-  none_told : slice_get d.journal n ≡ None → reason_of d n ≡ reason.NotArmed
+  pub none_told : slice_get d.journal n ≡ None → reason_of d n ≡ reason.NotArmed
   unfolding reason_of
   none_told none = ap (λ o. option_map_or (λ (q : JobRecord). phase_reason d n q q.phase) o reason.NotArmed) none
 

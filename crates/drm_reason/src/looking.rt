@@ -1,6 +1,7 @@
 //! The reason of a job, looked up in its device.
 
-ghost use Rattle.std.specs.Prelude.{◌≡◌, ◌<◌, Some, length, option_map, slice_get};
+ghost use Rattle.std.specs.Prelude.{◌≡◌, ◌<◌, ◌==◌, Some, length, option_map, slice_get};
+ghost use Rattle.std.specs.List.{list_any};
 ghost use Rattle.drm_fence.specs.Phases.{is_queued as is_queued_phase};
 ghost use Rattle.drm_job.specs.Conflicts.{must_wait as must_wait_for};
 ghost use Rattle.drm_state.specs.State.{DeviceState};
@@ -61,11 +62,18 @@ fn how(earlier: &Job, later: &Job) -> How
     first_clash(earlier.declared(), later.declared())
 }
 
+// Whether one of these fences has this number.
+fn names(after: &[FenceId], number: FenceId) -> bool
+    ensures { result ≡ list_any (λ f. f == number) after.now }
+{
+    after.iter().any(|fence| *fence == number)
+}
+
 // Whether the later job comes after the earlier one of this number.
 fn follows(later: &Job, number: FenceId, earlier: &Job) -> bool
     ensures { result ≡ comes_after later.now number earlier.now }
 {
-    conflicts(earlier, later) || later.after().iter().any(|fence| *fence == number)
+    conflicts(earlier, later) || names(later.after(), number)
 }
 
 // Whether the job must follow the earlier one of this number.

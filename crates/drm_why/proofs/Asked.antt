@@ -2,9 +2,8 @@
 use Rattle.std.proofs.Common.{◌≡◌, ℕ, List, Ok, Option, subst}
 use Rattle.std.specs.Prelude.{IfSome}
 use Rattle.drm_job.specs.declared.Draft.{Draft}
-use Rattle.drm_core.specs.Laws.{EveryRunIsLawful}
 use Rattle.drm_core.specs.State.{CoreState, opened}
-use Rattle.drm_core.specs.Run.{AllNamesExist, Run}
+use Rattle.drm_core.specs.Run.{AllNamesExist, EveryRunIsLawful, Run}
 use Rattle.drm_core.specs.declared.event.Event.{Event}
 use Rattle.drm_engine.specs.Replaying.{IsAnswered}
 use Rattle.drm_engine.specs.declared.ending.Ending.{Ending}
