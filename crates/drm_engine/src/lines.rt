@@ -1,6 +1,7 @@
 //! What a replay writes of each event and the answer to it.
 
 ghost use Rattle.std.specs.Prelude.{◌≡◌, ◌+◌, ◌≤◌, ◌++◌, ◌∷◌, [], ℕ, List, IfNone, IfSome, OnSome, length};
+ghost use Rattle.drm_job.specs.declared.Draft.{Draft};
 ghost use Rattle.drm_answer.specs.Answers.{line_of};
 ghost use Rattle.drm_answer.specs.Lines.{line_room};
 ghost use Rattle.drm_core.specs.Lawful.{IsLawful};
@@ -20,10 +21,10 @@ use std::io::Write;
 /// The lines of a replay, one for each event. What a line wants to know of its event it notes before the core takes that.
 pub trait Lines {
     /// The line of an event and the answer to it.
-    ghost line: { Happening → Given → List ℕ };
+    ghost line: { Happening Draft → Given → List ℕ };
 
     /// What is noted is of this event.
-    ghost notes: { Self → Happening → Type 0 };
+    ghost notes: { Self → Happening Draft → Type 0 };
 
     /// Has the next event of a chunk happen to the core, if one is left, notes what the line wants to know of it, and gives
     /// the answer.
@@ -31,7 +32,7 @@ pub trait Lines {
         requires names { AllNamesExist core.old.device.spec rest.old }
         ensures some { IfSome result (λ answer. AnswersFirst core.old rest.old answer core.new rest.new) }
         ensures none { IfNone result ((rest.old ≡ []) × (core.new ≡ core.old)) }
-        ensures noted { (event : Happening) → rest.old ≡ event ∷ rest.new → OnSome result (notes self.new event) }
+        ensures noted { (event : Happening Draft) → rest.old ≡ event ∷ rest.new → OnSome result (notes self.new event) }
         ensures names { OnSome result (AllNamesExist core.new.device.spec rest.new) }
         ensures spec { core.new.device.spec ≡ core.old.device.spec }
         ensures lawful { OnSome result (IsLawful core.new) };
@@ -44,7 +45,7 @@ pub trait Lines {
         answer: &Answer,
     ) -> Result<(), WriteFailed>
         requires { length piece.old + line_room answer.now ≤ 41088 }
-        ensures { (event : Happening) → notes self.now event → Told writer.old writer.new result (piece.old ++ line event answer.now) piece.new };
+        ensures { (event : Happening Draft) → notes self.now event → Told writer.old writer.new result (piece.old ++ line event answer.now) piece.new };
 }
 
 /// The lines of the answers alone, which want to know nothing of the events.

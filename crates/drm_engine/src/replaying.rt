@@ -2,6 +2,7 @@
 
 ghost use Rattle.std.specs.Prelude.{◌≡◌, ◌+◌, ◌<◌, ◌≤◌, ◌++◌, ℕ, [], List, None, OnOk, length};
 ghost use Rattle.drm_types.specs.Limits.{spec_fault};
+ghost use Rattle.drm_job.specs.declared.Draft.{Draft};
 ghost use Rattle.drm_answer.specs.Lines.{line_room};
 ghost use Rattle.drm_core.specs.Lawful.{IsLawful};
 ghost use Rattle.drm_core.specs.Run.{AllNamesExist};
@@ -29,7 +30,7 @@ fn tell<L: Lines, W: Write>(
     answer: &Answer,
 ) -> Result<(), WriteFailed>
     requires { length piece.old + line_room answer.now ≤ 41088 }
-    ensures told { (event : Happening) → L.notes lines.now event → Told writer.old writer.new result (piece.old ++ L.line event answer.now) piece.new }
+    ensures told { (event : Happening Draft) → L.notes lines.now event → Told writer.old writer.new result (piece.old ++ L.line event answer.now) piece.new }
     ensures short { OnOk result (length piece.new < 32768) }
 {
     lines.put(piece, writer, answer)?;
