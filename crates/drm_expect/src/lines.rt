@@ -1,0 +1,107 @@
+//! The lines of a test.
+
+ghost use Rattle.std.specs.Prelude.{◌≡◌, ◌≤◌, ◌++◌, ◌∷◌, [], IfOk, OnOk, length};
+ghost use Rattle.drm_text.specs.Cut.{parts_of};
+ghost use Rattle.drm_expect.specs.Lines.{AreLines, IsFoundAt, IsLine, is_remark, script_text};
+
+use drm_text::Parts;
+use drm_types::Sequence;
+use std::alloc::{AllocError, Global};
+
+/// A line of the script of a test.
+#[derive(Drop)]
+pub struct Line {
+    /// Its number in the test, counted from 1.
+    pub number: u32,
+    /// The line of the script.
+    pub bare: Sequence<u8>,
+    /// The answer that is expected of it. A `*` at its end stands for any bytes.
+    pub wanted: Option<Sequence<u8>>,
+}
+
+// Whether the line is for its reader alone: it is empty, or begins with '#'.
+fn is_for_readers(line: &[u8]) -> bool
+    ensures { result ≡ is_remark line.now }
+{
+    match line {
+        [] => true,
+        [byte, ..] => *byte == b'#',
+    }
+}
+
+// Where the first '=' stands, if there is one.
+fn equals(line: &[u8]) -> Option<usize>
+    ensures { IsFoundAt line.now result }
+{
+    for place in 0..line.len() {
+        if line[place] == b'=' {
+            return Some(place);
+        }
+    }
+    None
+}
+
+// A copy of these bytes.
+fn copied(alloc: Global, bytes: &[u8]) -> Result<Sequence<u8>, AllocError>
+    ensures { IfOk result (λ copy. copy ≡ bytes.now) }
+{
+    let mut copy = Vec::new(alloc);
+    copy.extend_from_slice(bytes)?;
+    Ok(Sequence::from_vec(copy))
+}
+
+// The line of these bytes.
+fn line(alloc: Global, number: u32, bytes: &[u8]) -> Result<Line, AllocError>
+    ensures { IfOk result (λ line. IsLine number bytes.now line) }
+{
+    let Some(place) = equals(bytes) else {
+        return Ok(Line {
+            number,
+            bare: copied(alloc, bytes)?,
+            wanted: None,
+        });
+    };
+    let before = bytes[..place].trim_ascii_end();
+    let behind = bytes[place + 1..].trim_ascii_start();
+    Ok(Line {
+        number,
+        bare: copied(alloc, before)?,
+        wanted: Some(copied(alloc, behind)?),
+    })
+}
+
+/// The lines of a text, without its remarks.
+pub(crate) fn lines_of(alloc: Global, text: &[u8]) -> Result<Vec<Line>, AllocError>
+    requires { length text.now ≤ 1048576 }
+    ensures { IfOk result (λ lines. AreLines 1 (parts_of 10 text.now) lines.items) }
+{
+    let mut lines = Vec::new(alloc);
+    let mut parts = Parts::<b'\n'>::new(text);
+    let mut number = 1;
+    while let Some(bytes) = parts.next() {
+        if !is_for_readers(bytes) {
+            lines.push(line(alloc, number, bytes)?)?;
+        }
+        number += 1;
+    }
+    Ok(lines)
+}
+
+// Puts the line of the script.
+fn put_bare(out: &mut Vec<u8>, line: &Line) -> Result<(), AllocError>
+    ensures { OnOk result (out.new.items ≡ out.old.items ++ line.now.bare ++ 10 ∷ []) }
+{
+    out.extend_from_slice(line.bare.as_slice())?;
+    out.push(b'\n')
+}
+
+/// The script of these lines.
+pub(crate) fn bare_text(alloc: Global, lines: &[Line]) -> Result<Vec<u8>, AllocError>
+    ensures { IfOk result (λ text. text.items ≡ script_text lines.now) }
+{
+    let mut out = Vec::new(alloc);
+    for line in lines {
+        put_bare(&mut out, line)?;
+    }
+    Ok(out)
+}
