@@ -1,13 +1,12 @@
 -- Why jobs wait: what is written is told of a lawful run of what was read.
 use Rattle.std.specs.Prelude.{◌≡◌, ℕ, List, Option, length}
 use Rattle.std.specs.Io.KnownBytes.{Appends, Keeps}
-use Rattle.drm_state.specs.declared.answer.Answer.{Answer}
 use Rattle.drm_core.specs.State.{CoreState, opened}
-use Rattle.drm_core.specs.Run.{LawfulRun}
 use Rattle.drm_engine.specs.Replaying.{Replays, SpellsScript}
 use Rattle.drm_engine.specs.declared.ending.Ending.{Ending}
 use Rattle.drm_engine.specs.declared.ending.Ending.TheVariants as ending
 use Rattle.drm_reason.specs.declared.reason.Reason.TheVariants.{NotArmed}
+use Rattle.drm_record.specs.Recording.{LeadsTo}
 use Rattle.drm_script.specs.declared.script.Script.{Script}
 use Rattle.drm_stream.specs.Transfer.{AppendsFront}
 use Rattle.drm_why.specs.Lines.{text_of_life}
@@ -27,10 +26,6 @@ IsLife script fence text =
     × Sees fence NotArmed (opened script.spec) script.lines seens final × AreChanges NotArmed 0 0 seens changes
     × LongestIs changes (length seens) (length changes) longest
     × (text ≡ text_of_life fence changes (length seens) (clock_of seens) longest)
-
--- a lawful run of the script leads to this core
-abbrev pub LeadsTo : Script → CoreState → Type 0
-LeadsTo script final = (answers : List Answer) × LawfulRun (opened script.spec) script.lines answers final
 
 -- the text answers what is asked about the script
 abbrev pub IsTold : Question → Script → List ℕ → Type 0

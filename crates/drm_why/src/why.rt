@@ -2,21 +2,21 @@
 
 ghost use Rattle.std.specs.Prelude.{◌≡◌, None, IfOk};
 ghost use Rattle.drm_types.specs.Limits.{spec_fault};
-ghost use Rattle.drm_core.specs.Lawful.{IsLawful};
 ghost use Rattle.drm_core.specs.Run.{AllNamesExist};
 ghost use Rattle.drm_stream.specs.Streams.{NoReadFailed, SourceState};
 ghost use Rattle.drm_stream.specs.Transfer.{TakesAtMost};
 ghost use Rattle.drm_engine.specs.Failures.{EndsBy};
-ghost use Rattle.drm_engine.specs.Replaying.{IsAnswered};
+ghost use Rattle.drm_record.specs.Recording.{LeadsTo};
 ghost use Rattle.drm_why.specs.Rings.{text_of_jobs, text_of_rings};
-ghost use Rattle.drm_why.specs.Whys.{IsLife, IsTold, LeadsTo, Tells, Whys};
+ghost use Rattle.drm_why.specs.Whys.{IsLife, IsTold, Tells, Whys};
 
 use crate::lines::life_text;
 use crate::rings::{jobs_text, rings_text};
 use crate::seeing::{changes, last_clock, take_seen};
 use drm_core::{Core, every_run_is_lawful};
 use drm_engine::Ending;
-use drm_script::{Events, Script, read_script_from};
+use drm_record::last_core;
+use drm_script::{Script, read_script_from};
 use drm_stream::{Sink, Source, put_all};
 use drm_types::FenceId;
 use std::alloc::{AllocError, Global};
@@ -46,31 +46,6 @@ fn life(alloc: Global, script: Script, fence: FenceId) -> Result<Vec<u8>, AllocE
     let seens = take_seen(alloc, &mut core, script.lines, fence)?;
     let changes = changes(alloc, &seens)?;
     life_text(alloc, fence, &changes, seens.len(), last_clock(&seens))
-}
-
-// Gives the core all events.
-fn take_all(alloc: Global, core: &mut Core, events: Events)
-    requires names { AllNamesExist core.old.device.spec events }
-    ensures { IsAnswered core.old events core.new (λ answers. Unit {0}) }
-{
-    let mut rest = events.into_left();
-    while let Some(event) = rest.next() {
-        core.apply(alloc, event);
-    }
-}
-
-// The core to which the script leads.
-fn last_core(alloc: Global, script: Script) -> Result<Core, AllocError>
-    requires fits { spec_fault script.spec ≡ None }
-    requires exist { AllNamesExist script.spec script.lines }
-    ensures { IfOk result (λ core. LeadsTo script core) }
-{
-    every_run_is_lawful();
-    let Ok(mut core) = Core::build(alloc, script.spec) else {
-        return Err(AllocError);
-    };
-    take_all(alloc, &mut core, script.lines);
-    Ok(core)
 }
 
 // The reasons of all jobs behind the last command.

@@ -1,5 +1,5 @@
-use Rattle.drm_why.proofs.Asked.{led}
-use Rattle.drm_why.proofs.why.last_core.Goals as goal
+use Rattle.drm_record.proofs.Recorded.{led}
+use Rattle.drm_record.proofs.recording.last_core.Goals as goal
 
 pub returns : goal.returns
 returns c =

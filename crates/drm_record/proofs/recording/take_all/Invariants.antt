@@ -2,7 +2,7 @@ use Rattle.std.proofs.Common.{List, length}
 use Rattle.drm_state.specs.declared.answer.Answer.{Answer}
 use Rattle.drm_core.specs.Run.{AllNamesExist}
 use Rattle.drm_engine.proofs.Pieces.{GoesOn}
-use Rattle.drm_why.proofs.why.take_all.Given as goal
+use Rattle.drm_record.proofs.recording.take_all.Given as goal
 
 abbrev pub invariant-loop-event : goal.invariant-loop-event
 invariant-loop-event l = record {

@@ -1,7 +1,7 @@
 use Rattle.std.proofs.Common.{◌≡◌, ◌∷◌, ◌++◌, [], subst, sym}
 use Rattle.drm_core.specs.Run.{AllNamesExist}
 use Rattle.drm_engine.proofs.Pieces.{GoesOn, run_ends, turn}
-use Rattle.drm_why.proofs.why.take_all.Goals as goal
+use Rattle.drm_record.proofs.recording.take_all.Goals as goal
 
 pub loop-event-preserved : goal.loop-event-preserved
 loop-event-preserved c =
