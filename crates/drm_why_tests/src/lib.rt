@@ -11,15 +11,20 @@ mod lives;
 use drm_engine::Ending;
 use drm_engine_tests::{SlowReader, SlowWriter};
 use drm_stream::{Sink, Source};
-use drm_why::why;
+use drm_why::{Question, why};
 use std::alloc::Global;
 
-/// Tells the life of the job of this fence, and gives the writer back.
-pub fn run_on(alloc: Global, text: &[u8], fence: u32, writer: SlowWriter) -> (Ending, SlowWriter)
-    ensures { Whys fence (Some text.now) (Some writer.taken.items) (Some result.1.taken.items) result.0 }
+/// Answers the question about the script, and gives the writer back.
+pub fn run_on(
+    alloc: Global,
+    text: &[u8],
+    question: Question,
+    writer: SlowWriter,
+) -> (Ending, SlowWriter)
+    ensures { Whys question (Some text.now) (Some writer.taken.items) (Some result.1.taken.items) result.0 }
 {
     let mut source = Source::new(SlowReader::new(text, None));
     let mut sink = Sink::new(writer);
-    let ending = why(alloc, fence, &mut source, &mut sink);
+    let ending = why(alloc, question, &mut source, &mut sink);
     (ending, sink.into_inner())
 }

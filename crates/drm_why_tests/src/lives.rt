@@ -3,6 +3,7 @@
 use crate::run_on;
 use drm_engine::Ending;
 use drm_engine_tests::SlowWriter;
+use drm_why::Question;
 use std::alloc::Global;
 use std::process::Abort;
 use std::test::Fail;
@@ -24,7 +25,9 @@ for 1 commands and 3 moments: waits for fence 0, which writes buffer 0 that this
 for 4 commands and 6 moments: waits for fence 0, which writes buffer 0 that this job reads, and is pending on ring 0\n\
 for 1 commands and 0 moments: is the next that ring 1 takes\n\
 for 1 commands and 0 moments: runs packet 0 on ring 1\n\
-for 1 commands and 3 moments: is complete, and the first to finish on ring 1\n";
+for 1 commands and 3 moments: is complete, and the first to finish on ring 1\n\
+held up longest, for 4 commands and 6 moments, by\n\
+fence 0 runs packet 0 on ring 0\n";
 
 // One ring of two credits, three entities on it, of which one is cancelled.
 const TURNS: &[u8] =
@@ -79,10 +82,28 @@ for 1 commands and 0 moments: is the next that ring 0 takes\n\
 for 3 commands and 21 moments: is pending behind fence 0 on ring 0\n\
 for 1 commands and 0 moments: is complete, and the first to finish on ring 0\n";
 
+// Three rings: one runs a job, one waits for that, and one has nothing to do.
+const MOVED: &[u8] =
+    b"zero 4\nring 4 10 0\nring 4 10 0\nring 4 10 0\nentity 0 normal\nentity 1 normal\njobs 8\ngo\n\
+submit 0 1 w0 fill:0:0:4:07 fill:0:0:2:08\nsubmit 1 1 r0\nsubmit 1 1\npick 0 3\nstep 0\n";
+
+const JOBS: &[u8] = b"fence 0 runs packet 1 on ring 0\n\
+fence 1 waits for fence 0, which writes buffer 0 that this job reads, and is pending on ring 0\n\
+fence 2 waits behind fence 1, the first in the queue of its entity\n";
+
+const RINGS: &[u8] = b"ring 0 is busy: fence 0 runs packet 1 on ring 0\n\
+ring 1 is idle: fence 1 waits for fence 0, which writes buffer 0 that this job reads, and is pending on ring 0\n\
+ring 2 is idle: nothing is queued for it\n";
+
 // The life of the job of this fence is this text.
 fn tells<R: Abort>(text: &[u8], fence: u32, told: &[u8], rt: &R, alloc: Global) {
+    answers(text, Question::Job(fence), told, rt, alloc);
+}
+
+// The question is answered by this text.
+fn answers<R: Abort>(text: &[u8], question: Question, told: &[u8], rt: &R, alloc: Global) {
     let out = SlowWriter::new(alloc, 7, None);
-    let (ending, out) = run_on(alloc, text, fence, out);
+    let (ending, out) = run_on(alloc, text, question, out);
     assert!(rt; matches!(ending, Ending::Done));
     assert!(rt; out.taken.as_slice() == told);
 }
@@ -109,14 +130,21 @@ fn a_hang_holds_a_ring_up(rt: HostRuntime) -> Result<(), Fail> {
 }
 
 #[test]
+fn all_jobs_and_all_rings_are_told(rt: HostRuntime) -> Result<(), Fail> {
+    answers(MOVED, Question::Jobs, JOBS, &rt, rt.alloc());
+    answers(MOVED, Question::Rings, RINGS, &rt, rt.alloc());
+    Ok(())
+}
+
+#[test]
 fn a_fault_and_a_failed_write_are_told(rt: HostRuntime) -> Result<(), Fail> {
     let alloc = rt.alloc();
     let out = SlowWriter::new(alloc, 7, None);
-    let (ending, out) = run_on(alloc, b"zero 4\n", 0, out);
+    let (ending, out) = run_on(alloc, b"zero 4\n", Question::Job(0), out);
     assert_eq!(rt; ending.status(), 2);
     assert!(rt; out.taken.is_empty());
     let out = SlowWriter::new(alloc, 7, Some(21));
-    let (ending, _) = run_on(alloc, BUFFER, 1, out);
+    let (ending, _) = run_on(alloc, BUFFER, Question::Job(1), out);
     assert_eq!(rt; ending.status(), 4);
     Ok(())
 }
