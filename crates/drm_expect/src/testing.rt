@@ -28,11 +28,7 @@ use std::io::{Read, Write};
 // ---- answers
 
 // Gives the core all events, and keeps the answers.
-fn take_answers(
-    alloc: Global,
-    core: &mut Core,
-    events: Events,
-) -> Result<Vec<Answer>, AllocError>
+fn take_answers(alloc: Global, core: &mut Core, events: Events) -> Result<Vec<Answer>, AllocError>
     requires names { AllNamesExist core.old.device.spec events }
     ensures { IfOk result (λ answers. IsAnswered core.old events core.new (λ given. answers.items ≡ given)) }
 {
@@ -206,7 +202,12 @@ fn too_long() -> Fault
 
 // Compares the answers to a script with those that are expected, and writes the first difference. Memory lacks before
 // anything is written.
-fn compare<W: Write>(alloc: Global, lines: &[Line], answers: &[Answer], writer: &mut Sink<W>) -> Ending
+fn compare<W: Write>(
+    alloc: Global,
+    lines: &[Line],
+    answers: &[Answer],
+    writer: &mut Sink<W>,
+) -> Ending
     ensures ending { ComparesOrLacks lines.now answers.now writer.old.contents writer.new.contents result }
     ensures failures { (before after : SourceState) → NoReadFailed before after → EndsBy before after writer.old writer.new result }
 {

@@ -204,7 +204,13 @@ fn put_held_longest(
     let change = &changes[number];
     let commands = commands(changes, place, number) as u64;
     let moments = clock_there(changes, clock, number).saturating_sub(change.clock);
-    put_two(out, "held up longest, for ", commands, " commands and ", moments)?;
+    put_two(
+        out,
+        "held up longest, for ",
+        commands,
+        " commands and ",
+        moments,
+    )?;
     put_text(out, " moments, by\n")?;
     put_links(out, change.links.as_slice())
 }

@@ -37,12 +37,7 @@ pub(crate) fn commands(changes: &[Change], place: usize, number: usize) -> usize
 }
 
 // The longest so far, or the change of this number, where that held the job up for more commands.
-fn longer(
-    changes: &[Change],
-    place: usize,
-    longest: Option<usize>,
-    number: usize,
-) -> Option<usize>
+fn longer(changes: &[Change], place: usize, longest: Option<usize>, number: usize) -> Option<usize>
     requires there { number < length changes.now }
     requires longest { LongestIs changes.now place number longest }
     ensures { LongestIs changes.now place (number + 1) result }

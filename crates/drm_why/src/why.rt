@@ -82,12 +82,7 @@ fn told(alloc: Global, script: Script, question: Question) -> Result<Vec<u8>, Al
 }
 
 // Writes that text. Memory lacks before anything is written.
-fn tell<W: Write>(
-    alloc: Global,
-    script: Script,
-    question: Question,
-    writer: &mut Sink<W>,
-) -> Ending
+fn tell<W: Write>(alloc: Global, script: Script, question: Question, writer: &mut Sink<W>) -> Ending
     requires fits { spec_fault script.spec ≡ None }
     requires exist { AllNamesExist script.spec script.lines }
     ensures ending { Tells question script writer.old.contents writer.new.contents result }

@@ -47,7 +47,9 @@ for 3 commands and 1 moments: waits behind fence 2, which comes first on ring 0\
 for 2 commands and 2 moments: needs 2 credits, and ring 0 has 1 left\n\
 for 1 commands and 0 moments: is the next that ring 0 takes\n\
 for 3 commands and 2 moments: runs packet 0 on ring 0\n\
-for 1 commands and 3 moments: is complete, and the first to finish on ring 0\n";
+for 1 commands and 3 moments: is complete, and the first to finish on ring 0\n\
+held up longest, for 3 commands and 1 moments, by\n\
+fence 2 is the next that ring 0 takes\n";
 
 const CANCELLED: &[u8] = b"4 submit 1: waits behind fence 2, the first in the queue of its entity\n\
 5 pick 0 1, at moment 1: waits for fence 0, which this job names, and is queued for ring 0\n\
@@ -59,7 +61,9 @@ for 1 commands and 1 moments: waits behind fence 2, the first in the queue of it
 for 3 commands and 2 moments: waits for fence 0, which this job names, and is queued for ring 0\n\
 for 2 commands and 2 moments: waits behind fence 3, which comes first on ring 0\n\
 for 2 commands and 3 moments: is of a stopped entity, and waits for fence 0 to end\n\
-for 1 commands and 0 moments: is of a stopped entity, and a reap ends it\n";
+for 1 commands and 0 moments: is of a stopped entity, and a reap ends it\n\
+held up longest, for 3 commands and 2 moments, by\n\
+fence 0 needs 2 credits, and ring 0 has 1 left\n";
 
 // Two jobs on a ring, of which the first stalls and makes its entity guilty.
 const HANG: &[u8] = b"zero 4\nring 4 10 1\nentity 0 normal\nentity 0 normal\njobs 4\ngo\n\
@@ -80,7 +84,9 @@ const BEHIND: &[u8] = b"1 submit 1: waits behind fence 0, which comes first on r
 for 1 commands and 0 moments: waits behind fence 0, which comes first on ring 0\n\
 for 1 commands and 0 moments: is the next that ring 0 takes\n\
 for 3 commands and 21 moments: is pending behind fence 0 on ring 0\n\
-for 1 commands and 0 moments: is complete, and the first to finish on ring 0\n";
+for 1 commands and 0 moments: is complete, and the first to finish on ring 0\n\
+held up longest, for 3 commands and 21 moments, by\n\
+fence 0 stalls at packet 0 on ring 0\n";
 
 // Three rings: one runs a job, one waits for that, and one has nothing to do.
 const MOVED: &[u8] =
