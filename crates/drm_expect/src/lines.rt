@@ -92,7 +92,7 @@ fn put_bare(out: &mut Vec<u8>, line: &Line) -> Result<(), AllocError>
     ensures { OnOk result (out.new.items ≡ out.old.items ++ line.now.bare ++ 10 ∷ []) }
 {
     out.extend_from_slice(line.bare.as_slice())?;
-    out.push(b'\n')
+    out.extend_from_slice(b"\n")
 }
 
 /// The script of these lines.

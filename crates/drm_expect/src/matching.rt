@@ -21,7 +21,7 @@ fn begins(wanted: &[u8], line: &[u8]) -> bool
     ensures { IsTrue result ↔ Matches wanted.now line.now }
 {
     let count = wanted.len() - 1;
-    line.len() >= count && line[..count] == wanted[..count]
+    line.len() >= count && &line[..count] == &wanted[..count]
 }
 
 // Whether an answer is this one.
@@ -30,7 +30,7 @@ fn equals(wanted: &[u8], line: &[u8]) -> bool
     ensures { IsTrue result ↔ Matches wanted.now line.now }
 {
     let count = wanted.len();
-    line.len() == count + 1 && line[..count] == *wanted && line[count] == b'\n'
+    line.len() == count + 1 && &line[..count] == wanted && line[count] == b'\n'
 }
 
 // Whether an answer is one that is expected.
