@@ -1,11 +1,10 @@
 //! The lines of the life of a job.
 
-ghost use Rattle.std.specs.Prelude.{◌≡◌, ◌<◌, ◌++◌, IfOk, OnOk, Some, flat_map, length};
-ghost use Rattle.drm_why.specs.Lines.{head_text, held_text, line_of_change, line_of_link, line_of_span, longest_text, numbers_of, spaced, spans_text, text_of_command, text_of_life, text_of_moment};
-ghost use Rattle.drm_why.specs.Longest.{LongestIs};
+ghost use Rattle.std.specs.Prelude.{◌≡◌, ◌++◌, IfOk, OnOk, flat_map};
+ghost use Rattle.drm_why.specs.Lines.{head_text, held_text, line_of_change, line_of_link, line_of_span, lines_of_longest, longest_text, numbers_of, spaced, spans_text, text_of_command, text_of_life, text_of_moment};
 
 use crate::chain::Link;
-use crate::longest::{clock_there, commands, end, longest};
+use crate::longest::{clock_there, commands, end};
 use crate::seeing::Change;
 use crate::sentences::put_said;
 use crate::text::{put_number, put_one, put_text, put_two};
@@ -128,7 +127,7 @@ fn put_span(
 }
 
 // Puts the same, where the change brought no outcome.
-fn put_held(
+fn put_kept(
     out: &mut Vec<u8>,
     change: &Change,
     place: usize,
@@ -154,7 +153,7 @@ fn put_spans(
     for (number, change) in changes.iter().enumerate() {
         let ends = end(changes, place, number);
         let last = clock_there(changes, clock, number);
-        put_held(out, change, ends, last)?;
+        put_kept(out, change, ends, last)?;
     }
     Ok(())
 }
@@ -189,21 +188,16 @@ fn put_links(out: &mut Vec<u8>, links: &[Link]) -> Result<(), AllocError>
     Ok(())
 }
 
-// Puts for how long the change of this number held the job up, and by which jobs.
+// Puts for how long jobs held this one up, and which.
 #[tactic(auto, unfolding(crate::specs::Lines::lines_of_longest))]
-fn put_held_longest(
+fn put_held(
     out: &mut Vec<u8>,
-    changes: &[Change],
-    place: usize,
-    clock: Moment,
-    number: usize,
+    commands: u64,
+    moments: u64,
+    links: &[Link],
 ) -> Result<(), AllocError>
-    requires { number < length changes.now }
-    ensures { OnOk result (out.new.items ≡ out.old.items ++ longest_text changes.now place clock (Some number)) }
+    ensures { OnOk result (out.new.items ≡ out.old.items ++ lines_of_longest commands moments links.now) }
 {
-    let change = &changes[number];
-    let commands = commands(changes, place, number) as u64;
-    let moments = clock_there(changes, clock, number).saturating_sub(change.clock);
     put_two(
         out,
         "held up longest, for ",
@@ -212,7 +206,7 @@ fn put_held_longest(
         moments,
     )?;
     put_text(out, " moments, by\n")?;
-    put_links(out, change.links.as_slice())
+    put_links(out, links)
 }
 
 // Puts by which jobs this one was held up longest.
@@ -221,16 +215,23 @@ fn put_longest(
     changes: &[Change],
     place: usize,
     clock: Moment,
+    longest: Option<usize>,
 ) -> Result<(), AllocError>
-    ensures { OnOk result ((most : _) × LongestIs changes.now place (length changes.now) most × (out.new.items ≡ out.old.items ++ longest_text changes.now place clock most)) }
+    ensures { OnOk result (out.new.items ≡ out.old.items ++ longest_text changes.now place clock longest) }
 {
-    match longest(changes, place) {
-        Some(number) => put_held_longest(out, changes, place, clock, number),
-        None => Ok(()),
-    }
+    let Some(number) = longest else {
+        return Ok(());
+    };
+    let Some(change) = changes.get(number) else {
+        return Ok(());
+    };
+    let commands = commands(changes, place, number) as u64;
+    let moments = clock_there(changes, clock, number).saturating_sub(change.clock);
+    put_held(out, commands, moments, change.links.as_slice())
 }
 
-/// The text of the life of a job, of so many commands, behind which this moment was told last.
+/// The text of the life of a job, of so many commands, behind which this moment was told last. The change of this number
+/// held it up longest.
 #[tactic(auto, unfolding(crate::specs::Lines::text_of_life))]
 pub(crate) fn life_text(
     alloc: Global,
@@ -238,13 +239,14 @@ pub(crate) fn life_text(
     changes: &[Change],
     place: usize,
     clock: Moment,
+    longest: Option<usize>,
 ) -> Result<Vec<u8>, AllocError>
-    ensures { IfOk result (λ text. (most : _) × LongestIs changes.now place (length changes.now) most × (text.items ≡ text_of_life fence changes.now place clock most)) }
+    ensures { IfOk result (λ text. text.items ≡ text_of_life fence changes.now place clock longest) }
 {
     let mut out = Vec::new(alloc);
     put_head(&mut out, fence, changes)?;
     put_changes(&mut out, changes)?;
     put_spans(&mut out, changes, place, clock)?;
-    put_longest(&mut out, changes, place, clock)?;
+    put_longest(&mut out, changes, place, clock, longest)?;
     Ok(out)
 }

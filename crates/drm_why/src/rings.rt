@@ -44,8 +44,8 @@ fn job(device: &Device, ring: RingId) -> Option<FenceId>
     if let Some(current) = device.current(ring) {
         return Some(current);
     }
-    if let Some(front) = device.pending(ring).front() {
-        return Some(*front);
+    if let Some(front) = device.pending(ring).front().copied() {
+        return Some(front);
     }
     if let Some(next) = device.choice(ring) {
         return Some(next);

@@ -11,6 +11,7 @@ ghost use Rattle.drm_why.specs.Rings.{text_of_jobs, text_of_rings};
 ghost use Rattle.drm_why.specs.Whys.{IsLife, IsTold, Tells, Whys};
 
 use crate::lines::life_text;
+use crate::longest::longest;
 use crate::rings::{jobs_text, rings_text};
 use crate::seeing::{changes, last_clock, take_seen};
 use drm_core::{Core, every_run_is_lawful};
@@ -45,7 +46,9 @@ fn life(alloc: Global, script: Script, fence: FenceId) -> Result<Vec<u8>, AllocE
     };
     let seens = take_seen(alloc, &mut core, script.lines, fence)?;
     let changes = changes(alloc, &seens)?;
-    life_text(alloc, fence, &changes, seens.len(), last_clock(&seens))
+    let place = seens.len();
+    let longest = longest(&changes, place);
+    life_text(alloc, fence, &changes, place, last_clock(&seens), longest)
 }
 
 // The reasons of all jobs behind the last command.
