@@ -1,5 +1,6 @@
 -- The lines of a test: the lines of a script, the answers that are expected of them, and remarks between them.
-use Rattle.std.specs.Prelude.{◌≡◌, ℕ, ◌+◌, ◌<◌, ◌==◌, ◌⊎◌, Bool, true, IsTrue, IsFalse, List, [], ◌∷◌, ◌++◌, Option, Some, None, drop, flat_map, slice_get, take}
+use Rattle.std.specs.Prelude.{◌≡◌, ℕ, ◌+◌, ◌<◌, ◌==◌, ◌⊎◌, Bool, true, false, IsTrue, IsFalse, List, [], ◌∷◌, ◌++◌, Option, Some, None, drop, flat_map, slice_get, take}
+use Rattle.std.specs.Option.{option_map_or}
 use Rattle.core.specs.Str.{IsTrimAsciiEnd, IsTrimAsciiStart}
 use Rattle.drm_expect.specs.declared.lines.Line.{Line}
 
@@ -8,13 +9,17 @@ abbrev pub is_remark : List ℕ → Bool
 is_remark [] = true
 is_remark (byte ∷ rest) = byte == 35
 
--- no '=' stands before this place
-abbrev pub NoEqualsBefore : List ℕ → ℕ → Type 0
-NoEqualsBefore bytes place = (i byte : ℕ) → i < place → slice_get bytes i ≡ Some byte → IsFalse (byte == 61)
+-- whether an '=' stands at this place
+abbrev pub is_equals_at : List ℕ → ℕ → Bool
+is_equals_at bytes place = option_map_or (λ byte. byte == 61) (slice_get bytes place) false
 
--- the first '=' stands there
+-- none stands before this place
+abbrev pub NoEqualsBefore : List ℕ → ℕ → Type 0
+NoEqualsBefore bytes place = (i : ℕ) → i < place → IsFalse (is_equals_at bytes i)
+
+-- the first one stands there
 pub record FirstEquals (bytes : List ℕ) (place : ℕ) : Type 0 where
-  pub at : slice_get bytes place ≡ Some 61
+  pub at : IsTrue (is_equals_at bytes place)
   pub before : NoEqualsBefore bytes place
 
 -- it stands there, or there is none
@@ -35,6 +40,12 @@ pub record IsLine (number : ℕ) (bytes : List ℕ) (line : Line) : Type 0 where
   pub place : Option ℕ
   pub found : IsFoundAt bytes place
   pub expects : Expects bytes place line.bare line.wanted
+
+-- the lines with that of these bytes, unless it is a remark
+abbrev pub IsAdded : ℕ → List ℕ → List Line → List Line → Type 0
+IsAdded number bytes old new =
+    (IsTrue (is_remark bytes) × (new ≡ old))
+    ⊎ (IsFalse (is_remark bytes) × ((line : Line) × IsLine number bytes line × (new ≡ old ++ line ∷ [])))
 
 -- the lines of a test from this number on, without the remarks
 abbrev pub AreLines : ℕ → List (List ℕ) → List Line → Type 0

@@ -1,8 +1,8 @@
 //! The lines of a test.
 
-ghost use Rattle.std.specs.Prelude.{◌≡◌, ◌≤◌, ◌++◌, ◌∷◌, [], IfOk, OnOk, length};
+ghost use Rattle.std.specs.Prelude.{◌≡◌, ◌<◌, ◌≤◌, ◌++◌, ◌∷◌, [], IfOk, IfSome, OnOk, length};
 ghost use Rattle.drm_text.specs.Cut.{parts_of};
-ghost use Rattle.drm_expect.specs.Lines.{AreLines, IsFoundAt, IsLine, is_remark, script_text};
+ghost use Rattle.drm_expect.specs.Lines.{AreLines, IsAdded, IsFoundAt, IsLine, is_equals_at, is_remark, script_text};
 
 use drm_text::Parts;
 use drm_types::Sequence;
@@ -29,12 +29,23 @@ fn is_for_readers(line: &[u8]) -> bool
     }
 }
 
+// Whether an '=' stands at this place.
+fn is_equals(line: &[u8], place: usize) -> bool
+    ensures { result ≡ is_equals_at line.now place }
+{
+    match line.get(place) {
+        Some(byte) => *byte == b'=',
+        None => false,
+    }
+}
+
 // Where the first '=' stands, if there is one.
 fn equals(line: &[u8]) -> Option<usize>
-    ensures { IsFoundAt line.now result }
+    ensures found { IsFoundAt line.now result }
+    ensures within { IfSome result (λ place. place < length line.now) }
 {
     for place in 0..line.len() {
-        if line[place] == b'=' {
+        if is_equals(line, place) {
             return Some(place);
         }
     }
@@ -70,6 +81,23 @@ fn line(alloc: Global, number: u32, bytes: &[u8]) -> Result<Line, AllocError>
     })
 }
 
+// Adds the line of these bytes, unless it is a remark.
+fn add_line(
+    alloc: Global,
+    lines: &mut Vec<Line>,
+    number: u32,
+    bytes: &[u8],
+) -> Result<(), AllocError>
+    ensures { OnOk result (IsAdded number bytes.now lines.old.items lines.new.items) }
+{
+    if is_for_readers(bytes) {
+        return Ok(());
+    }
+    let line = line(alloc, number, bytes)?;
+    lines.push(line)?;
+    Ok(())
+}
+
 /// The lines of a text, without its remarks.
 pub(crate) fn lines_of(alloc: Global, text: &[u8]) -> Result<Vec<Line>, AllocError>
     requires { length text.now ≤ 1048576 }
@@ -79,9 +107,7 @@ pub(crate) fn lines_of(alloc: Global, text: &[u8]) -> Result<Vec<Line>, AllocErr
     let mut parts = Parts::<b'\n'>::new(text);
     let mut number = 1;
     while let Some(bytes) = parts.next() {
-        if !is_for_readers(bytes) {
-            lines.push(line(alloc, number, bytes)?)?;
-        }
+        add_line(alloc, &mut lines, number, bytes)?;
         number += 1;
     }
     Ok(lines)
