@@ -94,7 +94,8 @@ TestsLines lines old new other =
 -- what each ending says of a text, and of what the writer holds before and after: it has these lines, or is too long
 abbrev pub TestsText : List ℕ → Option (List ℕ) → Option (List ℕ) → Ending → Type 0
 TestsText text old new ended =
-    ((lines : List Line) × AreLinesOf text lines × TestsLines lines old new ended) ⊎ IsTooLong text old new ended ⊎ LacksMemory old new ended
+    ((lines : List Line) × AreLinesOf text lines × TestsLines lines old new ended)
+    ⊎ ((IsTooLong text old new ended) ⊎ (LacksMemory old new ended))
 
 -- a text that is read, of which this holds: all that the input has, or more of it than a text has at most
 abbrev pub IsOfInput : Option (List ℕ) → (List ℕ → Type 0) → Type 0
@@ -110,7 +111,7 @@ IsUnread old new ended = ((ended ≡ ending.NoInput) ⊎ (ended ≡ ending.NoMem
 
 -- what each ending says of the input, and of what the writer holds before and after
 abbrev pub Tests : Option (List ℕ) → Option (List ℕ) → Option (List ℕ) → Ending → Type 0
-Tests known old new ended = IsOfInput known (λ text. TestsText text old new ended) ⊎ IsUnread old new ended
+Tests known old new ended = (IsOfInput known (λ text. TestsText text old new ended)) ⊎ (IsUnread old new ended)
 
 -- so where the script alone is written
 abbrev pub LowersLines : List Line → Option (List ℕ) → Option (List ℕ) → Ending → Type 0
@@ -120,7 +121,8 @@ LowersLines lines old new other = ⊥
 
 abbrev pub LowersText : List ℕ → Option (List ℕ) → Option (List ℕ) → Ending → Type 0
 LowersText text old new ended =
-    ((lines : List Line) × AreLinesOf text lines × LowersLines lines old new ended) ⊎ IsTooLong text old new ended ⊎ LacksMemory old new ended
+    ((lines : List Line) × AreLinesOf text lines × LowersLines lines old new ended)
+    ⊎ ((IsTooLong text old new ended) ⊎ (LacksMemory old new ended))
 
 abbrev pub Lowers : Option (List ℕ) → Option (List ℕ) → Option (List ℕ) → Ending → Type 0
-Lowers known old new ended = IsOfInput known (λ text. LowersText text old new ended) ⊎ IsUnread old new ended
+Lowers known old new ended = (IsOfInput known (λ text. LowersText text old new ended)) ⊎ (IsUnread old new ended)
