@@ -1,9 +1,9 @@
 -- The first '=' of a line, and the lines of a test so far.
-use Rattle.std.proofs.Common.{◌≡◌, ℕ, ◌+◌, ◌<◌, ◌≤◌, true, false, ◌==◌, List, [], ◌∷◌, ◌++◌, length, append_assoc, append-nil, refl, sym, ap, subst, ◌∙◌, inl, inr, arith}
+use Rattle.std.proofs.Common.{◌≡◌, ℕ, suc, ◌+◌, ◌-◌, ◌<◌, ◌≤◌, true, false, ◌==◌, List, [], ◌∷◌, ◌++◌, Some, length, append_assoc, append-nil, refl, sym, ap, subst, ◌∙◌, inl, inr, arith, slice_get}
 use Rattle.std.specs.Option.{option_map_or}
 use Rattle.std.proofs.lemmas.Bool.{cases_eq, cases_lt}
 use Rattle.std.proofs.lemmas.Option.{slice_get_past}
-use Rattle.drm_expect.specs.Lines.{AreLines, IsAdded, NoEqualsBefore, is_equals_at}
+use Rattle.drm_expect.specs.Lines.{AreLines, IsAdded, NoEqualsBefore, is_equals_at, last_number}
 use Rattle.drm_expect.specs.declared.lines.Line.{Line}
 
 -- ---- the first '='
@@ -43,3 +43,24 @@ added_on parts rest left number bytes so_far now split (inr (kept, (line, is, ne
 pub lines_end : (parts rest : List (List ℕ)) (number : ℕ) (so_far : List Line) → rest ≡ [] → LinesOn parts number rest so_far → AreLines 1 parts so_far
 lines_end parts rest number so_far none on =
     subst (λ (ls : List Line). AreLines 1 parts ls) (append-nil so_far) (on [] (subst (λ (ps : List (List ℕ)). AreLines number ps []) (sym none) refl))
+
+-- ---- the last line
+
+at_end : (xs : List Line) (x : Line) → slice_get (xs ++ x ∷ []) (length xs) ≡ Some x
+at_end [] x = refl
+at_end (y ∷ ys) x = at_end ys x
+
+one_more : (xs : List Line) (x : Line) → length (xs ++ x ∷ []) ≡ suc (length xs)
+one_more [] x = refl
+one_more (y ∷ ys) x = ap suc (one_more ys x)
+
+last_pushed : (xs : List Line) (x : Line) → last_number (xs ++ x ∷ []) ≡ x.number
+last_pushed xs x =
+    let count : length (xs ++ x ∷ []) - 1 ≡ length xs = omega (arith, one_more xs x) in
+    ap (λ o. option_map_or (λ (line : Line). line.number) o 0) (ap (slice_get (xs ++ x ∷ [])) count ∙ at_end xs x)
+
+-- no line has a number above that of the line which was looked at last
+pub last_added : (number : ℕ) (bytes : List ℕ) (old new : List Line) → IsAdded number bytes old new → last_number old ≤ number → last_number new ≤ number
+last_added number bytes old new (inl (remark, same)) before = subst (λ (ls : List Line). last_number ls ≤ number) (sym same) before
+last_added number bytes old new (inr (kept, (line, is, pushed))) before =
+    let told : last_number new ≡ number = ap last_number pushed ∙ last_pushed old line ∙ is.numbered in omega (arith, told)

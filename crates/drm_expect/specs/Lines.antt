@@ -1,5 +1,5 @@
 -- The lines of a test: the lines of a script, the answers that are expected of them, and remarks between them.
-use Rattle.std.specs.Prelude.{◌≡◌, ℕ, ◌+◌, ◌<◌, ◌==◌, ◌⊎◌, Bool, true, false, IsTrue, IsFalse, List, [], ◌∷◌, ◌++◌, Option, Some, None, drop, flat_map, slice_get, take}
+use Rattle.std.specs.Prelude.{◌≡◌, ℕ, ◌+◌, ◌-◌, ◌<◌, ◌==◌, ◌⊎◌, Bool, true, false, IsTrue, IsFalse, List, [], ◌∷◌, ◌++◌, Option, Some, None, drop, flat_map, length, slice_get, take}
 use Rattle.std.specs.Option.{option_map_or}
 use Rattle.core.specs.Str.{IsTrimAsciiEnd, IsTrimAsciiStart}
 use Rattle.drm_expect.specs.declared.lines.Line.{Line}
@@ -58,3 +58,7 @@ AreLines number (bytes ∷ more) lines =
 -- the script that is left of them
 abbrev pub script_text : List Line → List ℕ
 script_text lines = flat_map (λ line. line.bare ++ 10 ∷ []) lines
+
+-- the number of the last line
+abbrev pub last_number : List Line → ℕ
+last_number lines = option_map_or (λ line. line.number) (slice_get lines (length lines - 1)) 0

@@ -1,5 +1,5 @@
 -- Tests of scripts: what is written is the first difference from what is expected.
-use Rattle.std.specs.Prelude.{◌≡◌, ◌⊎◌, ℕ, zero, suc, ◌+◌, ◌-◌, true, false, nat_lt, List, [], ◌++◌, Option, Some, None, Ok, Err, IfSome, codes, length, slice_get, take}
+use Rattle.std.specs.Prelude.{◌≡◌, ◌⊎◌, ℕ, zero, suc, ◌+◌, true, false, nat_lt, List, [], ◌++◌, Option, Some, None, Ok, Err, IfSome, codes, length, slice_get, take}
 use Rattle.std.specs.Fmt.{decimal}
 use Rattle.std.specs.Option.{option_map_or}
 use Rattle.std.specs.Io.KnownBytes.{Appends, Keeps}
@@ -17,17 +17,13 @@ use Rattle.drm_engine.specs.declared.ending.Ending.{Ending}
 use Rattle.drm_engine.specs.declared.ending.Ending.TheVariants as ending
 use Rattle.drm_engine.specs.Replaying.{AreAnswers}
 use Rattle.drm_expect.specs.declared.lines.Line.{Line}
-use Rattle.drm_expect.specs.Lines.{AreLines, script_text}
+use Rattle.drm_expect.specs.Lines.{AreLines, last_number, script_text}
 use Rattle.drm_expect.specs.Matching.{AreExpectedBefore, DiffersFirst}
 
 -- the lines of a text that is not too long
 pub record AreLinesOf (text : List ℕ) (lines : List Line) : Type 0 where
   pub short : nat_lt 1048576 (length text) ≡ false
   pub lines : AreLines 1 (parts_of 10 text) lines
-
--- the number of the last line
-abbrev pub last_number : List Line → ℕ
-last_number lines = option_map_or (λ line. line.number) (slice_get lines (length lines - 1)) 0
 
 -- the number in the test of a line of its script, which are counted from 1. What comes behind the last line stands behind that
 abbrev pub number_in_test : List Line → ℕ → ℕ

@@ -2,7 +2,7 @@
 
 ghost use Rattle.std.specs.Prelude.{◌≡◌, ◌<◌, ◌≤◌, ◌++◌, ◌∷◌, [], IfOk, IfSome, OnOk, length};
 ghost use Rattle.drm_text.specs.Cut.{parts_of};
-ghost use Rattle.drm_expect.specs.Lines.{AreLines, IsAdded, IsFoundAt, IsLine, is_equals_at, is_remark, script_text};
+ghost use Rattle.drm_expect.specs.Lines.{AreLines, IsAdded, IsFoundAt, IsLine, is_equals_at, is_remark, last_number, script_text};
 
 use drm_text::Parts;
 use drm_types::Sequence;
@@ -101,7 +101,8 @@ fn add_line(
 /// The lines of a text, without its remarks.
 pub(crate) fn lines_of(alloc: Global, text: &[u8]) -> Result<Vec<Line>, AllocError>
     requires { length text.now ≤ 1048576 }
-    ensures { IfOk result (λ lines. AreLines 1 (parts_of 10 text.now) lines.items) }
+    ensures lines { IfOk result (λ lines. AreLines 1 (parts_of 10 text.now) lines.items) }
+    ensures last { IfOk result (λ lines. last_number lines.items ≤ 1048577) }
 {
     let mut lines = Vec::new(alloc);
     let mut parts = Parts::<b'\n'>::new(text);

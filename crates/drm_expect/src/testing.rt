@@ -1,6 +1,6 @@
 //! The engines over a test.
 
-ghost use Rattle.std.specs.Prelude.{◌≡◌, ◌<◌, ◌++◌, None, IfErr, IfOk, IfSome, OnOk, Some, length, slice_get, take};
+ghost use Rattle.std.specs.Prelude.{◌≡◌, ◌<◌, ◌≤◌, ◌++◌, None, IfErr, IfOk, IfSome, OnOk, Some, length, slice_get, take};
 ghost use Rattle.drm_types.specs.Limits.{spec_fault};
 ghost use Rattle.drm_core.specs.Run.{AllNamesExist};
 ghost use Rattle.drm_stream.specs.Streams.{NoReadFailed, SourceState};
@@ -9,9 +9,9 @@ ghost use Rattle.drm_text.specs.declared.fault.Fault.TheVariants.{Text};
 ghost use Rattle.drm_text.specs.declared.fault.TextFault.TheVariants.{TooLong};
 ghost use Rattle.drm_engine.specs.Failures.{EndsBy};
 ghost use Rattle.drm_engine.specs.Replaying.{AreAnswers, IsAnswered};
-ghost use Rattle.drm_expect.specs.Lines.{script_text};
+ghost use Rattle.drm_expect.specs.Lines.{last_number, script_text};
 ghost use Rattle.drm_expect.specs.Matching.{DiffersFirst, answered};
-ghost use Rattle.drm_expect.specs.Testing.{AreExpected, ComparesOrLacks, IsNoFault, Lowers, LowersText, Tests, TestsLines, TestsText, fault_in_test, last_number, number_in_test, said_of_answer, said_of_wanted, text_of_difference};
+ghost use Rattle.drm_expect.specs.Testing.{AreExpected, ComparesOrLacks, IsNoFault, Lowers, LowersText, Tests, TestsLines, TestsText, fault_in_test, number_in_test, said_of_answer, said_of_wanted, text_of_difference};
 
 use crate::lines::{Line, bare_text, lines_of};
 use crate::matching::is_expected;
@@ -162,6 +162,7 @@ fn last(lines: &[Line]) -> u32
 
 // The number in the test of a line of its script.
 fn number(lines: &[Line], line: u32) -> u32
+    requires { last_number lines.now ≤ 1048577 }
     ensures { result ≡ number_in_test lines.now line }
 {
     if line == 0 {
@@ -175,6 +176,7 @@ fn number(lines: &[Line], line: u32) -> u32
 
 // A fault of the script, told of the test.
 fn fault(lines: &[Line], found: Fault) -> Fault
+    requires { last_number lines.now ≤ 1048577 }
     ensures { result ≡ fault_in_test lines.now found }
 {
     match found {
@@ -228,7 +230,8 @@ fn compare<W: Write>(
 
 // Runs the script of these lines, and compares its answers.
 fn test_lines<W: Write>(alloc: Global, lines: &[Line], bare: &[u8], writer: &mut Sink<W>) -> Ending
-    requires { bare.now ≡ script_text lines.now }
+    requires bare { bare.now ≡ script_text lines.now }
+    requires last { last_number lines.now ≤ 1048577 }
     ensures ending { TestsLines lines.now writer.old.contents writer.new.contents result }
     ensures failures { (before after : SourceState) → NoReadFailed before after → EndsBy before after writer.old writer.new result }
 {
