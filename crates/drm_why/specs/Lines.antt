@@ -62,10 +62,13 @@ abbrev pub held_text : Reason → List ℕ → List ℕ
 held_text (reason.Ended outcome) line = []
 held_text other line = line
 
+-- how long what began with a change held, before those behind it
+abbrev pub span_text : ℕ → ℕ → Change → List Change → List ℕ
+span_text place clock change behind = held_text change.reason (line_of_span change (end_of behind place) (clock_at_end behind clock))
+
 abbrev pub spans_text : ℕ → ℕ → List Change → List ℕ
 spans_text place clock [] = []
-spans_text place clock (change ∷ behind) =
-    held_text change.reason (line_of_span change (end_of behind place) (clock_at_end behind clock)) ++ spans_text place clock behind
+spans_text place clock (change ∷ behind) = span_text place clock change behind ++ spans_text place clock behind
 
 -- what is told of a job whose reason never changes: it was not armed
 abbrev pub head_text : ℕ → List Change → List ℕ
@@ -81,14 +84,15 @@ unfoldable pub lines_of_longest : ℕ → ℕ → List Link → List ℕ
 lines_of_longest commands moments links =
     two_in (codes "held up longest, for ") commands (codes " commands and ") moments ++ codes " moments, by\n" ++ flat_map line_of_link links
 
--- so of the change of this number
+-- so of this change, which has this number
+abbrev pub held_by_text : List Change → ℕ → ℕ → ℕ → Change → List ℕ
+held_by_text changes place clock number change =
+    lines_of_longest (commands_of changes place number) (clock_at_end (drop (number + 1) changes) clock - change.clock) change.links
+
+-- so of the change of a number, where there is one
 abbrev pub longest_text : List Change → ℕ → ℕ → Option ℕ → List ℕ
 longest_text changes place clock None = []
-longest_text changes place clock (Some number) =
-    option_map_or
-    (λ change. lines_of_longest (commands_of changes place number) (clock_at_end (drop (number + 1) changes) clock - change.clock) change.links)
-    (slice_get changes number)
-    []
+longest_text changes place clock (Some number) = option_map_or (held_by_text changes place clock number) (slice_get changes number) []
 
 -- the life of a job: its changes, how long each reason held in so many commands, with this moment told last, and by which
 -- jobs it was held up longest, where it was

@@ -1,7 +1,7 @@
 //! The lines of the life of a job.
 
-ghost use Rattle.std.specs.Prelude.{◌≡◌, ◌++◌, IfOk, OnOk, flat_map};
-ghost use Rattle.drm_why.specs.Lines.{head_text, held_text, line_of_change, line_of_link, line_of_span, lines_of_longest, longest_text, numbers_of, spaced, spans_text, text_of_command, text_of_life, text_of_moment};
+ghost use Rattle.std.specs.Prelude.{◌≡◌, ◌+◌, ◌<◌, ◌++◌, IfOk, OnOk, Some, drop, flat_map, length, slice_get};
+ghost use Rattle.drm_why.specs.Lines.{head_text, held_by_text, held_text, line_of_change, line_of_link, line_of_span, lines_of_longest, longest_text, numbers_of, spaced, span_text, spans_text, text_of_command, text_of_life, text_of_moment};
 
 use crate::chain::Link;
 use crate::longest::{clock_there, commands, end};
@@ -141,6 +141,23 @@ fn put_kept(
     }
 }
 
+// Puts how long what began with the change of this number held.
+fn put_span_at(
+    out: &mut Vec<u8>,
+    changes: &[Change],
+    place: usize,
+    clock: Moment,
+    number: usize,
+    change: &Change,
+) -> Result<(), AllocError>
+    requires { number < length changes.now }
+    ensures { OnOk result (out.new.items ≡ out.old.items ++ span_text place clock change.now (drop (number + 1) changes.now)) }
+{
+    let ends = end(changes, place, number);
+    let last = clock_there(changes, clock, number);
+    put_kept(out, change, ends, last)
+}
+
 // Puts how long each reason held.
 fn put_spans(
     out: &mut Vec<u8>,
@@ -150,10 +167,8 @@ fn put_spans(
 ) -> Result<(), AllocError>
     ensures { OnOk result (out.new.items ≡ out.old.items ++ spans_text place clock changes.now) }
 {
-    for (number, change) in changes.iter().enumerate() {
-        let ends = end(changes, place, number);
-        let last = clock_there(changes, clock, number);
-        put_kept(out, change, ends, last)?;
+    for number in 0..changes.len() {
+        put_span_at(out, changes, place, clock, number, &changes[number])?;
     }
     Ok(())
 }
@@ -209,7 +224,40 @@ fn put_held(
     put_links(out, links)
 }
 
-// Puts by which jobs this one was held up longest.
+// Puts for how long the change of this number held the job up, and by which jobs.
+fn put_held_by(
+    out: &mut Vec<u8>,
+    changes: &[Change],
+    place: usize,
+    clock: Moment,
+    number: usize,
+    change: &Change,
+) -> Result<(), AllocError>
+    requires { slice_get changes.now number ≡ Some change.now }
+    ensures { OnOk result (out.new.items ≡ out.old.items ++ held_by_text changes.now place clock number change.now) }
+{
+    let commands = commands(changes, place, number) as u64;
+    let moments = clock_there(changes, clock, number).saturating_sub(change.clock);
+    put_held(out, commands, moments, change.links.as_slice())
+}
+
+// Puts by which jobs this one was held up longest, from the change of this number on.
+fn put_longest_at(
+    out: &mut Vec<u8>,
+    changes: &[Change],
+    place: usize,
+    clock: Moment,
+    number: usize,
+) -> Result<(), AllocError>
+    ensures { OnOk result (out.new.items ≡ out.old.items ++ longest_text changes.now place clock (Some number)) }
+{
+    match changes.get(number) {
+        Some(change) => put_held_by(out, changes, place, clock, number, change),
+        None => Ok(()),
+    }
+}
+
+// Puts by which jobs this one was held up longest, where it was.
 fn put_longest(
     out: &mut Vec<u8>,
     changes: &[Change],
@@ -219,15 +267,10 @@ fn put_longest(
 ) -> Result<(), AllocError>
     ensures { OnOk result (out.new.items ≡ out.old.items ++ longest_text changes.now place clock longest) }
 {
-    let Some(number) = longest else {
-        return Ok(());
-    };
-    let Some(change) = changes.get(number) else {
-        return Ok(());
-    };
-    let commands = commands(changes, place, number) as u64;
-    let moments = clock_there(changes, clock, number).saturating_sub(change.clock);
-    put_held(out, commands, moments, change.links.as_slice())
+    match longest {
+        Some(number) => put_longest_at(out, changes, place, clock, number),
+        None => Ok(()),
+    }
 }
 
 /// The text of the life of a job, of so many commands, behind which this moment was told last. The change of this number

@@ -1,7 +1,7 @@
 //! By what a job was held up longest.
 
-ghost use Rattle.std.specs.Prelude.{◌≡◌, ◌+◌, ◌<◌, drop, length};
-ghost use Rattle.drm_why.specs.Longest.{LongestIs, clock_at_end, commands_of, end_of};
+ghost use Rattle.std.specs.Prelude.{◌≡◌, ◌+◌, ◌<◌, Some, drop, length, nat_lt};
+ghost use Rattle.drm_why.specs.Longest.{IsHeld, LongestIs, clock_at_end, commands_of, end_of};
 
 use crate::seeing::Change;
 use drm_types::Moment;
@@ -36,6 +36,27 @@ pub(crate) fn commands(changes: &[Change], place: usize, number: usize) -> usize
     end(changes, place, number).saturating_sub(changes[number].place)
 }
 
+// Whether the change of one number held for more commands than that of another.
+fn is_longer(changes: &[Change], place: usize, number: usize, other: usize) -> bool
+    requires number { number < length changes.now }
+    requires other { other < length changes.now }
+    ensures { result ≡ nat_lt (commands_of changes.now place other) (commands_of changes.now place number) }
+{
+    commands(changes, place, other) < commands(changes, place, number)
+}
+
+// Of the longest so far and the change of this number the one that held for more commands.
+fn longer_of(changes: &[Change], place: usize, other: usize, number: usize) -> Option<usize>
+    requires longest { LongestIs changes.now place number (Some other) }
+    requires held { (change : _) × IsHeld changes.now number change }
+    ensures { LongestIs changes.now place (number + 1) result }
+{
+    if is_longer(changes, place, number, other) {
+        return Some(number);
+    }
+    Some(other)
+}
+
 // The longest so far, or the change of this number, where that held the job up for more commands.
 fn longer(changes: &[Change], place: usize, longest: Option<usize>, number: usize) -> Option<usize>
     requires there { number < length changes.now }
@@ -46,13 +67,7 @@ fn longer(changes: &[Change], place: usize, longest: Option<usize>, number: usiz
         return longest;
     }
     match longest {
-        Some(other) => {
-            if commands(changes, place, other) < commands(changes, place, number) {
-                Some(number)
-            } else {
-                longest
-            }
-        }
+        Some(other) => longer_of(changes, place, other, number),
         None => Some(number),
     }
 }

@@ -1,6 +1,10 @@
-use Rattle.std.proofs.Common.{subst, sym}
+use Rattle.std.proofs.Common.{◌≡◌, ◌∙◌, ap, List, length, subst, sym}
+use Rattle.std.proofs.lemmas.Result.{IfOk-weaker}
 use Rattle.drm_core.specs.Lawful.{IsLawful}
+use Rattle.drm_core.specs.State.{CoreState}
 use Rattle.drm_engine.proofs.Pieces.{opened_lawful}
+use Rattle.drm_reason.specs.declared.reason.Reason.TheVariants.{NotArmed}
+use Rattle.drm_why.specs.Seeing.{Sees}
 use Rattle.drm_why.proofs.why.life.Goals as goal
 
 pub take_seen-seens-requires-clause-lawful : goal.take_seen-seens-requires-clause-lawful
