@@ -1,7 +1,7 @@
 -- What rings do.
-use Rattle.std.specs.Prelude.{ℕ, Bool, ◌&&◌, ◌==◌, List, [], ◌∷◌, ◌++◌, Option, Some, None, codes, find, flat_map, length, option_map}
+use Rattle.std.specs.Prelude.{ℕ, ◌&&◌, ◌==◌, List, [], ◌∷◌, ◌++◌, Option, Some, None, codes, find, flat_map, option_map}
 use Rattle.std.specs.List.{enumerate_from}
-use Rattle.drm_types.specs.Firsts.{first_of, is_nil}
+use Rattle.std.specs.Option.{option_or}
 use Rattle.drm_fence.specs.Phases.{is_queued}
 use Rattle.drm_state.specs.declared.journal.JobRecord.{JobRecord}
 use Rattle.drm_state.specs.State.{DeviceState}
@@ -20,7 +20,7 @@ first_queued_for journal ring = option_map (λ n. n.0) (find (λ n. (n.1.ring ==
 -- first one that is queued for it
 abbrev pub job_of_ring : DeviceState → ℕ → Option ℕ
 job_of_ring device ring =
-    first_of (current_of device ring ∷ head_of device ring ∷ choice device ring ∷ first_queued_for device.journal ring ∷ [])
+    option_or (option_or (current_of device ring) (head_of device ring)) (option_or (choice device ring) (first_queued_for device.journal ring))
 
 abbrev pub said_of_pending : List ℕ → List ℕ
 said_of_pending [] = codes " is idle: "

@@ -1,5 +1,5 @@
 -- What is seen of a job in a run, and where its reason changes.
-use Rattle.std.specs.Prelude.{◌≡◌, ℕ, ◌+◌, ◌⊎◌, List, [], ◌∷◌, fold, unwrap_or}
+use Rattle.std.specs.Prelude.{◌≡◌, ℕ, ◌+◌, ◌⊎◌, List, [], ◌∷◌, ◌++◌, fold, unwrap_or}
 use Rattle.drm_job.specs.declared.Draft.{Draft}
 use Rattle.drm_state.specs.declared.answer.Answer.{Answer}
 use Rattle.drm_state.specs.Grows.{Grows}
@@ -60,6 +60,11 @@ change_at place clock seen = record {
   reason = seen.reason;
   links = seen.links;
 }
+
+-- what is seen at this place is one change more, where the reason is another than before, and else none
+abbrev pub IsChanged : Reason → ℕ → ℕ → Seen → List Change → List Change → Type 0
+IsChanged before place clock seen old new =
+    ((seen.reason ≡ before) × (new ≡ old)) ⊎ ((seen.reason ≡ before → ⊥) × (new ≡ old ++ change_at place clock seen ∷ []))
 
 -- the changes of what is seen from this place on, before which the job had this reason and this moment was told last:
 -- one for each command behind which the reason is another than before it, and no other

@@ -41,16 +41,10 @@ fn job(device: &Device, ring: RingId) -> Option<FenceId>
     requires { ring < length device.now.state.spec.rings }
     ensures { result ≡ job_of_ring device.now.state ring }
 {
-    if let Some(current) = device.current(ring) {
-        return Some(current);
-    }
-    if let Some(front) = device.pending(ring).front().copied() {
-        return Some(front);
-    }
-    if let Some(next) = device.choice(ring) {
-        return Some(next);
-    }
-    first_queued(device, ring)
+    let pending = device
+        .current(ring)
+        .or(device.pending(ring).front().copied());
+    pending.or(device.choice(ring).or(first_queued(device, ring)))
 }
 
 // Whether the ring is busy, in words.

@@ -4,7 +4,7 @@ ghost use Rattle.std.specs.Prelude.{◌≡◌, ◌↔◌, IfOk, IsTrue};
 ghost use Rattle.drm_core.specs.Lawful.{IsLawful};
 ghost use Rattle.drm_core.specs.Run.{AllNamesExist};
 ghost use Rattle.drm_reason.specs.declared.reason.Reason.TheVariants as reason;
-ghost use Rattle.drm_why.specs.Seeing.{AreChanges, AreLinks, Sees, clock_behind, clock_of, command_of};
+ghost use Rattle.drm_why.specs.Seeing.{AreChanges, AreLinks, IsChanged, Sees, clock_behind, clock_of, command_of};
 
 use crate::chain::{Link, chain};
 use drm_core::{Core, Event};
@@ -120,6 +120,32 @@ pub(crate) fn take_seen(
     Ok(seens)
 }
 
+// Adds what is seen behind the command at this place, where the reason is another than before.
+fn add_change(
+    alloc: Global,
+    changes: &mut Vec<Change>,
+    before: Reason,
+    place: usize,
+    clock: Moment,
+    seen: &Seen,
+) -> Result<(), AllocError>
+    ensures { OnOk result (IsChanged before place clock seen.now changes.old.items changes.new.items) }
+{
+    if are_same(seen.reason, before) {
+        return Ok(());
+    }
+    let links = copied(alloc, seen.links.as_slice())?;
+    let clock = clock_after(clock, seen.command);
+    changes.push(Change {
+        place,
+        command: seen.command,
+        clock,
+        reason: seen.reason,
+        links,
+    })?;
+    Ok(())
+}
+
 /// The changes of what was seen, from a core on which no job was armed.
 pub(crate) fn changes(alloc: Global, seens: &[Seen]) -> Result<Vec<Change>, AllocError>
     ensures { IfOk result (λ changes. AreChanges reason.NotArmed 0 0 seens.now changes.items) }
@@ -127,18 +153,10 @@ pub(crate) fn changes(alloc: Global, seens: &[Seen]) -> Result<Vec<Change>, Allo
     let mut changes = Vec::new(alloc);
     let mut before = Reason::NotArmed;
     let mut clock = 0;
-    for (place, seen) in seens.iter().enumerate() {
+    for place in 0..seens.len() {
+        let seen = &seens[place];
+        add_change(alloc, &mut changes, before, place, clock, seen)?;
         clock = clock_after(clock, seen.command);
-        if are_same(seen.reason, before) {
-            continue;
-        }
-        changes.push(Change {
-            place,
-            command: seen.command,
-            clock,
-            reason: seen.reason,
-            links: copied(alloc, seen.links.as_slice())?,
-        })?;
         before = seen.reason;
     }
     Ok(changes)
