@@ -27,15 +27,18 @@ AnswersAs (Some wanted) (Some line) = Matches wanted line
 abbrev pub answered : List Line → List Answer → List (Option (List ℕ))
 answered lines answers = replicate (length lines - length answers) None ++ map (λ answer. Some (line_of answer)) answers
 
--- so of the lines before a place
-abbrev pub AreExpectedBefore : List Line → List Answer → ℕ → Type 0
-AreExpectedBefore lines answers place =
-    (i : ℕ) (line : Line) (given : Option (List ℕ)) → i < place → slice_get lines i ≡ Some line
-    → slice_get (answered lines answers) i ≡ Some given → AnswersAs line.wanted given
+-- the line at a place is answered as it is expected
+abbrev pub IsExpectedAt : List Line → List Answer → ℕ → Type 0
+IsExpectedAt lines answers place =
+    (line : Line) (given : Option (List ℕ)) → slice_get lines place ≡ Some line → slice_get (answered lines answers) place ≡ Some given
+    → AnswersAs line.wanted given
 
--- the first line that is not answered as it is expected, with what it was answered
-pub record DiffersFirst (lines : List Line) (answers : List Answer) (place : ℕ) (line : Line) (given : Option (List ℕ)) : Type 0 where
-  pub at : slice_get lines place ≡ Some line
-  pub answer : slice_get (answered lines answers) place ≡ Some given
-  pub differs : AnswersAs line.wanted given → ⊥
-  pub before : AreExpectedBefore lines answers place
+-- it is answered this, and that is not what is expected
+abbrev pub DiffersAt : List Line → List Answer → ℕ → Option (List ℕ) → Type 0
+DiffersAt lines answers place given =
+    (line : Line) × (slice_get lines place ≡ Some line) × (slice_get (answered lines answers) place ≡ Some given)
+    × (AnswersAs line.wanted given → ⊥)
+
+-- all lines before a place are answered as they are expected
+abbrev pub AreExpectedBefore : List Line → List Answer → ℕ → Type 0
+AreExpectedBefore lines answers place = (i : ℕ) → i < place → IsExpectedAt lines answers i

@@ -18,7 +18,7 @@ use Rattle.drm_engine.specs.declared.ending.Ending.TheVariants as ending
 use Rattle.drm_engine.specs.Replaying.{AreAnswers}
 use Rattle.drm_expect.specs.declared.lines.Line.{Line}
 use Rattle.drm_expect.specs.Lines.{AreLines, last_number, script_text}
-use Rattle.drm_expect.specs.Matching.{AreExpectedBefore, DiffersFirst}
+use Rattle.drm_expect.specs.Matching.{AreExpectedBefore, DiffersAt}
 
 -- the lines of a text that is not too long
 pub record AreLinesOf (text : List ℕ) (lines : List Line) : Type 0 where
@@ -61,10 +61,15 @@ text_of_difference line given =
 abbrev pub AreExpected : List Line → List Answer → Type 0
 AreExpected lines answers = AreExpectedBefore lines answers (length lines)
 
+-- the first that is not is that of the line at this place
+abbrev pub IsFirstAt : List Line → List Answer → ℕ → Option (List ℕ) → Type 0
+IsFirstAt lines answers place given = DiffersAt lines answers place given × AreExpectedBefore lines answers place
+
 -- the first that is not, of whose text this holds
 abbrev pub IsDifference : List Line → List Answer → (List ℕ → Type 0) → Type 0
 IsDifference lines answers Hold =
-    (place : ℕ) × (line : Line) × (given : Option (List ℕ)) × DiffersFirst lines answers place line given × Hold (text_of_difference line given)
+    (place : ℕ) × (line : Line) × (given : Option (List ℕ)) × (slice_get lines place ≡ Some line) × IsFirstAt lines answers place given
+    × Hold (text_of_difference line given)
 
 -- what each ending says of lines and answers, and of what the writer holds before and after
 abbrev pub Compares : List Line → List Answer → Option (List ℕ) → Option (List ℕ) → Ending → Type 0

@@ -1,6 +1,6 @@
 //! The engines over a test.
 
-ghost use Rattle.std.specs.Prelude.{◌≡◌, ◌<◌, ◌≤◌, ◌++◌, None, IfErr, IfOk, IfSome, OnOk, Some, length, slice_get, take};
+ghost use Rattle.std.specs.Prelude.{◌≡◌, ◌<◌, ◌≤◌, ◌++◌, None, IfErr, IfNone, IfOk, IfSome, OnOk, Some, length, slice_get, take};
 ghost use Rattle.drm_types.specs.Limits.{spec_fault};
 ghost use Rattle.drm_core.specs.Run.{AllNamesExist};
 ghost use Rattle.drm_stream.specs.Streams.{NoReadFailed, SourceState};
@@ -10,8 +10,8 @@ ghost use Rattle.drm_text.specs.declared.fault.TextFault.TheVariants.{TooLong};
 ghost use Rattle.drm_engine.specs.Failures.{EndsBy};
 ghost use Rattle.drm_engine.specs.Replaying.{AreAnswers, IsAnswered};
 ghost use Rattle.drm_expect.specs.Lines.{last_number, script_text};
-ghost use Rattle.drm_expect.specs.Matching.{DiffersFirst, answered};
-ghost use Rattle.drm_expect.specs.Testing.{AreExpected, ComparesOrLacks, IsNoFault, Lowers, LowersText, Tests, TestsLines, TestsText, fault_in_test, number_in_test, said_of_answer, said_of_wanted, text_of_difference};
+ghost use Rattle.drm_expect.specs.Matching.{DiffersAt, IsExpectedAt, answered};
+ghost use Rattle.drm_expect.specs.Testing.{AreExpected, ComparesOrLacks, IsFirstAt, IsNoFault, Lowers, LowersText, Tests, TestsLines, TestsText, fault_in_test, number_in_test, said_of_answer, said_of_wanted, text_of_difference};
 
 use crate::lines::{Line, bare_text, lines_of};
 use crate::matching::is_expected;
@@ -80,19 +80,38 @@ struct Difference {
     given: Option<Sequence<u8>>,
 }
 
+// The line at this place, if it is not answered as it is expected.
+fn difference_at(
+    alloc: Global,
+    lines: &[Line],
+    answers: &[Answer],
+    place: usize,
+) -> Result<Option<Difference>, AllocError>
+    requires { place < length lines.now }
+    ensures none { IfOk result (λ found. IfNone found (IsExpectedAt lines.now answers.now place)) }
+    ensures some { IfOk result (λ found. IfSome found (λ d. (d.place ≡ place) × DiffersAt lines.now answers.now place d.given)) }
+{
+    let line = &lines[place];
+    let given = given(alloc, lines, answers, place)?;
+    if is_expected(&line.wanted, &given) {
+        return Ok(None);
+    }
+    Ok(Some(Difference { place, given }))
+}
+
 // The first line that is not answered as it is expected, if there is one.
 fn first_difference(
     alloc: Global,
     lines: &[Line],
     answers: &[Answer],
 ) -> Result<Option<Difference>, AllocError>
-    ensures none { IfOk result (λ found. found ≡ None → AreExpected lines.now answers.now) }
-    ensures some { IfOk result (λ found. IfSome found (λ d. (line : _) × DiffersFirst lines.now answers.now d.place line d.given)) }
+    ensures none { IfOk result (λ found. IfNone found (AreExpected lines.now answers.now)) }
+    ensures some { IfOk result (λ found. IfSome found (λ d. IsFirstAt lines.now answers.now d.place d.given)) }
 {
     for place in 0..lines.len() {
-        let given = given(alloc, lines, answers, place)?;
-        if !is_expected(&lines[place].wanted, &given) {
-            return Ok(Some(Difference { place, given }));
+        let found = difference_at(alloc, lines, answers, place)?;
+        if let Some(difference) = found {
+            return Ok(Some(difference));
         }
     }
     Ok(None)
