@@ -62,7 +62,7 @@ fn copied(alloc: Global, bytes: &[u8]) -> Result<Sequence<u8>, AllocError>
 }
 
 // The line of these bytes.
-fn line(alloc: Global, number: u32, bytes: &[u8]) -> Result<Line, AllocError>
+fn read_line(alloc: Global, number: u32, bytes: &[u8]) -> Result<Line, AllocError>
     ensures { IfOk result (λ line. IsLine number bytes.now line) }
 {
     let Some(place) = equals(bytes) else {
@@ -93,7 +93,7 @@ fn add_line(
     if is_for_readers(bytes) {
         return Ok(());
     }
-    let line = line(alloc, number, bytes)?;
+    let line = read_line(alloc, number, bytes)?;
     lines.push(line)?;
     Ok(())
 }

@@ -194,7 +194,7 @@ fn number(lines: &[Line], line: u32) -> u32
 }
 
 // A fault of the script, told of the test.
-fn fault(lines: &[Line], found: Fault) -> Fault
+fn told_fault(lines: &[Line], found: Fault) -> Fault
     requires { last_number lines.now ≤ 1048577 }
     ensures { result ≡ fault_in_test lines.now found }
 {
@@ -260,7 +260,7 @@ fn test_lines<W: Write>(alloc: Global, lines: &[Line], bare: &[u8], writer: &mut
             Err(_) => Ending::NoMemory,
         },
         Err(ReadError::Memory) => Ending::NoMemory,
-        Err(ReadError::Fault(found)) => Ending::Fault(fault(lines, found)),
+        Err(ReadError::Fault(found)) => Ending::Fault(told_fault(lines, found)),
     }
 }
 

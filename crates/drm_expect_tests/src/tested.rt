@@ -58,7 +58,10 @@ fn a_fault_is_told_by_its_line_in_the_test(rt: HostRuntime) -> Result<(), Fail> 
         SlowWriter::new(alloc, 7, None),
     );
     assert!(&rt; out.taken.is_empty());
-    assert_eq!(&rt; format!(in alloc; "{ending}")?, "line 4 column 6: fault 71");
+    assert_eq!(&rt;
+        format!(in alloc; "{ending}")?.as_str(),
+        "line 4 column 6: fault 71"
+    );
     Ok(())
 }
 

@@ -30,7 +30,7 @@ fn holder(reason: Reason) -> Option<FenceId>
 }
 
 /// The job of this number with its reason.
-pub(crate) fn link(device: &Device, fence: FenceId) -> Link
+pub(crate) fn linked(device: &Device, fence: FenceId) -> Link
     ensures { result ≡ link_of device.now.state fence }
 {
     Link {
@@ -52,7 +52,7 @@ pub(crate) fn chain(
     let mut number = fence;
     let mut held = reason;
     while let Some(by) = holder(held) {
-        let link = link(device, by);
+        let link = linked(device, by);
         links.push(link)?;
         if number <= by {
             return Ok(links);

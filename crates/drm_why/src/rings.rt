@@ -5,7 +5,7 @@ ghost use Rattle.drm_fence.specs.Phases.{is_queued};
 ghost use Rattle.drm_state.specs.Ring.{pending_of};
 ghost use Rattle.drm_why.specs.Rings.{first_queued_for, job_of_ring, line_of_ring, said_of_job, said_of_pending, text_of_jobs, text_of_rings};
 
-use crate::chain::link;
+use crate::chain::linked;
 use crate::lines::put_link;
 use crate::text::{put_one, put_text};
 use drm_sched::{Device, JobRecord, Phase};
@@ -64,7 +64,7 @@ fn put_job(out: &mut Vec<u8>, device: &Device, job: Option<FenceId>) -> Result<(
     ensures { OnOk result (out.new.items ≡ out.old.items ++ said_of_job device.now.state job) }
 {
     match job {
-        Some(number) => put_link(out, link(device, number)),
+        Some(number) => put_link(out, linked(device, number)),
         None => put_text(out, "nothing is queued for it\n"),
     }
 }
@@ -98,7 +98,7 @@ pub(crate) fn jobs_text(alloc: Global, device: &Device) -> Result<Vec<u8>, Alloc
 {
     let mut out = Vec::new(alloc);
     for number in 0..device.armed() {
-        put_link(&mut out, link(device, number))?;
+        put_link(&mut out, linked(device, number))?;
     }
     Ok(out)
 }

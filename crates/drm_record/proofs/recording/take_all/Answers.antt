@@ -3,8 +3,8 @@ use Rattle.drm_core.specs.Run.{AllNamesExist}
 use Rattle.drm_engine.proofs.Pieces.{GoesOn, run_ends, turn}
 use Rattle.drm_record.proofs.recording.take_all.Goals as goal
 
-pub loop-event-preserved : goal.loop-event-preserved
-loop-event-preserved c =
+pub loop-event-preserved-in-Some : goal.loop-event-preserved-in-Some
+loop-event-preserved-in-Some c =
     let left = c.next.new.self in
     let before = c.loop-event.core in
     let after = c.apply.new.self in

@@ -15,7 +15,7 @@ loop-number-preserved c =
     line_more (λ n. line_of_link (link_of d n)) d.journal i out c.put_link.new.out.items
     (flat_map (λ n. line_of_link (link_of d n.0)) (numbered d.journal))
     (omega (arith, c.loop-number-test.true, c.armed.ensures))
-    (c.in_ok-put_link.ensures ∙ ap (λ (l : Link). out ++ line_of_link l) c.link.ensures)
+    (c.in_ok-put_link.ensures ∙ ap (λ (l : Link). out ++ line_of_link l) c.linked.ensures)
     c.loop-number.invariant
 
 pub returns : goal.returns
