@@ -1,0 +1,4 @@
+pub mod Cutting
+pub mod Marks
+pub mod Met
+pub mod Spans
