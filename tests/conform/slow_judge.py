@@ -246,7 +246,7 @@ def answer(text, jobs=False, **demands):
     for ring in judge.rings:
         all_of = [it[1][1] for it in times if it[1] and it[1][0] == ring]
         fences, turn, ran = (min(sum(it[place] for it in all_of), MOST) // 1000 for place in range(3))
-        said.append(f"ring {ring}: {count(len(all_of), 'job', 'jobs')}, waited for fences {fences}, for their turn {turn}, ran {ran} us")
+        said.append(f"ring {ring}: {count(len(all_of), 'whole job', 'whole jobs')}, waited for fences {fences}, for their turn {turn}, ran {ran} us")
     for job, told in times if jobs else ():
         if told:
             fences, turn, ran = (it // 1000 for it in told[1])

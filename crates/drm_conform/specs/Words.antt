@@ -113,7 +113,7 @@ micros time = decimal (time / 1000)
 
 abbrev pub text_of_total : List (List ℕ) → ℕ → Total → List ℕ
 text_of_total rings ring total =
-    codes "ring " ++ ring_name rings ring ++ codes ": " ++ count_text total.jobs (codes "job") (codes "jobs")
+    codes "ring " ++ ring_name rings ring ++ codes ": " ++ count_text total.jobs (codes "whole job") (codes "whole jobs")
     ++ codes ", waited for fences " ++ micros total.fences ++ codes ", for their turn " ++ micros total.turn ++ codes ", ran " ++ micros total.ran ++ codes " us\n"
 
 -- the rings up to one of them

@@ -295,7 +295,7 @@ pub(crate) fn put_total(
     put(text, "ring ")?;
     put_ring(text, rings, ring)?;
     put(text, ": ")?;
-    put_count(text, total.jobs, "job", "jobs")?;
+    put_count(text, total.jobs, "whole job", "whole jobs")?;
     put_time(text, ", waited for fences ", total.fences)?;
     put_time(text, ", for their turn ", total.turn)?;
     put_time(text, ", ran ", total.ran)?;
