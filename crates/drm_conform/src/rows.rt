@@ -52,7 +52,7 @@ pub(crate) fn note_first<T: Copy + Drop>(
     let Some(at) = lane else {
         return Ok(());
     };
-    if row(rows, at, None).is_some() {
+    if row(rows.as_slice(), at, None).is_some() {
         return Ok(());
     }
     put(rows, at, None, Some(item))
@@ -78,7 +78,7 @@ pub(crate) fn count_one(rows: &mut Vec<u64>, lane: Option<u32>) -> Result<(), Al
 {
     match lane {
         Some(at) => {
-            let count = row(rows, at, 0);
+            let count = row(rows.as_slice(), at, 0);
             put(rows, at, 0, count.saturating_add(1))
         }
         None => Ok(()),
@@ -95,7 +95,7 @@ pub(crate) fn note_greatest(
 {
     match lane {
         Some(at) => {
-            let before = row(rows, at, 0);
+            let before = row(rows.as_slice(), at, 0);
             put(rows, at, 0, before.max(value))
         }
         None => Ok(()),

@@ -117,7 +117,8 @@ pub(crate) fn times(index: &Index, releases: &[u64], job: u32) -> Option<Times>
 pub(crate) fn job_ring(run: Option<Event>) -> Option<u32>
     ensures { result ≡ ring_of run }
 {
-    run_ring(&run?)
+    let run = run?;
+    run_ring(&run)
 }
 
 // Some jobs, and one more.

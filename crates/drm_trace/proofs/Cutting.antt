@@ -32,9 +32,9 @@ parts_some (x ∷ xs) = test_some (ends_line x) x (slice_split ends_line xs)
 
 cut_test : (x : ℕ) (xs more : List ℕ) (test : Bool) → ends_line x ≡ test → position_or_len ends_line (x ∷ xs) < length (x ∷ xs)
     → (position_or_len ends_line xs < length xs
-      → slice_split ends_line (xs ++ more) ≡ take (position_or_len ends_line xs) xs ∷ slice_split ends_line (drop (position_or_len ends_line xs + 1) xs ++ more))
+    → slice_split ends_line (xs ++ more) ≡ take (position_or_len ends_line xs) xs ∷ slice_split ends_line (drop (position_or_len ends_line xs + 1) xs ++ more))
     → slice_split ends_line (x ∷ (xs ++ more))
-      ≡ take (position_or_len ends_line (x ∷ xs)) (x ∷ xs) ∷ slice_split ends_line (drop (position_or_len ends_line (x ∷ xs) + 1) (x ∷ xs) ++ more)
+    ≡ take (position_or_len ends_line (x ∷ xs)) (x ∷ xs) ∷ slice_split ends_line (drop (position_or_len ends_line (x ∷ xs) + 1) (x ∷ xs) ++ more)
 cut_test x xs more true is lt so = rw is refl
 cut_test x xs more false is lt so =
     let n = position_or_len ends_line xs in

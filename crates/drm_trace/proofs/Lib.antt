@@ -1,4 +1,5 @@
 pub mod Cutting
 pub mod Marks
 pub mod Met
+pub mod Reads
 pub mod Spans

@@ -3,10 +3,10 @@
 /// Where a job stands: its entity, its number there, and its ring.
 #[derive(Clone, Copy)]
 pub struct Place {
-    /// The entity, by its number in the log.
-    pub entity: u32,
     /// The job's number among those of the entity, as the kernel counts.
     pub number: u64,
+    /// The entity, by its number in the log.
+    pub entity: u32,
     /// The ring, by its number in the log.
     pub ring: u32,
 }
@@ -27,10 +27,10 @@ pub enum What {
 /// A line that tells of a job.
 #[derive(Clone, Copy)]
 pub struct Event {
-    /// The number of the line. The first line of a log has number 1.
-    pub line: u32,
     /// The time of the line, in nanoseconds.
     pub time: u64,
+    /// The number of the line. The first line of a log has number 1.
+    pub line: u32,
     /// The job, by its number in the log.
     pub job: u32,
     /// What happens to it.

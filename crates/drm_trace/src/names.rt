@@ -72,10 +72,12 @@ impl Names {
         }
         let number = self.list.len() as u32;
         self.list.push(name)?;
-        if self.numbers.insert(name, number).is_err() {
-            self.list.pop();
-            return Err(AllocError);
+        match self.numbers.insert(name, number) {
+            Ok(_) => Ok(number),
+            Err(_) => {
+                self.list.pop();
+                Err(AllocError)
+            }
         }
-        Ok(number)
     }
 }

@@ -17,7 +17,7 @@ fn add_lines(alloc: Global, text: &[u8], log: &mut Log) -> Result<usize, ReadErr
     ensures bare { IfOk result (λ at. IsBare (drop at text.now)) }
 {
     let mut at = 0;
-    loop {
+    'lines: loop {
         let (_, rest) = text.split_at(at);
         let end = end_of_line(rest);
         if end >= rest.len() {
@@ -41,8 +41,8 @@ pub(crate) fn add_piece(
     ensures bare { OnOk result (IsBare before.new.items) }
 {
     before.extend_from_slice(piece)?;
-    let at = add_lines(alloc, before, log)?;
-    let (_, rest) = before.split_at(at);
+    let at = add_lines(alloc, before.as_slice(), log)?;
+    let (_, rest) = before.as_slice().split_at(at);
     if rest.len() > MAX_TEXT {
         return Err(ReadError::Fault(too_long_fault(log)));
     }
