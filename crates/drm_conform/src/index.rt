@@ -44,7 +44,8 @@ fn note(firsts: &mut Firsts, event: &Event) -> Result<(), AllocError>
 {
     note_first(&mut firsts.queued, queued_job(event), *event)?;
     note_first(&mut firsts.ran, run_job(event), *event)?;
-    note_first(&mut firsts.ended, ended_job(event), *event)
+    note_first(&mut firsts.ended, ended_job(event), *event)?;
+    Ok(())
 }
 
 // Of each job the first lines of a log.

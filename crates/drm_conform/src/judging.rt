@@ -144,7 +144,8 @@ fn judge_queueing(
 {
     let first = index.queueing(at.job);
     let before = lanes.queued(place.entity);
-    judge_queued(found, demands.tolerance, at, first, before)
+    judge_queued(found, demands.tolerance, at, first, before)?;
+    Ok(())
 }
 
 // Judges a line that runs a job, behind those that the lanes have passed.
@@ -169,7 +170,8 @@ fn judge_running(
     let end = awaited_end(index, wait);
     let limit = row(demands.limits.as_slice(), place.ring, None);
     let room = has_room(limit, lanes.in_flight(place.ring));
-    judge_start(found, at, first, wait, end, room)
+    judge_start(found, at, first, wait, end, room)?;
+    Ok(())
 }
 
 // Judges a line that ends a job, behind those that the lanes have passed.
@@ -187,7 +189,8 @@ fn judge_ending(
     let run = index.running(at.job);
     let before = lanes.ended(ended_ring(index, at));
     let next = !demands.in_order || is_next_end(demands.tolerance, index, before, at);
-    judge_end(found, demands.tolerance, at, first, run, before, next)
+    judge_end(found, demands.tolerance, at, first, run, before, next)?;
+    Ok(())
 }
 
 // Judges a line, behind those that the lanes have passed.
@@ -204,10 +207,19 @@ fn judge_line(
         → found.new.items ≡ found.old.items ++ broken_at demands.now index.now seen at.now) }
 {
     match at.what {
-        What::Queued(place) => judge_queueing(found, demands, index, lanes, at, place),
-        What::Ran(place) => judge_running(found, demands, index, waits, lanes, at, place),
+        What::Queued(place) => {
+            judge_queueing(found, demands, index, lanes, at, place)?;
+            Ok(())
+        }
+        What::Ran(place) => {
+            judge_running(found, demands, index, waits, lanes, at, place)?;
+            Ok(())
+        }
         What::Waits { .. } => Ok(()),
-        What::Ended => judge_ending(found, demands, index, lanes, at),
+        What::Ended => {
+            judge_ending(found, demands, index, lanes, at)?;
+            Ok(())
+        }
     }
 }
 

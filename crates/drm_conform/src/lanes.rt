@@ -115,6 +115,7 @@ impl Lanes {
         let ring = ended_ring(index, event);
         note_last(&mut self.ended, ring, *event)?;
         count_one(&mut self.over, ring)?;
-        count_one(&mut self.begun, begun_ring(index, event))
+        count_one(&mut self.begun, begun_ring(index, event))?;
+        Ok(())
     }
 }

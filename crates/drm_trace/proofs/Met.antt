@@ -82,3 +82,10 @@ placed_push names name other none = by_test (is_pair name other) refl
       | inl lt ↦ before_all names name other lt
       | inr le ↦ behind_all names name other false is le ∙ sym (placed_nowhere names other le)
     ]
+
+-- the numbers of names, once a new one has come behind them
+pub numbers_follow : (names : List (ℕ × ℕ)) (name other : ℕ × ℕ) (number : ℕ) (old new : Option ℕ) → placed_in names name ≡ None → number ≡ length names
+    → old ≡ placed_in names other → new ≡ cond (is_pair name other) (Some number) old → new ≡ placed_in (names ++ name ∷ []) other
+numbers_follow names name other number old new none is are puts =
+    puts ∙ ap (λ (n : ℕ). cond (is_pair name other) (Some n) old) is ∙ ap (λ (o : Option ℕ). cond (is_pair name other) (Some (length names)) o) are
+    ∙ sym (placed_push names name other none)
