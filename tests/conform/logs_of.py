@@ -24,7 +24,7 @@ class Kernel:
         cpu = self.it.randint(0, 3)
         task = self.it.choice(("kworker/u8:1-77", "<idle>-0", "Web Content-1234", "a: b [x]-9"))
         stamp = f"{self.time // 10**9}.{self.time % 10**9 // 1000:06}"
-        self.lines.append(f"{task:>22} [{cpu:03}] ..... {stamp}: {event}: {fields}")
+        self.lines.append(f"{task:>22} [{cpu:03}] ..... {stamp}: {event}: {' ' * self.it.choice((0, 0, 7))}{fields}")
 
     def queue(self):
         """A job is queued, and maybe waits for earlier ones."""

@@ -20,7 +20,7 @@ ADDRESSED = {
     "drm_sched_job_wait_dep": ("wait", rf"job ring=((?:(?!, id=).)*), id={NUMBER}, depends fence={ADDRESS}, context={NUMBER}, seq={NUMBER}"),
 }
 NAMES = "|".join(sorted([*NUMBERED, *ADDRESSED], key=len, reverse=True))
-EVENT = re.compile(rf": ({NAMES}): ")
+EVENT = re.compile(rf": ({NAMES}): *")
 TIME = re.compile(r"(0|[1-9][0-9]{0,9})\.([0-9]{6}|[0-9]{9})")
 
 

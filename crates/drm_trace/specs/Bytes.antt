@@ -19,6 +19,10 @@ abbrev pub word_start : List ℕ → ℕ → ℕ
 word_start bytes zero = 0
 word_start bytes (suc at) = if slice_index bytes at == 32 then suc at else word_start bytes at
 
+-- how many spaces stand first
+abbrev pub spaces_in : List ℕ → ℕ
+spaces_in bytes = position_or_len (λ b. not (b == 32)) bytes
+
 -- how many digits stand first
 abbrev pub digits_in : List ℕ → ℕ
 digits_in bytes = position_or_len (λ b. not (is_ascii_digit b)) bytes

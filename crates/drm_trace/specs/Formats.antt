@@ -15,7 +15,7 @@ use Rattle.drm_trace.specs.declared.log.Log.{Log}
 use Rattle.drm_trace.specs.Bytes.{word_start}
 use Rattle.drm_trace.specs.Kinds.{event_from, format_of, mark_of}
 use Rattle.drm_trace.specs.Log.{holder_of, is_full, with_end, with_end_of, with_job, with_wait, with_wait_for}
-use Rattle.drm_trace.specs.Rest.{Rest, address_behind, end_at, fraction_at, mark_at, number_at, number_behind, pair_behind, text_between}
+use Rattle.drm_trace.specs.Rest.{Rest, address_behind, behind_spaces, end_at, fraction_at, mark_at, number_at, number_behind, pair_behind, text_between}
 
 -- ---- kernels that name fences by context and number
 
@@ -120,7 +120,7 @@ line_told line bytes None log = Ok log
 line_told line bytes (Some found) log = do
   log ← in_format line (format_of found.1) log
   time ← time_at (word_before line found.0 bytes)
-  event_told found.1 (record { line = line; time = time }) log (fields_behind line found.0 found.1 bytes)
+  event_told found.1 (record { line = line; time = time }) log (behind_spaces (fields_behind line found.0 found.1 bytes))
 
 -- the next line is one more than is read, or too long itself
 abbrev pub too_long : Log → Fault

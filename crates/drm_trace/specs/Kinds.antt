@@ -6,17 +6,17 @@ use Rattle.drm_trace.specs.declared.kinds.Kind.{Kind}
 use Rattle.drm_trace.specs.declared.kinds.Kind.TheVariants as kind
 use Rattle.drm_trace.specs.Bytes.{begins_with}
 
--- the name as it stands in a line, between colons
+-- the name as it stands in a line, between colons. The fields stand behind it and some spaces
 abbrev pub mark_of : Kind → List ℕ
-mark_of kind.JobQueue = codes ": drm_sched_job_queue: "
-mark_of kind.JobRun = codes ": drm_sched_job_run: "
-mark_of kind.JobDone = codes ": drm_sched_job_done: "
-mark_of kind.JobAddDep = codes ": drm_sched_job_add_dep: "
-mark_of kind.JobUnschedulable = codes ": drm_sched_job_unschedulable: "
-mark_of kind.SchedJob = codes ": drm_sched_job: "
-mark_of kind.RunJob = codes ": drm_run_job: "
-mark_of kind.ProcessJob = codes ": drm_sched_process_job: "
-mark_of kind.JobWaitDep = codes ": drm_sched_job_wait_dep: "
+mark_of kind.JobQueue = codes ": drm_sched_job_queue:"
+mark_of kind.JobRun = codes ": drm_sched_job_run:"
+mark_of kind.JobDone = codes ": drm_sched_job_done:"
+mark_of kind.JobAddDep = codes ": drm_sched_job_add_dep:"
+mark_of kind.JobUnschedulable = codes ": drm_sched_job_unschedulable:"
+mark_of kind.SchedJob = codes ": drm_sched_job:"
+mark_of kind.RunJob = codes ": drm_run_job:"
+mark_of kind.ProcessJob = codes ": drm_sched_process_job:"
+mark_of kind.JobWaitDep = codes ": drm_sched_job_wait_dep:"
 
 -- all events
 abbrev pub kinds : List Kind

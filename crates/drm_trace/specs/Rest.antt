@@ -6,7 +6,7 @@ use Rattle.drm_text.specs.declared.fault.TextFault.{TextFault}
 use Rattle.drm_text.specs.declared.fault.TextFault.TheVariants as what
 use Rattle.drm_text.specs.Number.{digits_up_to, number_up_to}
 use Rattle.drm_text.specs.Reading.{◌>>=◌, or_fault}
-use Rattle.drm_trace.specs.Bytes.{begins_with, digits_in, hex_digits_in, hex_value, place_from}
+use Rattle.drm_trace.specs.Bytes.{begins_with, digits_in, hex_digits_in, hex_value, place_from, spaces_in}
 
 -- the line, how many of its bytes lie before, and those from there on
 pub record Rest : Type 0 where
@@ -17,6 +17,10 @@ pub record Rest : Type 0 where
 -- what is left behind some bytes more
 abbrev pub behind : ℕ → Rest → Rest
 behind count rest = record { line = rest.line; at = rest.at + count; bytes = drop count rest.bytes }
+
+-- what is left behind the spaces that stand next
+abbrev pub behind_spaces : Rest → Rest
+behind_spaces rest = behind (spaces_in rest.bytes) rest
 
 -- a fault of the next byte
 abbrev pub fault_next : Rest → TextFault → Fault

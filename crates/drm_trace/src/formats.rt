@@ -280,6 +280,7 @@ fn add_found(
     let mut before = word(line, at, bytes);
     let time = read_time(&mut before)?;
     let mut rest = fields(line, at, kind, bytes);
+    rest.pass_spaces();
     add_event(alloc, kind, Moment { line, time }, log, &mut rest)
 }
 

@@ -52,20 +52,20 @@ static KINDS: [Kind; 9] = [
 ];
 
 impl Kind {
-    /// The name as it stands in a line, between colons.
+    /// The name as it stands in a line, between colons. The fields stand behind it and some spaces.
     pub(crate) fn mark(self) -> &'static [u8]
         ensures { result.now ≡ mark_of self }
     {
         match self {
-            Kind::JobQueue => b": drm_sched_job_queue: ",
-            Kind::JobRun => b": drm_sched_job_run: ",
-            Kind::JobDone => b": drm_sched_job_done: ",
-            Kind::JobAddDep => b": drm_sched_job_add_dep: ",
-            Kind::JobUnschedulable => b": drm_sched_job_unschedulable: ",
-            Kind::SchedJob => b": drm_sched_job: ",
-            Kind::RunJob => b": drm_run_job: ",
-            Kind::ProcessJob => b": drm_sched_process_job: ",
-            Kind::JobWaitDep => b": drm_sched_job_wait_dep: ",
+            Kind::JobQueue => b": drm_sched_job_queue:",
+            Kind::JobRun => b": drm_sched_job_run:",
+            Kind::JobDone => b": drm_sched_job_done:",
+            Kind::JobAddDep => b": drm_sched_job_add_dep:",
+            Kind::JobUnschedulable => b": drm_sched_job_unschedulable:",
+            Kind::SchedJob => b": drm_sched_job:",
+            Kind::RunJob => b": drm_run_job:",
+            Kind::ProcessJob => b": drm_sched_process_job:",
+            Kind::JobWaitDep => b": drm_sched_job_wait_dep:",
         }
     }
 

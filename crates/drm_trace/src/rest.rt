@@ -2,9 +2,11 @@
 
 ghost use Rattle.std.specs.Prelude.{◌≡◌, ◌+◌, ◌≤◌, length, take, IfOk, IfSome};
 ghost use Rattle.drm_text.specs.Reading.{Reads};
-ghost use Rattle.drm_trace.specs.Rest.{address_at, address_behind, behind, end_at, fault_next, fraction_at, fraction_of, mark_at, number_at, number_behind, pair_behind, text_before, text_between, without_prefix};
+ghost use Rattle.drm_trace.specs.Rest.{address_at, address_behind, behind, behind_spaces, end_at, fault_next, fraction_at, fraction_of, mark_at, number_at, number_behind, pair_behind, text_before, text_between, without_prefix};
 
-use crate::search::{begins_with, count_digits, count_hex, digits_value, place_of, value_of_hex};
+use crate::search::{
+    begins_with, count_digits, count_hex, count_spaces, digits_value, place_of, value_of_hex,
+};
 use drm_text::{Fault, TextFault, read_number};
 use std::marker::Model;
 
@@ -79,6 +81,14 @@ impl<'a> Rest<'a> {
         self.at += count;
         self.bytes = rest;
         front
+    }
+
+    /// Passes the spaces that stand next.
+    pub(crate) fn pass_spaces(&mut self)
+        ensures { self.new ≡ behind_spaces self.old }
+    {
+        let count = count_spaces(self.bytes);
+        self.pass(count);
     }
 
     /// Passes a mark, which has to stand next.

@@ -4,7 +4,7 @@ ghost use Rattle.std.specs.Prelude.{◌≡◌, ◌+◌, ◌≤◌, ◌==◌, tru
 ghost use Rattle.std.specs.List.{position_or_len};
 ghost use Rattle.drm_text.specs.Hexadecimal.{is_hex_digit};
 ghost use Rattle.drm_text.specs.Number.{digits_up_to};
-ghost use Rattle.drm_trace.specs.Bytes.{begins_with, digits_in, hex_digits_in, hex_value, place_from, with_hex_digit, word_start};
+ghost use Rattle.drm_trace.specs.Bytes.{begins_with, digits_in, hex_digits_in, hex_value, place_from, spaces_in, with_hex_digit, word_start};
 
 use drm_text::{is_word, next_value};
 use memchr::memchr;
@@ -53,6 +53,18 @@ pub(crate) fn start_of_word(bytes: &[u8], at: usize) -> usize
         start -= 1;
     }
     start
+}
+
+/// How many spaces stand first.
+pub(crate) fn count_spaces(bytes: &[u8]) -> usize
+    ensures value { result ≡ spaces_in bytes.now }
+    ensures within { result ≤ length bytes.now }
+{
+    let mut end = 0;
+    while end < bytes.len() && bytes[end] == b' ' {
+        end += 1;
+    }
+    end
 }
 
 /// How many digits stand first.
