@@ -1,3 +1,1 @@
-pub mod Exact
-pub mod Judged
-pub mod Passing
+pub mod Timed

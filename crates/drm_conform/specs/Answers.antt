@@ -4,9 +4,9 @@ use Rattle.std.specs.Str.{bytes_eq}
 use Rattle.drm_trace.specs.declared.log.Log.{Log}
 use Rattle.drm_conform.specs.declared.options.Limit.{Limit}
 use Rattle.drm_conform.specs.declared.options.Options.{Options}
-use Rattle.drm_conform.specs.declared.rules.Broken.{Broken}
-use Rattle.drm_conform.specs.declared.rules.Demands.{Demands}
-use Rattle.drm_conform.specs.Rules.{broken}
+use Rattle.drm_rules.specs.declared.rules.Broken.{Broken}
+use Rattle.drm_rules.specs.declared.rules.Demands.{Demands}
+use Rattle.drm_rules.specs.Rules.{broken}
 use Rattle.drm_conform.specs.Times.{counts_of}
 use Rattle.drm_conform.specs.Words.{text_of_broken, text_of_counts, text_of_jobs, text_of_rest, text_of_rings, text_of_tolerance}
 

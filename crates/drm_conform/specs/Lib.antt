@@ -1,8 +1,4 @@
 pub mod Answers
-pub mod Conforms
-pub mod Lines
-pub mod Rows
-pub mod Rules
 pub mod Tables
 pub mod Times
 pub mod Verdicts

@@ -4,8 +4,8 @@ use Rattle.drm_trace.specs.declared.event.Event.{Event}
 use Rattle.drm_conform.specs.declared.times.Counts.{Counts}
 use Rattle.drm_conform.specs.declared.times.Times.{Times}
 use Rattle.drm_conform.specs.declared.times.Total.{Total}
-use Rattle.drm_conform.specs.Lines.{ending, job_awaited, queueing, ring_run, running}
-use Rattle.drm_conform.specs.Rows.{is_in}
+use Rattle.drm_rules.specs.Lines.{ending, job_awaited, queueing, ring_run, running}
+use Rattle.drm_rules.specs.Rows.{is_in}
 
 -- the time of an end that stands before a run
 abbrev pub time_before : Option Event → Option Event → ℕ

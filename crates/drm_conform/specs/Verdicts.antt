@@ -16,7 +16,7 @@ use Rattle.drm_conform.specs.declared.options.Options.{Options}
 use Rattle.drm_conform.specs.declared.verdict.Verdict.{Verdict}
 use Rattle.drm_conform.specs.declared.verdict.Verdict.TheVariants as verdict
 use Rattle.drm_conform.specs.Answers.{broken_in, demands_of, text_of_answer}
-use Rattle.drm_conform.specs.Conforms.{Conforms}
+use Rattle.drm_rules.specs.Conforms.{Conforms}
 
 -- a log that the input spells where it is known, and of which this holds
 abbrev pub Spells : Option (List ℕ) → (Log → Type 0) → Type 0

@@ -5,13 +5,13 @@ use Rattle.drm_trace.specs.declared.event.Event.{Event}
 use Rattle.drm_trace.specs.declared.kinds.Format.{Format}
 use Rattle.drm_trace.specs.declared.kinds.Format.TheVariants as formats
 use Rattle.drm_trace.specs.declared.log.Log.{Log}
-use Rattle.drm_conform.specs.declared.rules.Broken.{Broken}
-use Rattle.drm_conform.specs.declared.rules.Rule.{Rule}
-use Rattle.drm_conform.specs.declared.rules.Rule.TheVariants as rules
+use Rattle.drm_rules.specs.declared.rules.Broken.{Broken}
+use Rattle.drm_rules.specs.declared.rules.Rule.{Rule}
+use Rattle.drm_rules.specs.declared.rules.Rule.TheVariants as rules
 use Rattle.drm_conform.specs.declared.times.Counts.{Counts}
 use Rattle.drm_conform.specs.declared.times.Times.{Times}
 use Rattle.drm_conform.specs.declared.times.Total.{Total}
-use Rattle.drm_conform.specs.Lines.{job_awaited, ring_run, running}
+use Rattle.drm_rules.specs.Lines.{job_awaited, ring_run, running}
 use Rattle.drm_conform.specs.Times.{ring_of, times_of, total_of}
 
 -- ---- names

@@ -6,12 +6,10 @@ ghost use Rattle.drm_conform.specs.Tables.{AreReleases, AreTotals};
 ghost use Rattle.drm_conform.specs.Times.{no_time};
 ghost use Rattle.drm_conform.specs.Words.{text_of_broken, text_of_jobs, text_of_rings};
 
-use crate::index::Index;
-use crate::judging::judge;
 use crate::options::{Limit, Options};
-use crate::rules::{Broken, Demands};
 use crate::times::{NO_TIME, Total, counts, job_ring, releases, times, totals};
 use crate::words::{put_broken, put_counts, put_rest, put_times, put_tolerance, put_total};
+use drm_rules::{Broken, Demands, Index, judge};
 use drm_text::is_word;
 use drm_trace::Log;
 use drm_types::Sequence;

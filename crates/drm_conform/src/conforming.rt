@@ -4,9 +4,9 @@ ghost use Rattle.drm_stream.specs.Streams.{NoReadFailed, SourceState};
 ghost use Rattle.drm_conform.specs.Verdicts.{JudgedBy, Judges, Tells};
 
 use crate::answering::answer;
-use crate::laws::answers_are_exact;
 use crate::options::Options;
 use crate::verdict::Verdict;
+use drm_rules::answers_are_exact;
 use drm_stream::{Sink, Source, put_all};
 use drm_trace::{Log, read_log};
 use std::alloc::Global;

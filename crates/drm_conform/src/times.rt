@@ -4,9 +4,7 @@ ghost use Rattle.std.specs.Prelude.{◌≡◌, ◌<◌, ◌≤◌, ℕ, IfOk, On
 ghost use Rattle.drm_conform.specs.Tables.{AreReleases, AreTotals};
 ghost use Rattle.drm_conform.specs.Times.{counts_of, is_shown, one_if, plus, release_told, ring_of, time_before, times_between, times_of, waits, with_times};
 
-use crate::index::Index;
-use crate::lines::{awaited_job, run_ring};
-use crate::rows::{note_greatest, put, row};
+use drm_rules::{Index, awaited_job, note_greatest, put, row, run_ring};
 use drm_trace::Event;
 use std::alloc::{AllocError, Global};
 

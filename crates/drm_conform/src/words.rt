@@ -4,9 +4,8 @@ ghost use Rattle.std.specs.Prelude.{◌≡◌, ◌++◌, codes, OnOk};
 ghost use Rattle.std.specs.Fmt.{decimal};
 ghost use Rattle.drm_conform.specs.Words.{awaited_in, awaited_text, count_text, end_text, job_name, job_text, line_text, micros, name_by, on_ring, ring_name, text_of_broken, text_of_counts, text_of_rest, text_of_times, text_of_tolerance, text_of_total, words_of};
 
-use crate::lines::{awaited_job, run_ring};
-use crate::rules::{Broken, Rule};
 use crate::times::{Counts, Times, Total};
+use drm_rules::{Broken, Rule, awaited_job, run_ring};
 use drm_trace::{Event, Format, Log};
 use drm_types::Sequence;
 use std::alloc::AllocError;

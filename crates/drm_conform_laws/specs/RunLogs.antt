@@ -5,8 +5,8 @@ use Rattle.drm_trace.specs.declared.event.Event.{Event as Line}
 use Rattle.drm_trace.specs.declared.event.Place.{Place}
 use Rattle.drm_trace.specs.declared.event.What.{What}
 use Rattle.drm_trace.specs.declared.event.What.TheVariants as does
-use Rattle.drm_conform.specs.declared.rules.Demands.{Demands}
-use Rattle.drm_conform.specs.Conforms.{Conforms}
+use Rattle.drm_rules.specs.declared.rules.Demands.{Demands}
+use Rattle.drm_rules.specs.Conforms.{Conforms}
 use Rattle.drm_state.specs.declared.answer.Answer.{Answer}
 use Rattle.drm_state.specs.declared.answer.Answer.TheVariants as answer
 use Rattle.drm_state.specs.declared.journal.JobRecord.{JobRecord}

@@ -1,9 +1,0 @@
-use Rattle.std.proofs.Common.{◌≡◌, ℕ, None, take}
-use Rattle.std.specs.Prelude.{slice_index_or}
-use Rattle.drm_conform.specs.Lines.{first_in}
-use Rattle.drm_conform.specs.Rules.{unmet}
-use Rattle.drm_conform.proofs.waits.unmet_waits.Given as goal
-
-abbrev pub invariant-loop-event : goal.invariant-loop-event
-invariant-loop-event l =
-    (job : ℕ) → slice_index_or l.waits.items job None ≡ first_in (unmet l.tolerance l.index) (take l.event-index l.log) job
