@@ -1,5 +1,5 @@
 pub mod Cutting
+pub mod LogRead
 pub mod Marks
-pub mod Met
-pub mod Reads
+pub mod NamesMet
 pub mod Spans

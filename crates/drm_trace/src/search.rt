@@ -3,10 +3,10 @@
 ghost use Rattle.std.specs.Prelude.{◌≡◌, ◌+◌, ◌≤◌, ◌==◌, true, length, IfSome};
 ghost use Rattle.std.specs.List.{position_or_len};
 ghost use Rattle.drm_text.specs.Hexadecimal.{is_hex_digit};
-ghost use Rattle.drm_text.specs.Number.{digits_up_to};
+ghost use Rattle.drm_text.specs.Number.{digits_up_to, with_digit};
 ghost use Rattle.drm_trace.specs.Bytes.{begins_with, digits_in, hex_digits_in, hex_value, place_from, spaces_in, with_hex_digit, word_start};
 
-use drm_text::{is_word, next_value};
+use drm_text::is_word;
 use memchr::memchr;
 
 /// Whether the bytes begin with the mark.
@@ -79,6 +79,17 @@ pub(crate) fn count_digits(bytes: &[u8]) -> usize
     end
 }
 
+/// The number with one more digit, if the byte is a digit and the number is at most `most`.
+fn next_decimal(value: u64, byte: u8, most: u64) -> Option<u64>
+    ensures { result ≡ with_digit most value byte }
+{
+    if !byte.is_ascii_digit() {
+        return None;
+    }
+    let value = value.checked_mul(10)?.checked_add(u64::from(byte - b'0'))?;
+    (value <= most).then_some(value)
+}
+
 /// The value of the digits, of which some zeros may be first, if it is at most `most`.
 pub(crate) fn digits_value(digits: &[u8], most: u64) -> Option<u64>
     ensures value { result ≡ digits_up_to most digits.now }
@@ -86,7 +97,7 @@ pub(crate) fn digits_value(digits: &[u8], most: u64) -> Option<u64>
 {
     let mut value = 0u64;
     for digit in digits {
-        value = next_value(value, *digit, most)?;
+        value = next_decimal(value, *digit, most)?;
     }
     Some(value)
 }
