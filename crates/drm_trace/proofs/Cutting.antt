@@ -1,14 +1,18 @@
 -- A text that is cut where its first line ends, whatever comes behind.
-use Rattle.std.proofs.Common.{◌≡◌, ℕ, suc, ◌+◌, ◌<◌, ◌==◌, ◌||◌, Bool, true, false, cond, not, List, [], ◌∷◌, ◌++◌, append-nil, append_assoc, length, take, drop, Ok, Err, refl, sym, ap, ◌∙◌, arith, length-append, lt-ltb}
+use Rattle.std.proofs.Common.{◌≡◌, ℕ, suc, ◌+◌, ◌<◌, ◌≤◌, ◌==◌, ◌||◌, Bool, true, false, cond, not, List, [], ◌∷◌, ◌++◌, append-nil, append_assoc, length, take, drop, Ok, Err, refl, sym, ap, subst, ◌∙◌, arith, length-append, lt-ltb}
 use Rattle.std.specs.Prelude.{nat_lt}
 use Rattle.std.specs.List.{onto_first, position_or_len, slice_split}
 use Rattle.std.proofs.lemmas.Bool.{or_right}
+use Rattle.std.proofs.lemmas.List.{drop-drop}
+use Rattle.std.proofs.lemmas.List.Sums.{prefix_len-le-length}
 use Rattle.drm_text.specs.declared.fault.Fault.{Fault}
-use Rattle.drm_text.specs.Reading.{◌>>=◌}
+use Rattle.drm_text.specs.declared.fault.ReadError.{ReadError}
+use Rattle.drm_text.specs.declared.fault.ReadError.TheVariants as errors
+use Rattle.drm_text.specs.Reading.{◌>>=◌, Fails}
 use Rattle.drm_trace.specs.declared.log.Log.{Log}
 use Rattle.drm_trace.specs.Formats.{too_long, with_line}
 use Rattle.drm_trace.specs.Log.{is_full}
-use Rattle.drm_trace.specs.Pieces.{IsBare, with_last, with_lines, with_text}
+use Rattle.drm_trace.specs.Pieces.{GoesOn, IsBare, TakesText, with_last, with_lines, with_text}
 
 -- whether a byte ends a line
 abbrev ends_line : ℕ → Bool
@@ -85,6 +89,28 @@ line_read log next xs more line end place lt is read = taken log xs more line en
 pub line_faulty : (log : Log) (fault : Fault) (xs more line : List ℕ) (end : ℕ) → end ≡ position_or_len ends_line xs → end < length xs → line ≡ take end xs
     → with_line log line ≡ Err fault → with_text log (xs ++ more) ≡ Err fault
 line_faulty log fault xs more line end place lt is read = taken log xs more line end place lt is ∙ rw read refl
+
+-- the next line of a text, of which the lines before were taken
+pub line_goes : (old log next : Log) (text rest line : List ℕ) (at end : ℕ) → GoesOn old text log (drop at text) → rest ≡ drop at text → end ≡ position_or_len ends_line rest
+    → end < length rest → line ≡ take end rest → with_line log line ≡ Ok next → GoesOn old text next (drop (at + (end + 1)) text)
+line_goes old log next text rest line at end goes is place lt cut read more =
+    let left : drop (end + 1) rest ≡ drop (at + (end + 1)) text = ap (drop (end + 1)) is ∙ drop-drop (end + 1) at text in
+    goes more ∙ ap (λ (xs : List ℕ). with_text log (xs ++ more)) (sym is) ∙ line_read log next rest more line end place lt cut read
+    ∙ ap (λ (xs : List ℕ). with_text next (xs ++ more)) left
+
+pub line_fails : (old log new : Log) (text rest line : List ℕ) (at end : ℕ) (left : ℕ → List ℕ) (error : ReadError) → GoesOn old text log (drop at text)
+    → rest ≡ drop at text → end ≡ position_or_len ends_line rest → end < length rest → line ≡ take end rest → Fails error (with_line log line)
+    → TakesText old text new left (Err error)
+line_fails old log new text rest line at end left errors.Memory goes is place lt cut fails = tt
+line_fails old log new text rest line at end left (errors.Fault fault) goes is place lt cut fails = λ more.
+    goes more ∙ ap (λ (xs : List ℕ). with_text log (xs ++ more)) (sym is) ∙ line_faulty log fault rest more line end place lt cut fails
+
+-- what is left has no line end
+pub bare_left : (bytes rest : List ℕ) (end : ℕ) → rest ≡ bytes → end ≡ position_or_len ends_line rest → length rest ≤ end → IsBare bytes
+bare_left bytes rest end is place le =
+    let most = prefix_len-le-length (λ b. not (ends_line b)) rest in
+    let bare : IsBare rest = omega (arith, place, le, most) in
+    subst IsBare is bare
 
 -- a line that is too long
 too_long_line : (log : Log) (line : List ℕ) → 1048576 < length line → with_line log line ≡ Err (too_long log)

@@ -1,20 +1,62 @@
 -- Where marks and names of events stand.
 use Rattle.std.proofs.Common.{◌≡◌, ℕ, ◌+◌, ◌<◌, ◌≤◌, ◌==◌, Bool, true, false, List, [], ◌∷◌, length, drop, slice_index, Option, Some, None, refl, sym, ap, ◌∙◌, arith}
-use Rattle.std.specs.Prelude.{nat_le}
+use Rattle.std.specs.Prelude.{find, nat_le, slice_index_or}
 use Rattle.std.proofs.lemmas.Bool.{and_right, ne_eqb}
 use Rattle.std.proofs.lemmas.List.{at_drop_all, at_drop_more, drop_all}
 use Rattle.drm_trace.specs.declared.kinds.Kind.{Kind}
+use Rattle.drm_trace.specs.declared.kinds.Kind.TheVariants as kind
 use Rattle.drm_trace.specs.Bytes.{begins_with, place_from}
-use Rattle.drm_trace.specs.Kinds.{event_from, here_or, kind_at}
+use Rattle.drm_trace.specs.Kinds.{event_from, here_or, kind_at, kinds, mark_of}
 
 -- a mark that begins with another byte does not stand first
 begins_otherwise : (first byte : ℕ) (mark bytes : List ℕ) → (byte == first) ≡ false → begins_with (first ∷ mark) (byte ∷ bytes) ≡ false
 begins_otherwise first byte mark bytes other = rw other (and_right (nat_le (length (first ∷ mark)) (length (byte ∷ bytes))) false refl)
 
+-- every event's name begins with a colon
+no_mark : (k : Kind) (byte : ℕ) (bytes : List ℕ) → (byte ≡ 58 → ⊥) → begins_with (mark_of k) (byte ∷ bytes) ≡ false
+no_mark kind.JobQueue byte bytes other = begins_otherwise 58 byte (drop 1 (mark_of kind.JobQueue)) bytes (ne_eqb byte 58 other)
+no_mark kind.JobRun byte bytes other = begins_otherwise 58 byte (drop 1 (mark_of kind.JobRun)) bytes (ne_eqb byte 58 other)
+no_mark kind.JobDone byte bytes other = begins_otherwise 58 byte (drop 1 (mark_of kind.JobDone)) bytes (ne_eqb byte 58 other)
+no_mark kind.JobAddDep byte bytes other = begins_otherwise 58 byte (drop 1 (mark_of kind.JobAddDep)) bytes (ne_eqb byte 58 other)
+no_mark kind.JobUnschedulable byte bytes other = begins_otherwise 58 byte (drop 1 (mark_of kind.JobUnschedulable)) bytes (ne_eqb byte 58 other)
+no_mark kind.SchedJob byte bytes other = begins_otherwise 58 byte (drop 1 (mark_of kind.SchedJob)) bytes (ne_eqb byte 58 other)
+no_mark kind.RunJob byte bytes other = begins_otherwise 58 byte (drop 1 (mark_of kind.RunJob)) bytes (ne_eqb byte 58 other)
+no_mark kind.ProcessJob byte bytes other = begins_otherwise 58 byte (drop 1 (mark_of kind.ProcessJob)) bytes (ne_eqb byte 58 other)
+no_mark kind.JobWaitDep byte bytes other = begins_otherwise 58 byte (drop 1 (mark_of kind.JobWaitDep)) bytes (ne_eqb byte 58 other)
+
+find_nowhere : (p : Kind → Bool) (xs : List Kind) → ((k : Kind) → p k ≡ false) → find p xs ≡ None
+find_nowhere p [] none = refl
+find_nowhere p (x ∷ xs) none = rw (none x) (find_nowhere p xs none)
+
 -- no event's name stands where no colon does
 no_kind : (byte : ℕ) (bytes : List ℕ) → (byte ≡ 58 → ⊥) → kind_at (byte ∷ bytes) ≡ None
 unfolding kind_at
-no_kind byte bytes other = simp (begins_otherwise 58 byte _ bytes (ne_eqb byte 58 other)) refl
+no_kind byte bytes other = find_nowhere (λ k. begins_with (mark_of k) (byte ∷ bytes)) kinds (λ k. no_mark k byte bytes other)
+
+-- ---- names that are tried one after another
+
+-- whether the name of an event stands first in some bytes
+abbrev pub is_first : List ℕ → Kind → Bool
+is_first bytes k = begins_with (mark_of k) bytes
+
+-- a name that does not stand first
+pub kind_later : (bytes mark : List ℕ) (i : ℕ) (d : Kind) → i < 9 → mark ≡ mark_of (slice_index_or kinds i d) → begins_with mark bytes ≡ false
+    → find (is_first bytes) (drop i kinds) ≡ find (is_first bytes) (drop (i + 1) kinds)
+kind_later bytes mark i d lt is other =
+    let other_here : is_first bytes (slice_index_or kinds i d) ≡ false = ap (λ (m : List ℕ). begins_with m bytes) (sym is) ∙ other in
+    at_drop_more (find (is_first bytes)) kinds i d lt ∙ rw other_here refl
+
+pub kind_here : (bytes mark : List ℕ) (i : ℕ) (d : Kind) → i < 9 → mark ≡ mark_of (slice_index_or kinds i d) → begins_with mark bytes ≡ true
+    → find (is_first bytes) (drop i kinds) ≡ find (is_first bytes) kinds → Some (slice_index_or kinds i d) ≡ kind_at bytes
+unfolding kind_at
+kind_here bytes mark i d lt is first so =
+    let here : is_first bytes (slice_index_or kinds i d) ≡ true = ap (λ (m : List ℕ). begins_with m bytes) (sym is) ∙ first in
+    let found : find (is_first bytes) (drop i kinds) ≡ Some (slice_index_or kinds i d) = at_drop_more (find (is_first bytes)) kinds i d lt ∙ rw here refl in
+    sym found ∙ so
+
+pub kind_nowhere : (bytes : List ℕ) (i : ℕ) → 9 ≤ i → find (is_first bytes) (drop i kinds) ≡ find (is_first bytes) kinds → None ≡ kind_at bytes
+unfolding kind_at
+kind_nowhere bytes i le so = sym (at_drop_all (find (is_first bytes)) kinds i le) ∙ so
 
 -- ---- events
 

@@ -5,6 +5,7 @@ use Rattle.drm_text.specs.declared.fault.Fault.TheVariants.{Text}
 use Rattle.drm_text.specs.declared.fault.TextFault.TheVariants as what
 use Rattle.drm_text.specs.Reading.{◌>>=◌}
 use Rattle.drm_trace.specs.declared.event.Moment.{Moment}
+use Rattle.drm_trace.specs.declared.event.Step.{Step}
 use Rattle.drm_trace.specs.declared.event.Step.TheVariants as steps
 use Rattle.drm_trace.specs.declared.event.Task.{Task}
 use Rattle.drm_trace.specs.declared.kinds.Format.{Format}
@@ -73,16 +74,38 @@ addressed_wait rest = do
 
 -- ---- what an event adds to the log
 
+-- a job that is queued or run
+abbrev pub numbered_job_told : Step → Moment → Log → Rest → Result Log Fault
+numbered_job_told step at log rest = numbered_job rest >>= λ job. Ok (with_job step at job.0 job.1 log)
+
+abbrev pub addressed_job_told : Step → Moment → Log → Rest → Result Log Fault
+addressed_job_told step at log rest = addressed_job rest >>= λ job. Ok (with_job step at job.0 job.1 log)
+
+-- a wait
+abbrev pub numbered_wait_told : List ℕ → Moment → Log → Rest → Result Log Fault
+numbered_wait_told between at log rest = numbered_wait between rest >>= λ wait. Ok (with_wait at wait.0 wait.1 log)
+
+abbrev pub addressed_wait_told : Moment → Log → Rest → Result Log Fault
+addressed_wait_told at log rest = addressed_wait rest >>= λ wait. Ok (with_wait_for at wait.0 wait.1 (holder_of log wait.2) log)
+
+-- an end
+abbrev pub numbered_end_told : Moment → Log → Rest → Result Log Fault
+numbered_end_told at log rest = numbered_end rest >>= λ job. Ok (with_end at job log)
+
+abbrev pub addressed_end_told : Moment → Log → Rest → Result Log Fault
+addressed_end_told at log rest = addressed_end rest >>= λ fence. Ok (with_end_of at (holder_of log fence) log)
+
+-- what stands behind an event's name, by the event
 unfoldable pub event_told : Kind → Moment → Log → Rest → Result Log Fault
-event_told kind.JobQueue at log rest = numbered_job rest >>= λ job. Ok (with_job steps.Queues at job.0 job.1 log)
-event_told kind.JobRun at log rest = numbered_job rest >>= λ job. Ok (with_job steps.Runs at job.0 job.1 log)
-event_told kind.JobDone at log rest = numbered_end rest >>= λ job. Ok (with_end at job log)
-event_told kind.JobAddDep at log rest = numbered_wait (codes " depends on fence=") rest >>= λ wait. Ok (with_wait at wait.0 wait.1 log)
-event_told kind.JobUnschedulable at log rest = numbered_wait (codes " depends on unsignalled fence=") rest >>= λ wait. Ok (with_wait at wait.0 wait.1 log)
-event_told kind.SchedJob at log rest = addressed_job rest >>= λ job. Ok (with_job steps.Queues at job.0 job.1 log)
-event_told kind.RunJob at log rest = addressed_job rest >>= λ job. Ok (with_job steps.Runs at job.0 job.1 log)
-event_told kind.ProcessJob at log rest = addressed_end rest >>= λ fence. Ok (with_end_of at (holder_of log fence) log)
-event_told kind.JobWaitDep at log rest = addressed_wait rest >>= λ wait. Ok (with_wait_for at wait.0 wait.1 (holder_of log wait.2) log)
+event_told kind.JobQueue at log rest = numbered_job_told steps.Queues at log rest
+event_told kind.JobRun at log rest = numbered_job_told steps.Runs at log rest
+event_told kind.JobDone at log rest = numbered_end_told at log rest
+event_told kind.JobAddDep at log rest = numbered_wait_told (codes " depends on fence=") at log rest
+event_told kind.JobUnschedulable at log rest = numbered_wait_told (codes " depends on unsignalled fence=") at log rest
+event_told kind.SchedJob at log rest = addressed_job_told steps.Queues at log rest
+event_told kind.RunJob at log rest = addressed_job_told steps.Runs at log rest
+event_told kind.ProcessJob at log rest = addressed_end_told at log rest
+event_told kind.JobWaitDep at log rest = addressed_wait_told at log rest
 
 -- ---- a line
 

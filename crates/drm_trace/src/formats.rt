@@ -1,10 +1,9 @@
 //! The form of each event, in one place, and what a line adds to a log. `specs/Formats` has the same as a table.
 
 ghost use Rattle.std.specs.Prelude.{◌≡◌, ◌+◌, ◌≤◌, codes, length, IfOk, IfSome};
-ghost use Rattle.drm_text.specs.Reading.{◌>>=◌, Gives, Reads};
-ghost use Rattle.drm_trace.specs.Formats.{addressed_end, addressed_job, addressed_wait, event_told, fields_behind, in_format, is_format, line_told, numbered_end, numbered_job, numbered_wait, time_at, too_long, with_line, word_before};
+ghost use Rattle.drm_text.specs.Reading.{Gives, Reads};
+ghost use Rattle.drm_trace.specs.Formats.{addressed_end, addressed_end_told, addressed_job, addressed_job_told, addressed_wait, addressed_wait_told, event_told, fields_behind, in_format, is_format, line_told, numbered_end, numbered_end_told, numbered_job, numbered_job_told, numbered_wait, numbered_wait_told, time_at, too_long, with_line, word_before};
 ghost use Rattle.drm_trace.specs.Kinds.{mark_of};
-ghost use Rattle.drm_trace.specs.Log.{holder_of, with_end, with_end_of, with_job, with_wait, with_wait_for};
 
 use crate::event::{Moment, Step, Task};
 use crate::kinds::{Format, Kind, find_event};
@@ -101,7 +100,7 @@ fn add_numbered_job(
     log: &mut Log,
     rest: &mut Rest,
 ) -> Result<(), ReadError>
-    ensures { Gives (λ _. log.new) result (numbered_job rest.old >>= λ job. Ok (with_job step at job.0 job.1 log.old)) }
+    ensures { Gives (λ _. log.new) result (numbered_job_told step at log.old rest.old) }
 {
     let (task, ring) = read_numbered_job(rest)?;
     log.add_job(alloc, step, at, task, ring)?;
@@ -116,7 +115,7 @@ fn add_addressed_job(
     log: &mut Log,
     rest: &mut Rest,
 ) -> Result<(), ReadError>
-    ensures { Gives (λ _. log.new) result (addressed_job rest.old >>= λ job. Ok (with_job step at job.0 job.1 log.old)) }
+    ensures { Gives (λ _. log.new) result (addressed_job_told step at log.old rest.old) }
 {
     let (task, ring) = read_addressed_job(rest)?;
     log.add_job(alloc, step, at, task, ring)?;
@@ -130,7 +129,7 @@ fn add_numbered_wait(
     log: &mut Log,
     rest: &mut Rest,
 ) -> Result<(), ReadError>
-    ensures { Gives (λ _. log.new) result (numbered_wait between.now rest.old >>= λ wait. Ok (with_wait at wait.0 wait.1 log.old)) }
+    ensures { Gives (λ _. log.new) result (numbered_wait_told between.now at log.old rest.old) }
 {
     let (job, on) = read_numbered_wait(rest, between)?;
     log.add_wait(at, job, on)?;
@@ -144,7 +143,7 @@ fn add_addressed_wait(
     log: &mut Log,
     rest: &mut Rest,
 ) -> Result<(), ReadError>
-    ensures { Gives (λ _. log.new) result (addressed_wait rest.old >>= λ wait. Ok (with_wait_for at wait.0 wait.1 (holder_of log.old wait.2) log.old)) }
+    ensures { Gives (λ _. log.new) result (addressed_wait_told at log.old rest.old) }
 {
     let (ring, id, fence) = read_addressed_wait(rest)?;
     let on = log.holder(fence);
@@ -154,7 +153,7 @@ fn add_addressed_wait(
 
 // Adds the end of a job that is named by number.
 fn add_numbered_end(at: Moment, log: &mut Log, rest: &mut Rest) -> Result<(), ReadError>
-    ensures { Gives (λ _. log.new) result (numbered_end rest.old >>= λ job. Ok (with_end at job log.old)) }
+    ensures { Gives (λ _. log.new) result (numbered_end_told at log.old rest.old) }
 {
     let job = read_numbered_end(rest)?;
     log.add_end(at, job)?;
@@ -163,7 +162,7 @@ fn add_numbered_end(at: Moment, log: &mut Log, rest: &mut Rest) -> Result<(), Re
 
 // Adds the end of the job that holds a fence.
 fn add_addressed_end(at: Moment, log: &mut Log, rest: &mut Rest) -> Result<(), ReadError>
-    ensures { Gives (λ _. log.new) result (addressed_end rest.old >>= λ fence. Ok (with_end_of at (holder_of log.old fence) log.old)) }
+    ensures { Gives (λ _. log.new) result (addressed_end_told at log.old rest.old) }
 {
     let fence = read_addressed_end(rest)?;
     let job = log.holder(fence);

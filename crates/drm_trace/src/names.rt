@@ -1,6 +1,6 @@
 //! Numbers for names, in the order in which the names were met.
 
-ghost use Rattle.std.specs.Prelude.{◌≡◌, [], length, IfOk, OnOk};
+ghost use Rattle.std.specs.Prelude.{◌≡◌, [], length, IfOk, OnErr, OnOk};
 ghost use Rattle.drm_trace.specs.Names.{number_in, placed_in, with_name};
 
 use std::alloc::{AllocError, Global};
@@ -63,14 +63,16 @@ impl Names {
     pub(crate) fn number(&mut self, name: (u64, u64)) -> Result<u32, AllocError>
         ensures number { IfOk result (λ n. n ≡ number_in self.old name) }
         ensures list { OnOk result (self.new ≡ with_name self.old name) }
+        ensures refused { OnErr result (self.new ≡ self.old) }
     {
         if let Some(number) = self.numbers.get(&name) {
             return Ok(*number);
         }
-        if self.list.len() >= u32::MAX as usize {
+        let count = self.list.len();
+        if count >= u32::MAX as usize {
             return Err(AllocError);
         }
-        let number = self.list.len() as u32;
+        let number = count as u32;
         self.list.push(name)?;
         match self.numbers.insert(name, number) {
             Ok(_) => Ok(number),

@@ -81,7 +81,8 @@ pub(crate) fn count_digits(bytes: &[u8]) -> usize
 
 /// The number with one more digit, if the byte is a digit and the number is at most `most`.
 fn next_decimal(value: u64, byte: u8, most: u64) -> Option<u64>
-    ensures { result ≡ with_digit most value byte }
+    ensures value { result ≡ with_digit most value byte }
+    ensures small { IfSome result (λ n. n ≤ most) }
 {
     if !byte.is_ascii_digit() {
         return None;

@@ -9,7 +9,7 @@ use Rattle.drm_text.specs.Reading.{Fails}
 use Rattle.drm_stream.specs.Transfer.{IsReadOf, input_error_of}
 use Rattle.drm_trace.specs.declared.log.Log.{Log}
 use Rattle.drm_trace.specs.Log.{nothing_read}
-use Rattle.drm_trace.specs.Pieces.{GoesOn, IsBare, ReadsOn, StopsAt, log_of, with_last, with_text}
+use Rattle.drm_trace.specs.Pieces.{GoesOn, IsBare, ReadsOn, StopsAt, TakesText, log_of, with_last, with_text}
 use Rattle.drm_trace.proofs.Cutting.{last_read}
 
 -- before the first piece
@@ -43,6 +43,11 @@ piece_faulty (Some text) (Some all) log before piece fault reads front stops =
     let same : all ≡ reads.0 = cc (reads.1) in
     let so : log_of text ≡ with_text log (before ++ all) = rw same reads.2 in
     piece_taken text all before piece log front so ∙ stops (drop 1048577 all)
+
+pub piece_fails : (old mid : Option (List ℕ)) (log new : Log) (before piece rest : List ℕ) (error : ReadError) → ReadsOn old mid log before
+    → IfSome mid (λ left. piece ≡ take 1048577 left) → TakesText {X = Unit {0}} log (before ++ piece) new (λ _. rest) (Err error) → IsReadOf log_of old (Err (input_error_of error))
+piece_fails old mid log new before piece rest errors.Memory reads front stops = tt
+piece_fails old mid log new before piece rest (errors.Fault fault) reads front stops = piece_faulty old mid log before piece fault reads front stops
 
 -- a piece that is not full is the last
 none_left : (left piece : List ℕ) → piece ≡ take 1048577 left → length piece ≤ 1048576 → drop 1048577 left ≡ []
