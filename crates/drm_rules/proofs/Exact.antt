@@ -1,13 +1,14 @@
 -- What is told as broken is what is broken, and nothing is told exactly where all is kept.
-use Rattle.std.proofs.Common.{◌≡◌, ℕ, zero, suc, ◌⊎◌, inl, inr, Bool, true, false, List, [], ◌∷◌, ◌++◌, append-nil, append_assoc, Some, refl, sym, ap, subst, ◌∙◌, take, arith, slice_get}
+use Rattle.std.proofs.Common.{◌≡◌, ℕ, zero, suc, ◌<◌, ◌⊎◌, inl, inr, Bool, true, false, List, [], ◌∷◌, ◌++◌, append-nil, append_assoc, Some, refl, sym, ap, subst, ◌∙◌, take, arith, slice_get}
 use Rattle.std.specs.Prelude.{Contains, not, is_none, ◌||◌}
-use Rattle.std.proofs.lemmas.List.Elements.{Contains-append_cases, Contains-append_left, Contains-append_right}
+use Rattle.std.specs.List.{All}
+use Rattle.std.proofs.lemmas.List.Elements.{All-append, All-cons, All-head, All-nil, All-same, Contains-append_cases, Contains-append_left, Contains-append_right}
 use Rattle.drm_trace.specs.declared.event.Event.{Event}
 use Rattle.drm_trace.specs.declared.event.What.{What}
 use Rattle.drm_trace.specs.declared.event.What.TheVariants as does
 use Rattle.drm_rules.specs.declared.rules.Broken.{Broken}
 use Rattle.drm_rules.specs.declared.rules.Demands.{Demands}
-use Rattle.drm_rules.specs.Conforms.{Conforms, IsBroken, Keeps}
+use Rattle.drm_rules.specs.Conforms.{BreaksFirst, Conforms, IsBroken, Keeps}
 use Rattle.drm_rules.specs.Rules.{broken, broken_at, broken_by, broken_from, unless}
 
 -- ---- lists of which nothing is told
@@ -110,3 +111,72 @@ module _ (demands : Demands) (log : List Event) where
       let later : (place : ℕ) (e : Event) → slice_get rest place ≡ Some e → Keeps demands log ((seen ++ first ∷ []) ++ take place rest) e e.what = λ place e at.
       subst (λ s. Keeps demands log s e e.what) (sym (append_assoc seen (first ∷ []) (take place rest))) (keep (suc place) e at) in
       both_nothing _ _ (kept_untold seen first first.what here) (none_told (seen ++ first ∷ []) rest later)
+
+  -- ---- the first that is told
+
+  unless_at : (keeps : Bool) (one : Broken) (e : Event) → one.at ≡ e → All (λ b. b.at ≡ e) (unless keeps one)
+  unless_at true one e is = All-nil (λ b. b.at ≡ e)
+  unless_at false one e is = All-cons (λ b. b.at ≡ e) one [] is (All-nil (λ b. b.at ≡ e))
+
+  -- what is told of a line names that line
+  told_at : (seen : List Event) (e : Event) (what : What) → All (λ b. b.at ≡ e) (broken_by demands log seen e what)
+  told_at seen e (does.Queued place) = All-append (λ b. b.at ≡ e) (unless _ _) (unless _ _) (unless_at _ _ e refl) (unless_at _ _ e refl)
+  told_at seen e (does.Ran place) =
+      All-append (λ b. b.at ≡ e) ((unless _ _ ++ unless _ _) ++ unless _ _) (unless _ _ ++ unless _ _)
+      (All-append (λ b. b.at ≡ e) (unless _ _ ++ unless _ _) (unless _ _) (All-append (λ b. b.at ≡ e) (unless _ _) (unless _ _) (unless_at _ _ e refl) (unless_at _ _ e refl)) (unless_at _ _ e refl))
+      (All-append (λ b. b.at ≡ e) (unless _ _) (unless _ _) (unless_at _ _ e refl) (unless_at _ _ e refl))
+  told_at seen e (does.Waits on) = All-nil (λ b. b.at ≡ e)
+  told_at seen e does.Ended =
+      All-append (λ b. b.at ≡ e) (unless _ _ ++ unless _ _) (unless _ _) (All-append (λ b. b.at ≡ e) (unless _ _) (unless _ _) (unless_at _ _ e refl) (unless_at _ _ e refl)) (unless_at _ _ e refl)
+
+  -- the lines up to one keep their rules, where the first does and those behind it do
+  keeps_more : (seen rest : List Event) (first : Event) (place : ℕ) → broken_at demands log seen first ≡ []
+      → ((earlier : ℕ) (e : Event) → earlier < place → slice_get rest earlier ≡ Some e → Keeps demands log ((seen ++ first ∷ []) ++ take earlier rest) e e.what)
+      → (earlier : ℕ) (e : Event) → earlier < suc place → slice_get (first ∷ rest) earlier ≡ Some e → Keeps demands log (seen ++ take earlier (first ∷ rest)) e e.what
+  keeps_more seen rest first place none before zero e lt at =
+      let same : first ≡ e = cc (at) in
+      let here : Keeps demands log seen first first.what = line_keeps seen first first.what none in
+      subst (λ f. Keeps demands log (seen ++ []) f f.what) same (subst (λ s. Keeps demands log s first first.what) (sym (append-nil seen)) here)
+  keeps_more seen rest first place none before (suc earlier) e lt at =
+      subst (λ s. Keeps demands log s e e.what) (append_assoc seen (first ∷ []) (take earlier rest)) (before earlier e (omega (arith, lt)) at)
+
+  -- the first that is told breaks a rule, and the lines before it keep all
+  LeastIn : List Event → List Event → Broken → Type 0
+  LeastIn seen rest one =
+      (place : ℕ) × (slice_get rest place ≡ Some one.at) × Contains (broken_at demands log (seen ++ take place rest) one.at) one
+      × ((earlier : ℕ) (e : Event) → earlier < place → slice_get rest earlier ≡ Some e → Keeps demands log (seen ++ take earlier rest) e e.what)
+
+  -- it is of this line
+  least_here : (seen rest : List Event) (first : Event) (one : Broken) (told : List Broken) → broken_at demands log seen first ≡ one ∷ told → LeastIn seen (first ∷ rest) one
+  unfolding LeastIn
+  least_here seen rest first one told is =
+      let at : one.at ≡ first = All-head (λ b. b.at ≡ first) one told (All-same (λ b. b.at ≡ first) (one ∷ told) (broken_at demands log seen first) (sym is) (told_at seen first first.what)) in
+      let has : Contains (broken_at demands log seen first) one = subst (λ bs. Contains bs one) (sym is) (zero, omega arith, refl) in (
+        zero,
+        ap (λ (e : Event). Some e) (sym at),
+        subst (λ e. Contains (broken_at demands log (seen ++ []) e) one) (sym at) (subst (λ s. Contains (broken_at demands log s first) one) (sym (append-nil seen)) has),
+        λ earlier e lt. absurd (omega (arith, lt)),
+      )
+
+  -- or of one behind it
+  least_later : (seen rest : List Event) (first : Event) (one : Broken) → broken_at demands log seen first ≡ [] → LeastIn (seen ++ first ∷ []) rest one → LeastIn seen (first ∷ rest) one
+  unfolding LeastIn
+  least_later seen rest first one none later =
+      let (place, at, breaks, before) = later in
+      (suc place, at, subst (λ s. Contains (broken_at demands log s one.at) one) (append_assoc seen (first ∷ []) (take place rest)) breaks, keeps_more seen rest first place none before)
+
+  least_of : (seen rest : List Event) (first : Event) (one : Broken) (more told : List Broken) → broken_at demands log seen first ≡ told
+      → told ++ broken_from demands log (seen ++ first ∷ []) rest ≡ one ∷ more
+      → (broken_from demands log (seen ++ first ∷ []) rest ≡ one ∷ more → LeastIn (seen ++ first ∷ []) rest one) → LeastIn seen (first ∷ rest) one
+  least_of seen rest first one more [] none is later = least_later seen rest first one none (later is)
+  least_of seen rest first one more (x ∷ xs) some is later =
+      let same : x ≡ one = cc (is) in
+      least_here seen rest first one xs (some ∙ ap (λ (b : Broken). b ∷ xs) same)
+
+  least : (seen rest : List Event) (one : Broken) (more : List Broken) → broken_from demands log seen rest ≡ one ∷ more → LeastIn seen rest one
+  least seen [] one more is = absurd (cc (is))
+  least seen (first ∷ rest) one more is = least_of seen rest first one more (broken_at demands log seen first) refl is (λ so. least (seen ++ first ∷ []) rest one more so)
+
+  pub breaks_first : (one : Broken) (more : List Broken) → broken demands log ≡ one ∷ more → BreaksFirst demands log one
+  unfolding LeastIn
+  breaks_first one more is = let (place, at, breaks, before) = least [] log one more is in record { place = place; line = at; breaks = breaks; kept_before = before }

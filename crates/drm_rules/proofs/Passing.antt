@@ -46,12 +46,12 @@ pub last_follows : (lane : Event → Option ℕ) (seen : List Event) (e : Event)
 last_follows lane seen e old new notes are k =
     notes k ∙ ap (λ (o : Option Event). option_or (item_in (lane e) e k) o) (are k) ∙ sym (last_more lane seen e k)
 
-count_up : (old new before after : ℕ) (test : Bool) → new ≡ cond test (min (old + 1) (2 ^ 64 - 1)) old → old ≡ before → before < 2 ^ 63
+count_up : (old new before after : ℕ) (test : Bool) → new ≡ cond test (min (old + 1) (2 ^ 64 - 1)) old → old ≡ before → before + 1 < 2 ^ 64
     → after ≡ before + cond test 1 0 → new ≡ after
 count_up old new before after true up is small so = omega (arith, up, is, small, so)
 count_up old new before after false up is small so = omega (arith, up, is, small, so)
 
-pub count_follows : (lane : Event → Option ℕ) (seen : List Event) (e : Event) (old new : List ℕ) → length seen < 2 ^ 63 → CountsOne old (lane e) new
+pub count_follows : (lane : Event → Option ℕ) (seen : List Event) (e : Event) (old new : List ℕ) → length seen + 1 < 2 ^ 64 → CountsOne old (lane e) new
     → ((k : ℕ) → slice_index_or old k 0 ≡ count_in lane seen k) → (k : ℕ) → slice_index_or new k 0 ≡ count_in lane (seen ++ e ∷ []) k
 count_follows lane seen e old new few counts are k =
     let most = count_by-le-length (λ (x : Event). is_in (lane x) k) seen in

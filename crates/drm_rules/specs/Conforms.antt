@@ -1,5 +1,5 @@
 -- What it is that a log keeps the rules, and that one is broken.
-use Rattle.std.specs.Prelude.{◌≡◌, ◌↔◌, ℕ, IsTrue, ◌||◌, not, List, [], ◌∷◌, Option, Some, None, is_none, slice_get, slice_index_or, take, Contains}
+use Rattle.std.specs.Prelude.{◌≡◌, ◌↔◌, ℕ, ◌<◌, IsTrue, ◌||◌, not, List, [], ◌∷◌, Option, Some, None, is_none, slice_get, slice_index_or, take, Contains}
 use Rattle.drm_trace.specs.declared.event.Event.{Event}
 use Rattle.drm_trace.specs.declared.event.Place.{Place}
 use Rattle.drm_trace.specs.declared.event.What.{What}
@@ -44,6 +44,13 @@ Conforms demands log = (place : ℕ) (e : Event) → slice_get log place ≡ Som
 abbrev pub IsBroken : Demands → List Event → Broken → Type 0
 IsBroken demands log one = (place : ℕ) × (e : Event) × (slice_get log place ≡ Some e) × Contains (broken_at demands log (take place log) e) one
 
+-- a line of the log breaks the rule, and all lines before it keep all rules
+pub record BreaksFirst (demands : Demands) (log : List Event) (one : Broken) : Type 0 where
+  pub place : ℕ
+  pub line : slice_get log place ≡ Some one.at
+  pub breaks : Contains (broken_at demands log (take place log) one.at) one
+  pub kept_before : (earlier : ℕ) (e : Event) → earlier < place → slice_get log earlier ≡ Some e → Keeps demands log (take earlier log) e e.what
+
 -- what is told as broken is, and what is broken is told
 abbrev pub TellsBroken : Type 0
 TellsBroken = (demands : Demands) (log : List Event) (one : Broken) → Contains (broken demands log) one ↔ IsBroken demands log one
@@ -51,3 +58,7 @@ TellsBroken = (demands : Demands) (log : List Event) (one : Broken) → Contains
 -- nothing is told exactly where the log keeps all rules
 abbrev pub TellsNoneWhereKept : Type 0
 TellsNoneWhereKept = (demands : Demands) (log : List Event) → (broken demands log ≡ []) ↔ Conforms demands log
+
+-- the line that is told first is the least that breaks a rule
+abbrev pub TellsLeastFirst : Type 0
+TellsLeastFirst = (demands : Demands) (log : List Event) (one : Broken) (more : List Broken) → broken demands log ≡ one ∷ more → BreaksFirst demands log one

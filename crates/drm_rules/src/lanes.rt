@@ -1,6 +1,6 @@
 //! What the lines that were passed tell of each entity and each ring.
 
-ghost use Rattle.std.specs.Prelude.{◌≡◌, ◌<◌, ◌^◌, ◌-◌, ◌++◌, ◌∷◌, [], List, IfOk, OnOk, length};
+ghost use Rattle.std.specs.Prelude.{◌≡◌, ◌+◌, ◌<◌, ◌^◌, ◌-◌, ◌++◌, ◌∷◌, [], List, IfOk, OnOk, length};
 ghost use Rattle.drm_trace.specs.declared.event.Event.{Event as Line};
 ghost use Rattle.drm_rules.specs.Lines.{last_in, queues_of, runs_of};
 ghost use Rattle.drm_rules.specs.Rules.{begins_on, ended_before, ends_on, in_flight, ring_before};
@@ -108,7 +108,7 @@ impl Lanes {
 
     /// Passes a line.
     pub(crate) fn pass(&mut self, index: &Index, event: &Event) -> Result<(), AllocError>
-        ensures { OnOk result ((seen : List Line) → length seen < 2 ^ 63 → AreLanes self.old index.now seen → AreLanes self.new index.now (seen ++ event.now ∷ [])) }
+        ensures { OnOk result ((seen : List Line) → length seen + 1 < 2 ^ 64 → AreLanes self.old index.now seen → AreLanes self.new index.now (seen ++ event.now ∷ [])) }
     {
         note_last(&mut self.queued, queued_entity(event), *event)?;
         note_last(&mut self.ran, run_entity(event), *event)?;

@@ -7,7 +7,7 @@
 //! what it is that a log keeps them all. A log that begins or ends in the middle is judged for what it shows.
 //!
 //! An `Index` is a log with the lines that queue, run and end each job. `judge` tells all that it breaks, line by line, in one
-//! pass over it. `answers_are_exact`: what is told is what is broken, and nothing is told exactly where all is kept.
+//! pass over it. `answers_are_exact`: what is told is what is broken, the least line first, and nothing where all is kept.
 #![tactic(auto)]
 
 mod holding;

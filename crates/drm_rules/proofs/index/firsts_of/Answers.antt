@@ -7,7 +7,7 @@ use Rattle.drm_rules.proofs.index.firsts_of.Goals as goal
 pub loop-event-preserved : goal.loop-event-preserved
 loop-event-preserved c =
     let i = c.loop-event.event-index in
-    subst (AreFirsts c.note.new.firsts) (seen_on c.args.log.now i c.event-item.result c.loop-event-test.true c.event-item.is)
+    subst (AreFirsts c.note.new.firsts) (seen_on c.args.log.now i _ c.loop-event-test.true)
     (c.in_ok-note.ensures (take i c.args.log.now) c.loop-event.invariant)
 
 pub returns : goal.returns

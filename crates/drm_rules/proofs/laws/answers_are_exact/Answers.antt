@@ -1,5 +1,5 @@
 use Rattle.std.proofs.Common.{[]}
-use Rattle.drm_rules.proofs.Exact.{all_keep, breaks_told, none_told, told}
+use Rattle.drm_rules.proofs.Exact.{all_keep, breaks_first, breaks_told, none_told, told}
 use Rattle.drm_rules.proofs.laws.answers_are_exact.Goals as goal
 
 pub returns-clause-broken : goal.returns-clause-broken
@@ -10,3 +10,6 @@ returns-clause-broken c = λ demands log one. (
 
 pub returns-clause-kept : goal.returns-clause-kept
 returns-clause-kept c = λ demands log. (λ none. all_keep demands log [] log none, λ keep. none_told demands log [] log keep)
+
+pub returns-clause-first : goal.returns-clause-first
+returns-clause-first c = λ demands log one more is. breaks_first demands log one more is

@@ -11,11 +11,11 @@ pub loop-event-preserved : goal.loop-event-preserved
 loop-event-preserved c = λ job.
     let i = c.loop-event.event-index in
     let lane = unmet c.args.tolerance c.args.index.now in
-    first_follows lane (take i c.log.result.now) c.event-item.result _ _ (rw c.unmet_job.ensures at c.in_ok-note_first.ensures) c.loop-event.invariant job
-    ∙ ap (λ (seen : List Event). first_in lane seen job) (seen_on c.log.result.now i c.event-item.result c.loop-event-test.true c.event-item.is)
+    first_follows lane (take i c.log-log.result.now) _ _ _ (rw c.unmet_job.ensures at c.in_ok-note_first.ensures) c.loop-event.invariant job
+    ∙ ap (λ (seen : List Event). first_in lane seen job) (seen_on c.log-log.result.now i _ c.loop-event-test.true)
 
 pub returns : goal.returns
 returns c = λ job.
     let lane = unmet c.args.tolerance c.args.index.now in
     c.loop-event.invariant job
-    ∙ ap (λ (seen : List Event). first_in lane seen job) (take_all c.loop-event.event-index c.log.result.now c.loop-event-test.false ∙ c.log.ensures)
+    ∙ ap (λ (seen : List Event). first_in lane seen job) (take_all c.loop-event.event-index c.log-log.result.now c.loop-event-test.false ∙ c.log-log.ensures)
