@@ -89,6 +89,10 @@ text_of_broken log one =
 abbrev pub count_text : ℕ → List ℕ → List ℕ → List ℕ
 count_text n one many = decimal n ++ codes " " ++ (if n == 1 then one else many)
 
+-- words, and so many of these
+abbrev pub counted_text : List ℕ → ℕ → List ℕ → List ℕ → List ℕ
+counted_text words n one many = words ++ count_text n one many
+
 -- how many jobs there are, and how many broken rules
 abbrev pub text_of_counts : Counts → ℕ → List ℕ
 text_of_counts counts broken =
@@ -97,14 +101,17 @@ text_of_counts counts broken =
 -- what was not judged, or not wholly
 abbrev pub text_of_rest : Counts → ℕ → List ℕ
 text_of_rest counts passed =
-    codes "passed over: " ++ count_text passed (codes "line") (codes "lines")
-    ++ codes "; queued before the log begins: " ++ count_text counts.early (codes "job") (codes "jobs")
-    ++ codes "; not ended where it ends: " ++ count_text counts.late (codes "job") (codes "jobs") ++ codes "\n"
+    counted_text (codes "passed over: ") passed (codes "line") (codes "lines")
+    ++ counted_text (codes "; queued before the log begins: ") counts.early (codes "job") (codes "jobs")
+    ++ counted_text (codes "; not ended where it ends: ") counts.late (codes "job") (codes "jobs") ++ codes "\n"
 
--- how far lines may be out of order, where they may be
+-- how far lines may be out of order
+abbrev pub near_text : ℕ → List ℕ
+near_text tolerance = codes "lines less than " ++ decimal tolerance ++ codes " ns apart may stand in either order\n"
+
+-- the same where they may be
 abbrev pub text_of_tolerance : ℕ → List ℕ
-text_of_tolerance tolerance =
-    if tolerance == 0 then [] else codes "lines less than " ++ decimal tolerance ++ codes " ns apart may stand in either order\n"
+text_of_tolerance tolerance = if tolerance == 0 then [] else near_text tolerance
 
 -- ---- times, in microseconds
 

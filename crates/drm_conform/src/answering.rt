@@ -7,7 +7,7 @@ ghost use Rattle.drm_conform.specs.Times.{no_time};
 ghost use Rattle.drm_conform.specs.Words.{text_of_broken, text_of_jobs, text_of_rings};
 
 use crate::options::{Limit, Options};
-use crate::times::{NO_TIME, Total, counts, job_ring, releases, times, totals};
+use crate::times::{NO_TIME, Total, count_jobs, job_ring, job_times, releases, totals};
 use crate::words::{put_broken, put_counts, put_rest, put_times, put_tolerance, put_total};
 use drm_rules::{Broken, Demands, Index, judge};
 use drm_text::is_word;
@@ -106,7 +106,7 @@ fn put_jobs(
 {
     for job in 0..log.jobs.len() {
         let ring = job_ring(index.running(job));
-        put_times(text, log, job, ring, times(index, releases, job))?;
+        put_times(text, log, job, ring, job_times(index, releases, job))?;
     }
     Ok(())
 }
@@ -149,7 +149,7 @@ fn put_behind(
     ensures { OnOk result (text.new.items ≡ text.old.items ++ text_behind options.now log.now broken) }
 {
     let jobs = log.jobs.len();
-    let counts = counts(index, jobs);
+    let counts = count_jobs(index, jobs);
     put_counts(text, counts, broken)?;
     put_rest(text, counts, passed(log))?;
     put_tolerance(text, options.tolerance)?;
@@ -160,7 +160,7 @@ fn put_behind(
 }
 
 /// The answer to a log.
-pub(crate) fn answer(alloc: Global, options: &Options, log: &Log) -> Result<Answer, AllocError>
+pub(crate) fn answer_log(alloc: Global, options: &Options, log: &Log) -> Result<Answer, AllocError>
     ensures text { IfOk result (λ answer. answer.text.items ≡ text_of_answer options.now log.now) }
     ensures broken { IfOk result (λ answer. answer.broken ≡ length (broken_in options.now log.now)) }
 {

@@ -3,7 +3,7 @@
 ghost use Rattle.drm_stream.specs.Streams.{NoReadFailed, SourceState};
 ghost use Rattle.drm_conform.specs.Verdicts.{JudgedBy, Judges, Tells};
 
-use crate::answering::answer;
+use crate::answering::answer_log;
 use crate::options::Options;
 use crate::verdict::Verdict;
 use drm_rules::answers_are_exact;
@@ -18,7 +18,7 @@ fn judge_log<W: Write>(alloc: Global, options: &Options, log: &Log, writer: &mut
     ensures failures { (from to : SourceState) → NoReadFailed from to → JudgedBy from to writer.old writer.new result }
 {
     answers_are_exact();
-    let Ok(answer) = answer(alloc, options, log) else {
+    let Ok(answer) = answer_log(alloc, options, log) else {
         return Verdict::NoMemory;
     };
     if put_all(writer, &answer.text).is_err() {

@@ -99,7 +99,7 @@ fn times_told(
 }
 
 /// The times of a job that is queued, runs and ends in the log.
-pub(crate) fn times(index: &Index, releases: &[u64], job: u32) -> Option<Times>
+pub(crate) fn job_times(index: &Index, releases: &[u64], job: u32) -> Option<Times>
     requires { AreReleases index.now releases.now }
     ensures { result ≡ times_of index.now job }
 {
@@ -155,7 +155,7 @@ pub(crate) fn totals(
     let mut rows = Vec::new(alloc);
     for job in 0..jobs {
         if let Some(ring) = job_ring(index.running(job)) {
-            let total = add_times(row(&rows, ring, NO_TIME), times(index, releases, job));
+            let total = add_times(row(&rows, ring, NO_TIME), job_times(index, releases, job));
             put(&mut rows, ring, NO_TIME, total)?;
         }
     }
@@ -178,7 +178,7 @@ fn one_where(test: bool) -> u64
 }
 
 /// Of so many jobs how many the log shows, how many of these began before it, and how many go on behind it.
-pub(crate) fn counts(index: &Index, jobs: u32) -> Counts
+pub(crate) fn count_jobs(index: &Index, jobs: u32) -> Counts
     ensures { result ≡ counts_of index.now jobs }
 {
     let mut shown = 0u64;

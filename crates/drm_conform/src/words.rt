@@ -2,7 +2,7 @@
 
 ghost use Rattle.std.specs.Prelude.{◌≡◌, ◌++◌, codes, OnOk};
 ghost use Rattle.std.specs.Fmt.{decimal};
-ghost use Rattle.drm_conform.specs.Words.{awaited_in, awaited_text, count_text, end_text, job_name, job_text, line_text, micros, name_by, on_ring, ring_name, text_of_broken, text_of_counts, text_of_rest, text_of_times, text_of_tolerance, text_of_total, words_of};
+ghost use Rattle.drm_conform.specs.Words.{awaited_in, awaited_text, count_text, counted_text, end_text, job_name, job_text, line_text, micros, name_by, near_text, on_ring, ring_name, text_of_broken, text_of_counts, text_of_rest, text_of_times, text_of_tolerance, text_of_total, words_of};
 
 use crate::times::{Counts, Times, Total};
 use drm_rules::{Broken, Rule, awaited_job, run_ring};
@@ -249,17 +249,49 @@ pub(crate) fn put_counts(
     put(text, "\n")
 }
 
+// Puts words and so many of these behind a text.
+fn put_counted(
+    text: &mut Vec<u8>,
+    words: &str,
+    n: u64,
+    one: &str,
+    many: &str,
+) -> Result<(), AllocError>
+    ensures { OnOk result (text.new.items ≡ text.old.items ++ counted_text words.now n one.now many.now) }
+{
+    put(text, words)?;
+    put_count(text, n, one, many)
+}
+
 /// Puts behind a text what was not judged, or not wholly.
 pub(crate) fn put_rest(text: &mut Vec<u8>, counts: Counts, passed: u64) -> Result<(), AllocError>
     ensures { OnOk result (text.new.items ≡ text.old.items ++ text_of_rest counts passed) }
 {
-    put(text, "passed over: ")?;
-    put_count(text, passed, "line", "lines")?;
-    put(text, "; queued before the log begins: ")?;
-    put_count(text, counts.early, "job", "jobs")?;
-    put(text, "; not ended where it ends: ")?;
-    put_count(text, counts.late, "job", "jobs")?;
+    put_counted(text, "passed over: ", passed, "line", "lines")?;
+    put_counted(
+        text,
+        "; queued before the log begins: ",
+        counts.early,
+        "job",
+        "jobs",
+    )?;
+    put_counted(
+        text,
+        "; not ended where it ends: ",
+        counts.late,
+        "job",
+        "jobs",
+    )?;
     put(text, "\n")
+}
+
+// Puts behind a text how far lines may be out of order.
+fn put_near(text: &mut Vec<u8>, tolerance: u64) -> Result<(), AllocError>
+    ensures { OnOk result (text.new.items ≡ text.old.items ++ near_text tolerance) }
+{
+    put(text, "lines less than ")?;
+    put_number(text, tolerance)?;
+    put(text, " ns apart may stand in either order\n")
 }
 
 /// Puts behind a text how far lines may be out of order, where they may be.
@@ -269,9 +301,7 @@ pub(crate) fn put_tolerance(text: &mut Vec<u8>, tolerance: u64) -> Result<(), Al
     if tolerance == 0 {
         return Ok(());
     }
-    put(text, "lines less than ")?;
-    put_number(text, tolerance)?;
-    put(text, " ns apart may stand in either order\n")
+    put_near(text, tolerance)
 }
 
 // Puts words and a time in microseconds behind a text.

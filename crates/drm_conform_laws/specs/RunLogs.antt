@@ -1,6 +1,7 @@
 -- The log of a run of the core: what its events and answers tell of jobs, line by line.
 use Rattle.std.specs.Prelude.{◌≡◌, ℕ, true, ◌+◌, List, [], ◌∷◌, ◌++◌, map, flat_map, zip, Option, Some, None, slice_get}
 use Rattle.drm_types.specs.declared.spec.DeviceSpec.{DeviceSpec}
+use Rattle.drm_job.specs.declared.Draft.{Draft}
 use Rattle.drm_trace.specs.declared.event.Event.{Event as Line}
 use Rattle.drm_trace.specs.declared.event.Place.{Place}
 use Rattle.drm_trace.specs.declared.event.What.{What}
@@ -32,12 +33,12 @@ run_lines fence ring None = []
 run_lines fence ring (Some r) = (fence, does.Ran (place_of r fence ring)) ∷ []
 
 -- the ring that an event names
-abbrev pub ring_named : Event → ℕ
+abbrev pub ring_named : Event Draft → ℕ
 ring_named (event.Pick ring now) = ring
 ring_named other = 0
 
 -- what an answer tells of jobs, by the journal of all that were armed
-abbrev pub lines_of : List JobRecord → Event → Answer → List (ℕ × What)
+abbrev pub lines_of : List JobRecord → Event Draft → Answer → List (ℕ × What)
 lines_of journal happened (answer.Armed fence) = queued_lines journal fence (slice_get journal fence)
 lines_of journal happened (answer.Picked fence skipped) = run_lines fence (ring_named happened) (slice_get journal fence)
 lines_of journal happened (answer.Finished fence outcome) = (fence, does.Ended) ∷ []
@@ -50,7 +51,7 @@ numbered_from line [] = []
 numbered_from line (told ∷ rest) = record { line = line; time = 0; job = told.0; what = told.1 } ∷ numbered_from (line + 1) rest
 
 -- the log of a run, by the journal that it has left
-abbrev pub log_of_run : List JobRecord → List Event → List Answer → List Line
+abbrev pub log_of_run : List JobRecord → List (Event Draft) → List Answer → List Line
 log_of_run journal events answers = numbered_from 1 (flat_map (λ step. lines_of journal step.0 step.1) (zip events answers))
 
 -- the rules without tolerance, with rings that keep their order and have no more jobs than credits
@@ -60,5 +61,5 @@ demands_of_device spec = record { tolerance = 0; in_order = true; limits = map (
 -- the log of every run of a core that was opened keeps all rules, so what is told as broken is no run of a core
 abbrev pub EveryRunConforms : Type 0
 EveryRunConforms =
-    (spec : DeviceSpec) (events : List Event) (answers : List Answer) (state : CoreState) → AllNamesExist spec events
+    (spec : DeviceSpec) (events : List (Event Draft)) (answers : List Answer) (state : CoreState) → AllNamesExist spec events
     → Run (opened spec) events answers state → Conforms (demands_of_device spec) (log_of_run state.device.journal events answers)

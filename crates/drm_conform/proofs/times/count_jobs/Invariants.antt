@@ -1,6 +1,6 @@
 use Rattle.std.proofs.Common.{◌≡◌, ◌≤◌}
 use Rattle.drm_conform.specs.Times.{counts_of}
-use Rattle.drm_conform.proofs.times.counts.Given as goal
+use Rattle.drm_conform.proofs.times.count_jobs.Given as goal
 
 abbrev pub invariant-loop-job : goal.invariant-loop-job
 invariant-loop-job l = record {
