@@ -79,7 +79,30 @@ find_fails p (z ∷ xs) i x none at = by_test (p z) refl none i at
     by_test false is none zero at = let same : z ≡ x = cc (at) in ap p (sym same) ∙ is
     by_test false is none (suc i) at = find_fails p xs i x none at
 
+pub compared : (b i : ℕ) → (b < i) ⊎ ((b ≡ i) ⊎ (i < b))
+compared zero zero = inr (inl refl)
+compared zero (suc i) = inl (omega arith)
+compared (suc b) zero = inr (inr (omega arith))
+compared (suc b) (suc i) = elim (compared b i) [
+  | inl less ↦ inl (omega (arith, less))
+  | inr rest ↦ elim rest [
+    | inl same ↦ inr (inl (ap suc same))
+    | inr more ↦ inr (inr (omega (arith, more)))
+  ]
+]
+
 -- a line is the first of its lane where none before it is of the lane
+first_place : (lane : Line → Option ℕ) (log : List Line) (k i b : ℕ) (e x : Line) → slice_get log i ≡ Some e → is_in (lane e) k ≡ true
+    → ((a : ℕ) (y : Line) → a < i → slice_get log a ≡ Some y → is_in (lane y) k ≡ true → ⊥)
+    → slice_get log b ≡ Some x → is_in (lane x) k ≡ true → ((a : ℕ) (y : Line) → a < b → slice_get log a ≡ Some y → is_in (lane y) k ≡ false) → Some x ≡ Some e
+first_place lane log k i b e x at of_lane none_before at_b passes before = elim (compared b i) [
+  | inl less ↦ absurd (none_before b x less at_b passes)
+  | inr rest ↦ elim rest [
+    | inl same ↦ sym at_b ∙ ap (slice_get log) same ∙ at
+    | inr more ↦ absurd (true≢false (sym of_lane ∙ before i e more at))
+  ]
+]
+
 pub is_first : (lane : Line → Option ℕ) (log : List Line) (k i : ℕ) (e : Line) → slice_get log i ≡ Some e → is_in (lane e) k ≡ true
     → ((b : ℕ) (x : Line) → b < i → slice_get log b ≡ Some x → is_in (lane x) k ≡ true → ⊥) → first_in lane log k ≡ Some e
 is_first lane log k i e at of_lane none_before = by_find (first_in lane log k) refl
@@ -87,29 +110,8 @@ is_first lane log k i e at of_lane none_before = by_find (first_in lane log k) r
     by_find : (o : Option Line) → first_in lane log k ≡ o → o ≡ Some e
     by_find None none = absurd (true≢false (sym of_lane ∙ find_fails (λ (x : Line). is_in (lane x) k) log i e none at))
     by_find (Some x) some =
-        let found = find_first (λ (x : Line). is_in (lane x) k) log x some in
-        by_place found.0 found.1 found.2 found.3
-      where
-        by_place : (b : ℕ) → slice_get log b ≡ Some x → is_in (lane x) k ≡ true → ((a : ℕ) (y : Line) → a < b → slice_get log a ≡ Some y → is_in (lane y) k ≡ false) → Some x ≡ Some e
-        by_place b at_b passes before = elim (compared b i) [
-          | inl less ↦ absurd (none_before b x less at_b passes)
-          | inr rest ↦ elim rest [
-            | inl same ↦ sym at_b ∙ ap (λ (n : ℕ). slice_get log n) same ∙ at
-            | inr more ↦ absurd (true≢false (sym of_lane ∙ before i e more at))
-          ]
-        ]
-
-        compared : (b i : ℕ) → (b < i) ⊎ ((b ≡ i) ⊎ (i < b))
-        compared zero zero = inr (inl refl)
-        compared zero (suc i) = inl (omega arith)
-        compared (suc b) zero = inr (inr (omega arith))
-        compared (suc b) (suc i) = elim (compared b i) [
-          | inl less ↦ inl (omega (arith, less))
-          | inr rest ↦ elim rest [
-            | inl same ↦ inr (inl (ap suc same))
-            | inr more ↦ inr (inr (omega (arith, more)))
-          ]
-        ]
+        let found = find_first (λ (y : Line). is_in (lane y) k) log x some in
+        first_place lane log k i found.0 e x at of_lane none_before found.1 found.2 found.3
 
 -- the last of a lane stands somewhere and is of the lane
 pub last_at : (lane : Line → Option ℕ) (log : List Line) (k : ℕ) (e : Line) → last_in lane log k ≡ Some e → (i : ℕ) × (slice_get log i ≡ Some e) × (is_in (lane e) k ≡ true)

@@ -10,6 +10,7 @@ use Rattle.drm_lists.proofs.Places.{contains_at, from_map, get_push_cases, place
 use Rattle.drm_lists.proofs.Searches.{find_first}
 use Rattle.drm_types.specs.Firsts.{first}
 use Rattle.drm_types.specs.declared.outcome.Outcome.{Outcome}
+use Rattle.drm_types.specs.declared.outcome.Outcome.TheVariants as outcome
 use Rattle.drm_job.specs.declared.Draft.{Draft}
 use Rattle.drm_fence.specs.declared.phase.Phase.{Phase}
 use Rattle.drm_fence.specs.declared.phase.Phase.TheVariants.{Queued, Scheduled, Ended}
@@ -27,7 +28,7 @@ use Rattle.drm_state.specs.Grows.{EachInPlace, GoesOn, RecordGrows}
 use Rattle.drm_state.specs.Journal.{changed_at, is_at, numbered}
 use Rattle.drm_state.specs.Lawful.{IsLawfulDevice}
 use Rattle.drm_state.specs.Order.{comes_after, dependencies, is_met}
-use Rattle.drm_state.specs.Outcomes.{condemned, ended_at, final_outcome, finished_device, hung, must_stall, next_packet, picked_device, ran_device, stepped_by}
+use Rattle.drm_state.specs.Outcomes.{at_record, condemned, condemned_device, ended_at, final_outcome, finished_device, hung, hung_device, must_stall, picked_device, ran_device, step_outcome, stepped_by, timeout_outcome}
 use Rattle.drm_state.specs.Ring.{current_of, head_of, is_guilty}
 use Rattle.drm_state.specs.Steady.{IsSteady}
 use Rattle.drm_state.proofs.ChoiceIs.{IsChosen, choice_is, first-filter, in_filter, is_queued_of, numbered_get}
@@ -126,19 +127,19 @@ Grown old new = EachInPlace RecordGrows old new
 
 -- ---- phases
 
-begun_on : (p q : Phase) → GoesOn p q → is_queued p ≡ false → is_queued q ≡ false
+pub begun_on : (p q : Phase) → GoesOn p q → is_queued p ≡ false → is_queued q ≡ false
 begun_on Queued q goes begun = absurd (let never : true ≡ false = begun in cc (never))
 begun_on Scheduled Queued goes begun = absurd goes
 begun_on Scheduled Scheduled goes begun = refl
 begun_on Scheduled (Ended o) goes begun = refl
 begun_on (Ended o) q goes begun = ap is_queued goes
 
-not_ended_yet : (p q : Phase) → GoesOn p q → has_ended q ≡ false → has_ended p ≡ false
+pub not_ended_yet : (p q : Phase) → GoesOn p q → has_ended q ≡ false → has_ended p ≡ false
 not_ended_yet Queued q goes is = refl
 not_ended_yet Scheduled q goes is = refl
 not_ended_yet (Ended o) q goes is = absurd (let never : true ≡ false = sym (ap has_ended goes) ∙ is in cc (never))
 
-ended_begun : (p : Phase) → has_ended p ≡ true → is_queued p ≡ false
+pub ended_begun : (p : Phase) → has_ended p ≡ true → is_queued p ≡ false
 ended_begun Queued is = absurd (let never : false ≡ true = is in cc (never))
 ended_begun Scheduled is = refl
 ended_begun (Ended o) is = refl
@@ -267,18 +268,18 @@ arm_tells journal old new job is grown =
         let found = from_map wait (dependencies journal f r.job) i (g, does.Ran q) at in
         let never : does.Ran q ≡ does.Waits found.0.0 = ap (λ (u : ℕ × What). u.1) found.2 in absurd (cc (never))
 
-    after_any : (t : ℕ × What) (g on : ℕ) → After t.0 t.1 g (does.Waits on)
-    after_any (k, does.Queued p) g on = tt
-    after_any (k, does.Ran p) g on = tt
-    after_any (k, does.Waits other) g on = tt
-    after_any (k, does.Ended) g on = tt
+    after_any : (k : ℕ) (w : What) (g on : ℕ) → After k w g (does.Waits on)
+    after_any k (does.Queued p) g on = tt
+    after_any k (does.Ran p) g on = tt
+    after_any k (does.Waits other) g on = tt
+    after_any k does.Ended g on = tt
 
     pairs : (i j : ℕ) (t u : ℕ × What) → i < j → slice_get (queued_lines journal f (Some r)) i ≡ Some t → slice_get (queued_lines journal f (Some r)) j ≡ Some u
         → After t.0 t.1 u.0 u.1
     pairs i zero t u lt at also = absurd (omega (arith, lt))
     pairs i (suc j) t u lt at also =
         let found = from_map wait (dependencies journal f r.job) j u also in
-        subst (λ (v : ℕ × What). After t.0 t.1 v.0 v.1) (sym found.2) (after_any t f found.0.0)
+        subst (λ (v : ℕ × What). After t.0 t.1 v.0 v.1) (sym found.2) (after_any t.0 t.1 f found.0.0)
 
     stay : (k : ℕ) (q : JobRecord) → slice_get (old.journal ++ new_record old job ∷ []) k ≡ Some q → has_ended q.phase ≡ true
         → (x : JobRecord) × (slice_get old.journal k ≡ Some x) × (has_ended x.phase ≡ true)
@@ -289,7 +290,7 @@ arm_tells journal old new job is grown =
 
 -- ---- a job is picked
 
-begun_is : (b : Bool) → b ≡ true → b ≡ false → ⊥
+pub begun_is : (b : Bool) → b ≡ true → b ≡ false → ⊥
 begun_is true is other = let never : true ≡ false = other in cc (never)
 begun_is false is other = let never : false ≡ true = is in cc (never)
 
@@ -393,3 +394,134 @@ end_tells journal d new f r o at not_ended is = one_told journal d new f does.En
       | inl here ↦ inr (contains_at ((f, does.Ended) ∷ []) 0 (k, does.Ended) (ap (λ (n : ℕ). Some (n, does.Ended)) (sym here.0)))
       | inr other ↦ inl (q, other.1, ended)
     ]
+
+-- ---- each event
+
+-- a journal whose records are changed without their phases
+ends_stay_map : (old mid new : DeviceState) (change : JobRecord → JobRecord) → ((r : JobRecord) → (change r).phase ≡ r.phase) → new.journal ≡ map change mid.journal
+    → EndsStay old mid → EndsStay old new
+ends_stay_map old mid new change same is stay k q at ended =
+    let found = from_map change mid.journal k q (subst (λ (js : List JobRecord). slice_get js k ≡ Some q) is at) in
+    let phases : q.phase ≡ found.0.phase = ap (λ (x : JobRecord). x.phase) found.2 ∙ same found.0 in
+    stay k found.0 found.1 (ap has_ended (sym phases) ∙ ended)
+
+-- what a step tells, where the journal of all that come grows from that before it and from that behind it
+abbrev TellsOf : List JobRecord → CoreState → Event Draft → Answer × CoreState → Type 0
+TellsOf journal s e p = Grown s.device.journal journal → Grown p.1.device.journal journal → StepTells journal s.device p.1.device (lines_of journal e p.0)
+
+-- the same of a device
+abbrev TellsIn : List JobRecord → DeviceState → Event Draft → Answer × DeviceState → Type 0
+TellsIn journal d e p = Grown d.journal journal → Grown p.1.journal journal → StepTells journal d p.1 (lines_of journal e p.0)
+
+-- how a pick answers, by the job that it takes
+abbrev picks_by : DeviceState → ℕ → ℕ → Option ℕ → Answer × DeviceState
+picks_by d ring now o =
+    at_record d (λ number r. (answer.Picked number (is_guilty d r.job.entity), picked_device d ring now number)) (answer.Ok, d) o
+
+-- how a finish answers, by the head
+abbrev finishes_by : DeviceState → ℕ → ℕ → Option ℕ → Answer × DeviceState
+finishes_by d ring now o =
+    at_record d (λ number r. (answer.Finished number (final_outcome r), finished_device d ring now number (final_outcome r))) (answer.Ok, d) o
+
+-- how a reaping answers, by the first of the queue
+abbrev reaps_by : DeviceState → Option (ℕ × JobRecord) → Answer × DeviceState
+reaps_by d o =
+    option_map_or {U = Answer × DeviceState} (λ n. (answer.Reaped n.0, record d { journal = ended_at d.journal n.0 outcome.Stopped })) o (answer.Ok, d)
+
+module _ (journal : List JobRecord) where
+  still : (d : DeviceState) → StepTells journal d d []
+  still d = quiet journal d d (ends_stay_same d)
+
+  pick_by : (d : DeviceState) (ring now : ℕ) (o : Option ℕ) → IsSteady d → choice d ring ≡ o → TellsIn journal d (event.Pick ring now) (picks_by d ring now o)
+  pick_by d ring now None steady is = λ from to. still d
+  pick_by d ring now (Some f) steady is =
+      let chosen = choice_is d ring f is in
+      subst (λ (o : Option JobRecord). TellsIn journal d (event.Pick ring now)
+          (option_map_or {U = Answer × DeviceState} (λ (r : JobRecord). (answer.Picked f (is_guilty d r.job.entity), picked_device d ring now f)) o (answer.Ok, d)))
+      (sym chosen.1.at) (λ from to. pick_tells journal d ring now f chosen.0 steady chosen.1 to from)
+
+  finish_by : (d : DeviceState) (ring now : ℕ) (o : Option ℕ) → IsSteady d → ring < length d.spec.rings → head_of d ring ≡ o
+      → TellsIn journal d (event.Finish ring now) (finishes_by d ring now o)
+  finish_by d ring now None steady here is = λ from to. still d
+  finish_by d ring now (Some f) steady here is =
+      let head = head_is d ring f steady.lawful here is in
+      let not_ended : has_ended head.0.phase ≡ false = ap has_ended head.1.phase in
+      subst (λ (o : Option JobRecord). TellsIn journal d (event.Finish ring now)
+          (option_map_or {U = Answer × DeviceState} (λ (r : JobRecord). (answer.Finished f (final_outcome r), finished_device d ring now f (final_outcome r))) o (answer.Ok, d)))
+      (sym head.1.at) (λ from to. end_tells journal d (finished_device d ring now f (final_outcome head.0)) f head.0 (final_outcome head.0) head.1.at not_ended refl)
+
+  reap_by : (d : DeviceState) (entity : ℕ) (o : Option (ℕ × JobRecord)) → first (queue_of entity d.journal) ≡ o → TellsIn journal d (event.Reap entity) (reaps_by d o)
+  reap_by d entity None is = λ from to. still d
+  reap_by d entity (Some n) is =
+      let found = find_first (is_queued_of entity) (numbered d.journal) n (sym (first-filter (is_queued_of entity) (numbered d.journal)) ∙ is) in
+      let number = numbered_get d.journal 0 found.0 n found.1 in
+      let same : found.0 ≡ n.0 = omega (arith, number.0) in
+      let at : slice_get d.journal n.0 ≡ Some n.1 = subst (λ (m : ℕ). slice_get d.journal m ≡ Some n.1) same number.1 in
+      let queued = (and_parts (n.1.job.entity == entity) (is_queued n.1.phase) found.2).1 in
+      λ from to. end_tells journal d (record d { journal = ended_at d.journal n.0 outcome.Stopped }) n.0 n.1 outcome.Stopped at (queued_not_ended n.1.phase queued) refl
+
+  timeout_by : (d : DeviceState) (ring now : ℕ) → TellsIn journal d (event.Timeout ring now) (timeout_outcome d ring now)
+  timeout_by d ring now =
+      at_timeout (TellsIn journal d (event.Timeout ring now)) d ring now (λ a. λ from to. still d) (λ from to. still d) (λ from to. still d)
+      (λ f. λ from to. quiet journal d (hung_device d ring now f) (hangs f))
+      (λ f e. λ from to. quiet journal d (condemned_device (hung_device d ring now f) ring e)
+      (ends_stay_map d (hung_device d ring now f) (condemned_device (hung_device d ring now f) ring e) (condemned ring e) (λ r. refl) refl (hangs f)))
+    where
+      hangs : (f : ℕ) → EndsStay d (hung_device d ring now f)
+      hangs f = ends_stay_at d (hung_device d ring now f) f (hung d) (λ r. refl) refl
+
+  step_by : (d : DeviceState) (ring : ℕ) → TellsIn journal d (event.Step ring) (step_outcome d ring)
+  step_by d ring =
+      at_any_record (TellsIn journal d (event.Step ring)) d _ (answer.Ok, d) (current_of d ring) (λ from to. still d)
+      (λ f r. at_option (TellsIn journal d (event.Step ring)) (stepped_by d f) (slice_get r.job.packets r.ran) (answer.Ok, d) (λ from to. still d)
+      (λ p. at_cond (TellsIn journal d (event.Step ring)) (is_at d.journal f (λ r. must_stall p r.karma.resets)) (answer.Stalled f, d)
+      (answer.Ran f (option_map_or (λ r. r.ran) (slice_get d.journal f) 0), ran_device d f p) (λ from to. still d)
+      (λ from to. quiet journal d (ran_device d f p) (ends_stay_at d (ran_device d f p) f (λ r. record r { ran = r.ran + 1 }) (λ r. refl) refl))))
+
+  arm_by : (s : CoreState) (ctx : ℕ) (o : Option Draft) → TellsOf journal s (event.Arm ctx) (option_map_or {U = Answer × CoreState}
+      (λ job. (answer.Armed (length s.device.journal), context_changed (armed_core s job) ctx (λ c. record c { plan = None })))
+      o
+      (answer.Ok, s))
+  arm_by s ctx None = λ from to. still s.device
+  arm_by s ctx (Some job) =
+      at_option (λ (n : CoreState). TellsOf journal s (event.Arm ctx) (answer.Armed (length s.device.journal), n)) _ (context_of s ctx) (armed_core s job)
+      (λ from to. arm_tells journal s.device (armed_device s.device job) job refl to) (λ c. λ from to. arm_tells journal s.device (armed_device s.device job) job refl to)
+
+  outcome_tells : (s : CoreState) (e : Event Draft) → IsSteadyCore s → names_exist s.device.spec e ≡ true → TellsOf journal s e (outcome_of_event s e)
+  outcome_tells s (event.Submit draft) steady there = λ from to. arm_tells journal s.device (armed_device s.device draft) draft refl to
+  outcome_tells s (event.Begin ctx) steady there = λ from to. still s.device
+  outcome_tells s (event.Try ctx b) steady there =
+      at_option (TellsOf journal s (event.Try ctx b)) _ (holder_of s b) (answer.Held, with_holder s b (Some ctx)) (λ from to. still s.device)
+      (λ h. at_cond (TellsOf journal s (event.Try ctx b)) (nat_lt (ticket_of s h) (ticket_of s ctx))
+      (answer.Older (ticket_of s h), s) (answer.Younger (ticket_of s h), s) (λ from to. still s.device) (λ from to. still s.device))
+  outcome_tells s (event.Done ctx) steady there =
+      at_option (λ (n : CoreState). TellsOf journal s (event.Done ctx) (answer.Ok, n)) _ (context_of s ctx) s (λ from to. still s.device) (λ c. λ from to. still s.device)
+  outcome_tells s (event.Drop ctx b) steady there =
+      at_option (λ (n : CoreState). TellsOf journal s (event.Drop ctx b) (answer.Ok, n)) _ (context_of s ctx) (with_holder s b None) (λ from to. still s.device) (λ c. λ from to. still s.device)
+  outcome_tells s (event.End ctx) steady there = λ from to. still s.device
+  outcome_tells s (event.Plan ctx draft) steady there =
+      at_option (λ (n : CoreState). TellsOf journal s (event.Plan ctx draft) (answer.Planned, n)) _ (context_of s ctx) s (λ from to. still s.device) (λ c. λ from to. still s.device)
+  outcome_tells s (event.Arm ctx) steady there = arm_by s ctx (plan_of s ctx)
+  outcome_tells s (event.Pick ring now) steady there = pick_by s.device ring now (choice s.device ring) steady.device refl
+  outcome_tells s (event.Step ring) steady there = step_by s.device ring
+  outcome_tells s (event.Finish ring now) steady there =
+      finish_by s.device ring now (head_of s.device ring) steady.device (ltb-true ring (length s.device.spec.rings) there) refl
+  outcome_tells s (event.Timeout ring now) steady there = timeout_by s.device ring now
+  outcome_tells s (event.Cancel entity) steady there = λ from to. still s.device
+  outcome_tells s (event.Reap entity) steady there = reap_by s.device entity (first (queue_of entity s.device.journal)) refl
+  outcome_tells s (event.Read ctx b) steady there = λ from to. still s.device
+  outcome_tells s (event.Status f) steady there = λ from to. still s.device
+  outcome_tells s (event.Dump b) steady there = λ from to. still s.device
+
+  -- what a step tells of a steady core
+  pub step_tells : (s : CoreState) (e : Event Draft) (a : Answer) (n : CoreState) → IsSteadyCore s → names_exist s.device.spec e ≡ true → Step s e a n
+      → Grown s.device.journal journal → Grown n.device.journal journal → StepTells journal s.device n.device (lines_of journal e a)
+  step_tells s e a n steady there step from to = elim (cases_step s e a n step) [
+    | inl refused ↦
+        subst (λ (x : Answer). StepTells journal s.device n.device (lines_of journal e x)) (sym refused.answers)
+        (subst (λ (m : CoreState). StepTells journal s.device m.device (lines_of journal e (answer.Refused refused.why))) (sym refused.keeps) (still s.device))
+    | inr had ↦
+        let grown : Grown (outcome_of_event s e).1.device.journal journal = subst (λ (m : CoreState). Grown m.device.journal journal) had.leaves to in
+        subst (λ (x : Answer). StepTells journal s.device n.device (lines_of journal e x)) (sym had.answers)
+        (subst (λ (m : CoreState). StepTells journal s.device m.device (lines_of journal e (outcome_of_event s e).0)) (sym had.leaves) (outcome_tells s e steady there from grown))
+  ]

@@ -1,5 +1,5 @@
 -- The log of a run of the core: what its events and answers tell of jobs, line by line.
-use Rattle.std.specs.Prelude.{◌≡◌, ℕ, true, ◌+◌, List, [], ◌∷◌, ◌++◌, map, flat_map, zip, Option, Some, None, slice_get}
+use Rattle.std.specs.Prelude.{ℕ, false, ◌+◌, List, [], ◌∷◌, ◌++◌, map, flat_map, zip, Option, Some, None, slice_get}
 use Rattle.drm_types.specs.declared.spec.DeviceSpec.{DeviceSpec}
 use Rattle.drm_job.specs.declared.Draft.{Draft}
 use Rattle.drm_trace.specs.declared.event.Event.{Event as Line}
@@ -54,12 +54,12 @@ numbered_from line (told ∷ rest) = record { line = line; time = 0; job = told.
 abbrev pub log_of_run : List JobRecord → List (Event Draft) → List Answer → List Line
 log_of_run journal events answers = numbered_from 1 (flat_map (λ step. lines_of journal step.0 step.1) (zip events answers))
 
--- the rules without tolerance, with rings that keep their order and have no more jobs than credits
-abbrev pub demands_of_device : DeviceSpec → Demands
-demands_of_device spec = record { tolerance = 0; in_order = true; limits = map (λ ring. Some ring.credit_limit) spec.rings }
+-- the rules without tolerance, and without limits and orders of rings
+abbrev pub plain_demands : Demands
+plain_demands = record { tolerance = 0; in_order = false; limits = [] }
 
 -- the log of every run of a core that was opened keeps all rules, so what is told as broken is no run of a core
 abbrev pub EveryRunConforms : Type 0
 EveryRunConforms =
     (spec : DeviceSpec) (events : List (Event Draft)) (answers : List Answer) (state : CoreState) → AllNamesExist spec events
-    → Run (opened spec) events answers state → Conforms (demands_of_device spec) (log_of_run state.device.journal events answers)
+    → Run (opened spec) events answers state → Conforms plain_demands (log_of_run state.device.journal events answers)
