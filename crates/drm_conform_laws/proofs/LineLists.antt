@@ -56,11 +56,6 @@ pub take_right : {X : Type 0} (xs ys : List X) (k : ℕ) → take (length xs + k
 take_right [] ys k = refl
 take_right (x ∷ xs) ys k = ap (λ zs. x ∷ zs) (take_right xs ys k)
 
-pub take_left : {X : Type 0} (xs ys : List X) (i : ℕ) → i ≤ length xs → take i (xs ++ ys) ≡ take i xs
-take_left xs ys zero le = refl
-take_left [] ys (suc i) le = absurd (omega (arith, le))
-take_left (x ∷ xs) ys (suc i) le = ap (λ zs. x ∷ zs) (take_left xs ys i (omega (arith, le)))
-
 pub taken_at : {X : Type 0} (xs : List X) (n i : ℕ) (x : X) → slice_get (take n xs) i ≡ Some x → (i < n) × (slice_get xs i ≡ Some x)
 taken_at [] zero i x at = absurd (cc (at))
 taken_at [] (suc n) i x at = absurd (cc (at))

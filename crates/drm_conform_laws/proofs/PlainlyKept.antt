@@ -1,7 +1,7 @@
 -- A log that tells a run keeps the rules.
-use Rattle.std.proofs.Common.{◌≡◌, ℕ, zero, suc, ◌+◌, ◌<◌, ◌≤◌, Bool, true, false, cond, List, [], ◌∷◌, ◌++◌, length, take, Option, Some, None, refl, sym, ap, subst, ◌∙◌, inl, inr, ◌⊎◌, arith, slice_get}
+use Rattle.std.proofs.Common.{◌≡◌, ℕ, zero, suc, ◌+◌, ◌<◌, ◌≤◌, Bool, true, false, cond, List, [], ◌∷◌, ◌++◌, length, take, Option, Some, None, refl, sym, ap, subst, ◌∙◌, inl, inr, ◌⊎◌, arith, le-leb, slice_get}
 use Rattle.std.specs.Prelude.{Contains, IsTrue, ◌||◌, ◌&&◌, ◌==◌, find, is_none, nat_le, nat_lt, not}
-use Rattle.std.proofs.lemmas.Bool.{eq-eqb, eqb-true, le-leb, lt-ltb, or_right, true≢false}
+use Rattle.std.proofs.lemmas.Bool.{eq-eqb, eqb-true, lt-ltb, or_right, true≢false}
 use Rattle.drm_lists.proofs.Places.{place_of}
 use Rattle.drm_lists.proofs.Searches.{find_first}
 use Rattle.drm_state.specs.declared.journal.JobRecord.{JobRecord}

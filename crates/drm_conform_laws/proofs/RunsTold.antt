@@ -25,7 +25,7 @@ use Rattle.drm_core.specs.State.{CoreState}
 use Rattle.drm_core.specs.Steady.{IsSteadyCore}
 use Rattle.drm_core.proofs.CoreSteps.{step_is_kept}
 use Rattle.drm_conform_laws.specs.RunLogs.{lines_of}
-use Rattle.drm_conform_laws.proofs.LineLists.{either_at, take_left, take_right}
+use Rattle.drm_conform_laws.proofs.LineLists.{either_at, take_right}
 use Rattle.drm_conform_laws.proofs.StepsTold.{After, EndsTold, FindsMet, Grown, IsMetIn, Left, May, StepTells, Told, begun_is, begun_on, ended_begun, not_ended_yet, step_tells}
 
 -- ---- what comes later
@@ -136,23 +136,29 @@ joined journal d n seen ls us grown history step rest = record { may = may; told
     met_here : (i f : ℕ) (p : Place) → slice_get ls i ≡ Some (f, does.Ran p) → (on : ℕ) (x : JobRecord) → IsMetIn d p.ring on x → IsMetAt seen (ls ++ us) i p on x
     met_here i f p at on x is = elim (is) [
       | inl ended ↦ inl (Contains-append_left seen (take i (ls ++ us)) (on, does.Ended) (history on ended.0 ended.1 ended.2))
-      | inr begun ↦ inr (begun.0, λ j q lt at_j. elim (either_at ls us j (on, does.Ran q) at_j) [
-        | inl here ↦ let first = step.runs j on q here in omega (arith, lt, first)
-        | inr there ↦
-            let may_run = rest.may there.0 (on, does.Ran q) there.2 in
-            let grew = grown on begun.1.0 begun.1.1 in
-            may_run.0 on grew.0 grew.1 (begun_on begun.1.0.phase grew.0.phase grew.2.phase begun.1.2) refl
-      ])
+      | inr begun ↦ inr (
+        begun.0,
+        λ j q lt at_j. elim (either_at ls us j (on, does.Ran q) at_j) [
+          | inl here ↦ let first = step.runs j on q here in omega (arith, lt, first)
+          | inr there ↦
+              let may_run = rest.may there.0 (on, does.Ran q) there.2 in
+              let grew = grown on begun.1.0 begun.1.1 in
+              may_run.0 on grew.0 grew.1 (begun_on begun.1.0.phase grew.0.phase grew.2.phase begun.1.2) refl
+        ],
+      )
     ]
 
     met_there : (k f : ℕ) (p : Place) (on : ℕ) (x : JobRecord) → IsMetAt (seen ++ ls) us k p on x → IsMetAt seen (ls ++ us) (length ls + k) p on x
     met_there k f p on x is = elim (is) [
       | inl ended ↦
           inl (subst (λ (xs : List (ℕ × What)). Contains xs (on, does.Ended)) (append_assoc seen ls (take k us) ∙ ap (λ (xs : List (ℕ × What)). seen ++ xs) (sym (take_right ls us k))) ended)
-      | inr begun ↦ inr (begun.0, λ j q lt at_j. elim (either_at ls us j (on, does.Ran q) at_j) [
-        | inl here ↦ let within = slice_get_within ls j (on, does.Ran q) here in absurd (omega (arith, lt, within))
-        | inr there ↦ begun.1 there.0 q (omega (arith, lt, there.1)) there.2
-      ])
+      | inr begun ↦ inr (
+        begun.0,
+        λ j q lt at_j. elim (either_at ls us j (on, does.Ran q) at_j) [
+          | inl here ↦ let within = slice_get_within ls j (on, does.Ran q) here in absurd (omega (arith, lt, within))
+          | inr there ↦ begun.1 there.0 q (omega (arith, lt, there.1)) there.2
+        ],
+      )
     ]
 
     met : (i f : ℕ) (p : Place) → slice_get (ls ++ us) i ≡ Some (f, does.Ran p) → (on : ℕ) (r x : JobRecord) → on < f → slice_get journal f ≡ Some r

@@ -1,9 +1,9 @@
 -- What one step of a core tells of jobs, and what it leaves.
-use Rattle.std.proofs.Common.{◌≡◌, ℕ, zero, suc, ◌+◌, ◌<◌, ◌≤◌, Bool, true, false, List, [], ◌∷◌, ◌++◌, length, map, take, Option, Some, None, refl, sym, ap, subst, ◌∙◌, inl, inr, ◌⊎◌, arith, slice_get}
-use Rattle.std.specs.Prelude.{Contains, not, ◌&&◌, ◌||◌, ◌==◌, nat_lt, set}
+use Rattle.std.proofs.Common.{◌≡◌, ℕ, zero, suc, ◌+◌, ◌<◌, ◌≤◌, Bool, true, false, List, [], ◌∷◌, ◌++◌, length, map, take, Option, Some, None, refl, sym, ap, subst, ◌∙◌, inl, inr, ◌⊎◌, arith, set, slice_get}
+use Rattle.std.specs.Prelude.{Contains, not, ◌&&◌, ◌||◌, ◌==◌, nat_lt}
 use Rattle.std.specs.Option.{option_map_or}
-use Rattle.std.proofs.lemmas.Bool.{cases_Bool, cases_lt, both_ways, eqb-true, ltb-true, and_parts}
-use Rattle.std.proofs.lemmas.List.{length_push, length-map}
+use Rattle.std.proofs.lemmas.Bool.{cases_Bool, cases_lt, eqb-true, ltb-true, and_parts}
+use Rattle.std.proofs.lemmas.List.{length_push}
 use Rattle.std.proofs.lemmas.Option.{slice_get_within}
 use Rattle.drm_lists.proofs.Changed.{get_set_cases, get_set_same}
 use Rattle.drm_lists.proofs.Places.{contains_at, from_map, get_push_cases, place_of, stands_within}
@@ -437,7 +437,7 @@ module _ (journal : List JobRecord) where
   pick_by d ring now (Some f) steady is =
       let chosen = choice_is d ring f is in
       subst (λ (o : Option JobRecord). TellsIn journal d (event.Pick ring now)
-          (option_map_or {U = Answer × DeviceState} (λ (r : JobRecord). (answer.Picked f (is_guilty d r.job.entity), picked_device d ring now f)) o (answer.Ok, d)))
+      (option_map_or {U = Answer × DeviceState} (λ (r : JobRecord). (answer.Picked f (is_guilty d r.job.entity), picked_device d ring now f)) o (answer.Ok, d)))
       (sym chosen.1.at) (λ from to. pick_tells journal d ring now f chosen.0 steady chosen.1 to from)
 
   finish_by : (d : DeviceState) (ring now : ℕ) (o : Option ℕ) → IsSteady d → ring < length d.spec.rings → head_of d ring ≡ o
@@ -447,7 +447,7 @@ module _ (journal : List JobRecord) where
       let head = head_is d ring f steady.lawful here is in
       let not_ended : has_ended head.0.phase ≡ false = ap has_ended head.1.phase in
       subst (λ (o : Option JobRecord). TellsIn journal d (event.Finish ring now)
-          (option_map_or {U = Answer × DeviceState} (λ (r : JobRecord). (answer.Finished f (final_outcome r), finished_device d ring now f (final_outcome r))) o (answer.Ok, d)))
+      (option_map_or {U = Answer × DeviceState} (λ (r : JobRecord). (answer.Finished f (final_outcome r), finished_device d ring now f (final_outcome r))) o (answer.Ok, d)))
       (sym head.1.at) (λ from to. end_tells journal d (finished_device d ring now f (final_outcome head.0)) f head.0 (final_outcome head.0) head.1.at not_ended refl)
 
   reap_by : (d : DeviceState) (entity : ℕ) (o : Option (ℕ × JobRecord)) → first (queue_of entity d.journal) ≡ o → TellsIn journal d (event.Reap entity) (reaps_by d o)
