@@ -2,10 +2,11 @@
 
 ghost use Rattle.std.specs.Prelude.{◌≡◌, [], IfOk, false, map};
 ghost use Rattle.std.specs.String.{string_bytes};
-ghost use Rattle.clap.specs.Words.{FailsBy, app_of, fault_of, new_app, rule_of, subcommand_rows_of};
+ghost use Rattle.clap.specs.Words.{FailsBy, app_of, fault_of, found_of, new_app, rule_of, subcommand_rows_of};
+ghost use Rattle.clap.specs.Matches.{one_text};
 ghost use Rattle.clap.specs.declared.builder.command.Command.TheViews.{out-Command};
 ghost use Rattle.drm_engine.specs.declared.engine.Engine.{Engine as EngineOf};
-ghost use Rattle.drm_command_line.specs.CommandLine.{GivesAlone, IsAnythingAsked, IsAsked, IsCommandLineForWords, IsCommandLineOf, draw_app, explain_app, flag_rule, is_replay_with_words, number_rule, program_app, replay_app, run_app, text_rule, top_app};
+ghost use Rattle.drm_command_line.specs.CommandLine.{GivesAlone, IsAnythingAsked, IsAsked, IsCommandLineForWords, IsCommandLineOf, conform_app, draw_app, explain_app, flag_rule, is_on, is_replay_with_words, number_rule, program_app, replay_app, run_app, text_rule, top_app};
 ghost use Rattle.drm_command_line.specs.declared.command_line.Request.TheVariants.{ReplayWithWords, Run};
 
 use clap::builder::ValueParser;
@@ -79,6 +80,15 @@ part, the commands counted from 0, '--to' the first that is not drawn.
 Example:
   drmsim draw < examples/first_fill.script > run.svg";
 
+const CONFORM_HELP: &str = "\
+Reads the log of a kernel from standard input, as 'trace-cmd report' writes it, and tells which rules of a scheduler it \
+breaks: each in a line, with the lines that it is broken against. Then it tells how many jobs and broken rules there are, \
+what was not judged, and how long the jobs of each ring waited and ran.
+
+Example:
+  drmsim conform --jobs --limit gfx=3,sdma=2 < tests/conform/logs/bad.trace
+begins with 'line 15: job 21:1 on sdma runs before job 20:2'.";
+
 const STATUS_HELP: &str = "\
 Examples:
   drmsim replay < examples/first_fill.script
@@ -87,8 +97,8 @@ Examples:
   drmsim draw < examples/first_fill.script > run.svg
 
 Exit status:
-  0  all was done; of 'check', all bytes are the same
-  1  of 'check', a byte differs; of 'run', a worker gave up or a thread could not be started
+  0  all was done; of 'check', all bytes are the same; of 'conform', all rules are kept
+  1  of 'check', a byte differs; of 'conform', a rule is broken; of 'run', a worker gave up or a thread could not be started
   2  the command line, the text or its device is refused, and standard error says where
   3  memory was refused
   4  a read or a write failed
@@ -225,6 +235,41 @@ fn draw_command<'a>(alloc: Global) -> Result<Command<'a>, AllocError>
     .arg(to)
 }
 
+/// The command that judges the log of a kernel.
+fn conform_command<'a>(alloc: Global) -> Result<Command<'a>, AllocError>
+    ensures app { IfOk result (λ command. app_of command ≡ conform_app) }
+    ensures local { IfOk result (λ command. (out-Command command).has_globals ≡ false) }
+{
+    let jobs = flag(alloc, "jobs", "Tells the times of each job");
+    let in_order = flag(
+        alloc,
+        "in-order",
+        "Asks that each ring ends its jobs in the order in which it ran them",
+    );
+    let limit = text(
+        alloc,
+        "limit",
+        "RING=N",
+        "Asks that a ring has at most N jobs at once; further rings stand behind commas",
+    );
+    let tolerance = text(
+        alloc,
+        "tolerance",
+        "NS",
+        "Lines less than NS nanoseconds apart may stand in either order",
+    );
+    command(
+        alloc,
+        "conform",
+        "Judges the log of a kernel by the rules of a scheduler",
+        CONFORM_HELP,
+    )
+    .arg(jobs)?
+    .arg(in_order)?
+    .arg(limit)?
+    .arg(tolerance)
+}
+
 /// The program without its commands.
 fn bare_program<'a>(alloc: Global) -> Command<'a>
     ensures app { app_of result ≡ top_app }
@@ -266,7 +311,9 @@ fn program<'a>(alloc: Global) -> Result<Command<'a>, AllocError>
     let explain = explain_command(alloc)?;
     let explains = runs.subcommand(explain)?;
     let draw = draw_command(alloc)?;
-    explains.subcommand(draw)
+    let draws = explains.subcommand(draw)?;
+    let conform = conform_command(alloc)?;
+    draws.subcommand(conform)
 }
 
 /// What the words of the command line ask for.
@@ -292,6 +339,24 @@ pub enum Request<'a> {
         /// The first that is not.
         to: Option<&'a str>,
     },
+    /// To judge the log of a kernel.
+    Conform {
+        /// Whether the times of each job are told.
+        jobs: bool,
+        /// Whether rings end their jobs in the order in which they ran them.
+        in_order: bool,
+        /// The limits of rings.
+        limits: Option<&'a str>,
+        /// How far lines may be out of order.
+        tolerance: Option<&'a str>,
+    },
+}
+
+/// Whether a flag of the command that was found is on.
+fn is_given(matches: &ArgMatches, name: &str) -> bool
+    ensures { result ≡ is_on (one_text (found_of matches.now) name.now) }
+{
+    matches.get_one(name).unwrap_or(false)
 }
 
 /// Whether the command that was found answers a script, and its flag for words is on.
@@ -330,6 +395,14 @@ pub fn read_words<'a>(alloc: Global, words: &'a [String]) -> Result<Request<'a>,
         return Ok(Request::Draw {
             from: draw.get_str("from"),
             to: draw.get_str("to"),
+        });
+    }
+    if let Some(conform) = matches.subcommand_matches("conform") {
+        return Ok(Request::Conform {
+            jobs: is_given(conform, "jobs"),
+            in_order: is_given(conform, "in-order"),
+            limits: conform.get_str("limit"),
+            tolerance: conform.get_str("tolerance"),
         });
     }
     match matches.subcommand_name() {

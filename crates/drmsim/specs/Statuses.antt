@@ -6,6 +6,10 @@ use Rattle.clap.specs.declared.error.kind.ErrorKind.{ErrorKind}
 use Rattle.clap.specs.declared.error.kind.ErrorKind.TheVariants as kind
 use Rattle.drm_text.specs.Number.{number_up_to}
 use Rattle.drm_stream.specs.Streams.{SinkState, SourceState}
+use Rattle.drm_conform.specs.declared.options.Options.{Options}
+use Rattle.drm_conform.specs.declared.verdict.Verdict.{Verdict}
+use Rattle.drm_conform.specs.Verdicts as judging
+use Rattle.drm_conform_asked.specs.Asked.{options_asked}
 use Rattle.drm_engine.specs.declared.ending.Ending.{Ending}
 use Rattle.drm_engine.specs.declared.ending.Ending.TheVariants as ending
 use Rattle.drm_engine.specs.Endings.{status_of}
@@ -48,19 +52,44 @@ Does (request.Work submitters turns) before after old new ended = worked.Runs su
 Does (request.Explain word) before after old new ended = (after ≡ before) × Tells (option_map (λ w. w.now) word) old.contents new.contents ended
 Does (request.Draw from to) before after old new ended =
     DrawsBetween (number_of_word 0 (option_map (λ w. w.now) from)) (number_of_word 4294967295 (option_map (λ w. w.now) to)) before after old new ended
+Does (request.Conform jobs in_order limits tolerance) before after old new ended = ⊥
+
+-- a log was judged by the options that are asked for, and this is the exit status; or it was not, since there are no such
+-- options or memory was refused
+abbrev pub JudgesAs : Option Options → SourceState → SourceState → SinkState → SinkState → ℕ → Type 0
+JudgesAs asked before after old new status =
+    (IsUnused before after old new × ((status ≡ 3) ⊎ ((asked ≡ None) × (status ≡ 2))))
+    ⊎ ((options : Options) × (asked ≡ Some options)
+    × ((told : Verdict) × judging.Tells options before.remaining old.contents new.contents told × judging.JudgedBy before after old new told × (status ≡ judging.status_of told)))
 
 -- what was asked for was done to an ending, of which this is the exit status, by what became of its reads and writes
-abbrev pub EndsAs : Request → SourceState → SourceState → SinkState → SinkState → ℕ → Type 0
-EndsAs asked before after old new status =
+abbrev pub EndsSo : Request → SourceState → SourceState → SinkState → SinkState → ℕ → Type 0
+EndsSo asked before after old new status =
     (ended : Ending) × Does asked before after old new ended × EndsBy before after old new ended × (status ≡ status_of ended)
+
+-- the same of what is asked for, where a log is judged by itself
+abbrev pub EndsAs : Request → SourceState → SourceState → SinkState → SinkState → ℕ → Type 0
+EndsAs (request.Conform jobs in_order limits tolerance) before after old new status =
+    JudgesAs (options_asked jobs in_order (option_map (λ w. w.now) limits) (option_map (λ w. w.now) tolerance)) before after old new status
+EndsAs (request.Run engine) before after old new status = EndsSo (request.Run engine) before after old new status
+EndsAs request.ReplayWithWords before after old new status = EndsSo request.ReplayWithWords before after old new status
+EndsAs (request.Work submitters turns) before after old new status = EndsSo (request.Work submitters turns) before after old new status
+EndsAs (request.Explain word) before after old new status = EndsSo (request.Explain word) before after old new status
+EndsAs (request.Draw from to) before after old new status = EndsSo (request.Draw from to) before after old new status
 
 -- the words ask for something, which ended as this exit status tells
 abbrev pub IsObeyed : List Text → SourceState → SourceState → SinkState → SinkState → ℕ → Type 0
 IsObeyed words before after old new status = (asked : Request) × IsAsked words asked × EndsAs asked before after old new status
 
 -- there are as many submitters as there may be, where some are asked for
+abbrev pub IsWithinBounds : Request → Type 0
+IsWithinBounds (request.Work submitters turns) = (0 < submitters) × (submitters ≤ most_submitters)
+IsWithinBounds other = Unit {0}
+
+-- the same of what has an ending: a log is judged by itself
 abbrev pub MayHappen : Request → Type 0
 MayHappen (request.Work submitters turns) = (0 < submitters) × (submitters ≤ most_submitters)
+MayHappen (request.Conform jobs in_order limits tolerance) = ⊥
 MayHappen other = Unit {0}
 
 -- the exit status after an error of the words, which was printed or could not be: help and the version are asked for

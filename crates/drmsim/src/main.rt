@@ -14,16 +14,26 @@ ghost use Rattle.std.specs.String.{string_bytes};
 ghost use Rattle.clap.specs.Words.{fault_of, kind_of};
 ghost use Rattle.drm_command_line.specs.CommandLine.{IsCommandLineForWords, IsCommandLineOf, program_app};
 ghost use Rattle.drm_command_line.specs.declared.command_line.Request.TheVariants.{ReplayWithWords, Run};
+ghost use Rattle.drm_conform.specs.Verdicts.{status_of as status_of_verdict};
+ghost use Rattle.drm_conform_asked.specs.Asked.{options_asked};
 ghost use Rattle.drm_engine.specs.Endings.{status_of};
 ghost use Rattle.drm_engine.specs.Failures.{EndsBy};
 ghost use Rattle.drm_engine.specs.declared.engine.Engine.{Engine as EngineOf};
 ghost use Rattle.drm_run.specs.Runs.{Runs};
-ghost use Rattle.drmsim.specs.Statuses.{Does, DrawsBetween, EndsAs, IsObeyed, IsRefusal, MayHappen, number_of_word, status_of_error};
+ghost use Rattle.drmsim.specs.Statuses.{Does, DrawsBetween, EndsAs, IsObeyed, IsRefusal, IsWithinBounds, JudgesAs, MayHappen, number_of_word, status_of_error};
 
 mod progress;
 
+/// The exit status where the command line is refused.
+const REFUSED: u8 = 2;
+
+/// What is told where a word spells no limit or no tolerance.
+const BAD_OPTIONS: &str = "error: '--limit' takes rings and numbers, as in gfx=3,sdma=2, and '--tolerance' a number of nanoseconds\n\nFor more information, try '--help'.";
+
 use clap::error::ErrorKind as WordsError;
 use drm_command_line::{Request, read_words};
+use drm_conform::{Verdict, conform};
+use drm_conform_asked::read_options;
 use drm_draw::draw;
 use drm_engine::Ending;
 use drm_explain::tell_word;
@@ -136,6 +146,39 @@ fn work<H: Threads + Wait + Sync, R: Read, W: Write>(
     ending
 }
 
+/// Tells how the judging of a log ended, on standard error unless standard output has.
+fn tell_verdict(rt: &HostRuntime, verdict: Verdict) -> ExitCode
+    ensures { exit_status result ≡ status_of_verdict verdict }
+{
+    if !matches!(verdict, Verdict::Kept | Verdict::Broken) {
+        eprintln!(rt; "{verdict}").ok();
+    }
+    ExitCode::from(verdict.status())
+}
+
+/// Judges the log of a kernel as two flags and two words ask, or tells that a word spells no limit or no tolerance.
+fn judge<R: Read, W: Write>(
+    rt: &HostRuntime,
+    jobs: bool,
+    in_order: bool,
+    limits: Option<&str>,
+    tolerance: Option<&str>,
+    reader: &mut Source<R>,
+    writer: &mut Sink<W>,
+) -> ExitCode
+    ensures { JudgesAs (options_asked jobs in_order (option_map (λ w. w.now) limits.entry) (option_map (λ w. w.now) tolerance.entry))
+        reader.old reader.new writer.old writer.new (exit_status result) }
+{
+    match read_options(rt.alloc(), jobs, in_order, limits, tolerance) {
+        Ok(Some(options)) => tell_verdict(rt, conform(rt.alloc(), &options, reader, writer)),
+        Ok(None) => {
+            eprintln!(rt; "{BAD_OPTIONS}").ok();
+            ExitCode::from(REFUSED)
+        }
+        Err(_) => tell(rt, Ending::NoMemory),
+    }
+}
+
 /// Does what is asked for, between the reader and the writer; `threads` is what may start them.
 fn fulfil<H: Threads + Wait + Sync, R: Read, W: Write>(
     rt: &HostRuntime,
@@ -156,6 +199,32 @@ fn fulfil<H: Threads + Wait + Sync, R: Read, W: Write>(
         }
         Request::Explain(word) => tell_word(rt.alloc(), word, writer),
         Request::Draw { from, to } => draw_part(rt.alloc(), from, to, reader, writer),
+        Request::Conform { .. } => unreachable!(),
+    }
+}
+
+/// Does what is asked for, and tells how it ended.
+fn carry_out<H: Threads + Wait + Sync, R: Read, W: Write>(
+    rt: &HostRuntime,
+    threads: &H,
+    request: Request,
+    reader: &mut Source<R>,
+    writer: &mut Sink<W>,
+) -> ExitCode
+    requires { IsWithinBounds request }
+    ensures { EndsAs request.entry reader.old reader.new writer.old writer.new (exit_status result) }
+{
+    match request {
+        Request::Conform {
+            jobs,
+            in_order,
+            limits,
+            tolerance,
+        } => judge(rt, jobs, in_order, limits, tolerance, reader, writer),
+        _ => {
+            let ending = fulfil(rt, threads, request, reader, writer);
+            tell(rt, ending)
+        }
     }
 }
 
@@ -181,10 +250,7 @@ fn obey<H: Threads + Wait + Sync, R: Read, W: Write>(
         → IsRefusal (fault_of program_app (map string_bytes words.now)) (exit_status result) }
 {
     match read_words(rt.alloc(), words) {
-        Ok(request) => {
-            let ending = fulfil(rt, threads, request, reader, writer);
-            tell(rt, ending)
-        }
+        Ok(request) => carry_out(rt, threads, request, reader, writer),
         Err(error) => explain(rt, &error),
     }
 }
