@@ -1,12 +1,12 @@
 -- Lines of a log with their numbers, and where they stand.
-use Rattle.std.proofs.Common.{◌≡◌, ℕ, zero, suc, ◌+◌, ◌<◌, ◌≤◌, Bool, true, false, cond, List, [], ◌∷◌, ◌++◌, length, take, Option, Some, None, refl, sym, ap, ◌∙◌, inl, inr, ◌⊎◌, arith, slice_get}
+use Rattle.std.proofs.Common.{◌≡◌, ℕ, zero, suc, ◌+◌, ◌<◌, Bool, true, false, cond, List, [], ◌∷◌, ◌++◌, length, take, Option, Some, None, refl, sym, ap, ◌∙◌, inl, inr, ◌⊎◌, arith, slice_get}
 use Rattle.std.specs.Prelude.{find}
 use Rattle.std.specs.Option.{option_or}
 use Rattle.std.proofs.lemmas.Bool.{true≢false}
 use Rattle.drm_lists.proofs.Searches.{find_first}
 use Rattle.drm_trace.specs.declared.event.Event.{Event as Line}
 use Rattle.drm_trace.specs.declared.event.What.{What}
-use Rattle.drm_rules.specs.Lines.{first_in, is_line, last_in}
+use Rattle.drm_rules.specs.Lines.{first_in, last_in}
 use Rattle.drm_rules.specs.Rows.{is_in, item_in}
 use Rattle.drm_conform_laws.specs.RunLogs.{numbered_from}
 
@@ -45,7 +45,7 @@ left_at (z ∷ xs) ys (suc i) x at = left_at xs ys i x at
 
 pub either_at : {X : Type 0} (xs ys : List X) (i : ℕ) (x : X) → slice_get (xs ++ ys) i ≡ Some x
     → (slice_get xs i ≡ Some x) ⊎ ((k : ℕ) × (i ≡ length xs + k) × (slice_get ys k ≡ Some x))
-either_at [] ys i x at = inr (i, refl, at)
+either_at [] ys i x at = inr (i, omega arith, at)
 either_at (z ∷ xs) ys zero x at = inl at
 either_at (z ∷ xs) ys (suc i) x at = elim (either_at xs ys i x at) [
   | inl here ↦ inl here
@@ -53,8 +53,10 @@ either_at (z ∷ xs) ys (suc i) x at = elim (either_at xs ys i x at) [
 ]
 
 pub take_right : {X : Type 0} (xs ys : List X) (k : ℕ) → take (length xs + k) (xs ++ ys) ≡ xs ++ take k ys
-take_right [] ys k = refl
-take_right (x ∷ xs) ys k = ap (λ zs. x ∷ zs) (take_right xs ys k)
+take_right [] ys k = let number : 0 + k ≡ k = omega arith in ap (λ (n : ℕ). take n ys) number
+take_right (x ∷ xs) ys k =
+    let number : length (x ∷ xs) + k ≡ suc (length xs + k) = omega arith in
+    ap (λ (n : ℕ). take n (x ∷ (xs ++ ys))) number ∙ ap (λ zs. x ∷ zs) (take_right xs ys k)
 
 pub taken_at : {X : Type 0} (xs : List X) (n i : ℕ) (x : X) → slice_get (take n xs) i ≡ Some x → (i < n) × (slice_get xs i ≡ Some x)
 taken_at [] zero i x at = absurd (cc (at))
@@ -65,14 +67,15 @@ taken_at (z ∷ xs) (suc n) (suc i) x at = let found = taken_at xs n i x at in (
 
 -- ---- the first and the last of a lane
 
+fails_test : {X : Type 0} (p : X → Bool) (z x : X) (xs : List X) (here : Bool) → p z ≡ here → cond here (Some z) (find p xs) ≡ None → (i : ℕ) → slice_get (z ∷ xs) i ≡ Some x
+    → (find p xs ≡ None → (k : ℕ) → slice_get xs k ≡ Some x → p x ≡ false) → p x ≡ false
+fails_test p z x xs true is none i at later = absurd (cc (none))
+fails_test p z x xs false is none zero at later = let same : z ≡ x = cc (at) in ap p (sym same) ∙ is
+fails_test p z x xs false is none (suc i) at later = later none i at
+
 pub find_fails : {X : Type 0} (p : X → Bool) (xs : List X) (i : ℕ) (x : X) → find p xs ≡ None → slice_get xs i ≡ Some x → p x ≡ false
 find_fails p [] i x none at = absurd (cc (at))
-find_fails p (z ∷ xs) i x none at = by_test (p z) refl none i at
-  where
-    by_test : (here : Bool) → p z ≡ here → cond here (Some z) (find p xs) ≡ None → (i : ℕ) → slice_get (z ∷ xs) i ≡ Some x → p x ≡ false
-    by_test true is none i at = absurd (cc (none))
-    by_test false is none zero at = let same : z ≡ x = cc (at) in ap p (sym same) ∙ is
-    by_test false is none (suc i) at = find_fails p xs i x none at
+find_fails p (z ∷ xs) i x none at = fails_test p z x xs (p z) refl none i at (λ nothing k at_k. find_fails p xs k x nothing at_k)
 
 pub compared : (b i : ℕ) → (b < i) ⊎ ((b ≡ i) ⊎ (i < b))
 compared zero zero = inr (inl refl)
@@ -109,15 +112,18 @@ is_first lane log k i e at of_lane none_before = by_find (first_in lane log k) r
         first_place lane log k i found.0 e x at of_lane none_before found.1 found.2 found.3
 
 -- the last of a lane stands somewhere and is of the lane
+abbrev StandsIn : (Line → Option ℕ) → List Line → ℕ → Line → Type 0
+StandsIn lane log k e = (i : ℕ) × (slice_get log i ≡ Some e) × (is_in (lane e) k ≡ true)
+
+last_test : (lane : Line → Option ℕ) (x e : Line) (log : List Line) (k : ℕ) (here : Bool) → is_in (lane x) k ≡ here → cond here (Some x) None ≡ Some e → StandsIn lane (x ∷ log) k e
+last_test lane x e log k true of_lane found = let same : x ≡ e = cc (found) in (zero, found, ap (λ (y : Line). is_in (lane y) k) (sym same) ∙ of_lane)
+last_test lane x e log k false of_lane found = absurd (cc (found))
+
+last_or : (lane : Line → Option ℕ) (x e : Line) (log : List Line) (k : ℕ) (o : Option Line) → option_or o (item_in (lane x) x k) ≡ Some e
+    → (o ≡ Some e → StandsIn lane log k e) → StandsIn lane (x ∷ log) k e
+last_or lane x e log k None found later = last_test lane x e log k (is_in (lane x) k) refl found
+last_or lane x e log k (Some y) found later = let there = later found in (suc there.0, there.1, there.2)
+
 pub last_at : (lane : Line → Option ℕ) (log : List Line) (k : ℕ) (e : Line) → last_in lane log k ≡ Some e → (i : ℕ) × (slice_get log i ≡ Some e) × (is_in (lane e) k ≡ true)
 last_at lane [] k e is = absurd (cc (is))
-last_at lane (x ∷ log) k e is = by_later (last_in lane log k) refl is
-  where
-    by_test : (here : Bool) → is_in (lane x) k ≡ here → cond here (Some x) None ≡ Some e → (i : ℕ) × (slice_get (x ∷ log) i ≡ Some e) × (is_in (lane e) k ≡ true)
-    by_test true of_lane found = let same : x ≡ e = cc (found) in (zero, found, ap (λ (y : Line). is_in (lane y) k) (sym same) ∙ of_lane)
-    by_test false of_lane found = absurd (cc (found))
-
-    by_later : (o : Option Line) → last_in lane log k ≡ o → option_or o (item_in (lane x) x k) ≡ Some e → (i : ℕ) × (slice_get (x ∷ log) i ≡ Some e) × (is_in (lane e) k ≡ true)
-    by_later None none found = by_test (is_in (lane x) k) refl found
-    by_later (Some y) some found =
-        let later = last_at lane log k e (some ∙ found) in (suc later.0, later.1, later.2)
+last_at lane (x ∷ log) k e is = last_or lane x e log k (last_in lane log k) is (λ so. last_at lane log k e so)

@@ -1,11 +1,11 @@
 -- A log that tells a run keeps the rules.
-use Rattle.std.proofs.Common.{◌≡◌, ℕ, zero, suc, ◌+◌, ◌<◌, ◌≤◌, Bool, true, false, cond, List, [], ◌∷◌, ◌++◌, length, take, Option, Some, None, refl, sym, ap, subst, ◌∙◌, inl, inr, ◌⊎◌, arith, le-leb, slice_get}
-use Rattle.std.specs.Prelude.{Contains, IsTrue, ◌||◌, ◌&&◌, ◌==◌, find, is_none, nat_le, nat_lt, not}
+use Rattle.std.proofs.Common.{◌≡◌, ℕ, ◌+◌, ◌<◌, ◌≤◌, Bool, true, false, cond, List, [], take, Option, Some, None, refl, sym, ap, subst, ◌∙◌, inl, inr, arith, le-leb, slice_get}
+use Rattle.std.specs.Prelude.{◌||◌, ◌&&◌, ◌==◌, is_none, nat_le, nat_lt}
 use Rattle.std.proofs.lemmas.Bool.{eq-eqb, eqb-true, lt-ltb, or_right, true≢false}
+use Rattle.std.proofs.lemmas.Option.{same_Some}
 use Rattle.drm_lists.proofs.Places.{place_of}
 use Rattle.drm_lists.proofs.Searches.{find_first}
 use Rattle.drm_state.specs.declared.journal.JobRecord.{JobRecord}
-use Rattle.drm_state.specs.Order.{comes_after}
 use Rattle.drm_state.specs.State.{DeviceState}
 use Rattle.drm_state.proofs.Found.{find_none}
 use Rattle.drm_trace.specs.declared.event.Event.{Event as Line}
@@ -170,7 +170,8 @@ module _ (journal : List JobRecord) (d : DeviceState) (ts : List (ℕ × What)) 
         | inr rest ↦ elim rest [
           | inl same ↦
               let both : ◌≡◌ {A = Option (ℕ × What)} (Some (f, does.Queued q.0)) (Some (f, does.Ran p)) = sym here ∙ ap (slice_get ts) same ∙ at in
-              absurd (cc (both))
+              let kinds : does.Queued q.0 ≡ does.Ran p = ap (λ (u : ℕ × What). u.1) (same_Some _ _ both) in
+              absurd (cc (kinds))
           | inr more ↦ absurd (not_less f (after i b f f (does.Ran p) (does.Queued q.0) more at here))
         ]
       ]
@@ -204,7 +205,7 @@ module _ (journal : List JobRecord) (d : DeviceState) (ts : List (ℕ × What)) 
     | inr rest ↦ elim rest [
       | inl same ↦
           let both : ◌≡◌ {A = Option (ℕ × What)} (Some (on, does.Ran q)) (Some (f, does.Ran p)) = sym here ∙ ap (slice_get ts) same ∙ at in
-          let jobs : on ≡ f = cc (both) in absurd (omega (arith, jobs, lt))
+          let jobs : on ≡ f = ap (λ (u : ℕ × What). u.0) (same_Some _ _ both) in absurd (omega (arith, jobs, lt))
       | inr more ↦ absurd (not_later k q more here)
     ]
   ]
@@ -314,7 +315,8 @@ module _ (journal : List JobRecord) (d : DeviceState) (ts : List (ℕ × What)) 
         | inr rest ↦ elim rest [
           | inl same ↦
               let both : ◌≡◌ {A = Option (ℕ × What)} (Some (f, does.Ran q.0)) (Some (f, does.Ended)) = sym here ∙ ap (slice_get ts) same ∙ at in
-              absurd (cc (both))
+              let kinds : does.Ran q.0 ≡ does.Ended = ap (λ (u : ℕ × What). u.1) (same_Some _ _ both) in
+              absurd (cc (kinds))
           | inr more ↦ absurd (after i b f f does.Ended (does.Ran q.0) more at here refl)
         ]
       ]

@@ -1,5 +1,5 @@
 -- What a run of a core tells of jobs, entry by entry.
-use Rattle.std.proofs.Common.{◌≡◌, ℕ, zero, suc, ◌+◌, ◌<◌, ◌≤◌, Bool, true, false, List, [], ◌∷◌, ◌++◌, append_assoc, append-nil, length, take, Option, Some, None, refl, sym, ap, subst, ◌∙◌, inl, inr, ◌⊎◌, arith, slice_get}
+use Rattle.std.proofs.Common.{◌≡◌, ℕ, ◌+◌, ◌<◌, ◌≤◌, true, List, [], ◌∷◌, ◌++◌, append_assoc, length, take, Some, refl, sym, ap, subst, ◌∙◌, inl, inr, ◌⊎◌, arith, slice_get}
 use Rattle.std.specs.Prelude.{Contains, flat_map, zip}
 use Rattle.std.proofs.lemmas.Bool.{cases_lt}
 use Rattle.std.proofs.lemmas.List.Elements.{Contains-append_left, Contains-append_right}
@@ -7,7 +7,7 @@ use Rattle.std.proofs.lemmas.Option.{slice_get_within}
 use Rattle.drm_lists.proofs.Places.{stands_within}
 use Rattle.drm_types.specs.declared.spec.DeviceSpec.{DeviceSpec}
 use Rattle.drm_job.specs.declared.Draft.{Draft}
-use Rattle.drm_fence.specs.Phases.{has_ended, is_queued}
+use Rattle.drm_fence.specs.Phases.{has_ended}
 use Rattle.drm_trace.specs.declared.event.Place.{Place}
 use Rattle.drm_trace.specs.declared.event.What.{What}
 use Rattle.drm_trace.specs.declared.event.What.TheVariants as does
@@ -26,7 +26,7 @@ use Rattle.drm_core.specs.Steady.{IsSteadyCore}
 use Rattle.drm_core.proofs.CoreSteps.{step_is_kept}
 use Rattle.drm_conform_laws.specs.RunLogs.{lines_of}
 use Rattle.drm_conform_laws.proofs.LineLists.{either_at, take_right}
-use Rattle.drm_conform_laws.proofs.StepsTold.{After, EndsTold, FindsMet, Grown, IsMetIn, Left, May, StepTells, Told, begun_is, begun_on, ended_begun, not_ended_yet, step_tells}
+use Rattle.drm_conform_laws.proofs.StepsTold.{After, EndsTold, Grown, IsMetIn, Left, May, StepTells, Told, begun_is, begun_on, ended_begun, not_ended_yet, step_tells}
 
 -- ---- what comes later
 

@@ -26,13 +26,12 @@ use Rattle.drm_state.specs.Arming.{armed_device, new_record}
 use Rattle.drm_state.specs.Choice.{choice, queue_of}
 use Rattle.drm_state.specs.Grows.{EachInPlace, GoesOn, RecordGrows}
 use Rattle.drm_state.specs.Journal.{changed_at, is_at, numbered}
-use Rattle.drm_state.specs.Lawful.{IsLawfulDevice}
 use Rattle.drm_state.specs.Order.{comes_after, dependencies, is_met}
-use Rattle.drm_state.specs.Outcomes.{at_record, condemned, condemned_device, ended_at, final_outcome, finished_device, hung, hung_device, must_stall, picked_device, ran_device, step_outcome, stepped_by, timeout_outcome}
+use Rattle.drm_state.specs.Outcomes.{at_record, cancelled_device, condemned, condemned_device, ended_at, final_outcome, finished_device, hung, hung_device, must_stall, picked_device, ran_device, step_outcome, stepped_by, timeout_outcome}
 use Rattle.drm_state.specs.Ring.{current_of, head_of, is_guilty}
 use Rattle.drm_state.specs.Steady.{IsSteady}
 use Rattle.drm_state.proofs.ChoiceIs.{IsChosen, choice_is, first-filter, in_filter, is_queued_of, numbered_get}
-use Rattle.drm_state.proofs.FinishLawful.{IsHead, head_is}
+use Rattle.drm_state.proofs.FinishLawful.{head_is}
 use Rattle.drm_state.proofs.Records.{changed_is}
 use Rattle.drm_core.specs.declared.event.Event.{Event}
 use Rattle.drm_core.specs.declared.event.Event.TheVariants as event
@@ -507,7 +506,7 @@ module _ (journal : List JobRecord) where
   outcome_tells s (event.Finish ring now) steady there =
       finish_by s.device ring now (head_of s.device ring) steady.device (ltb-true ring (length s.device.spec.rings) there) refl
   outcome_tells s (event.Timeout ring now) steady there = timeout_by s.device ring now
-  outcome_tells s (event.Cancel entity) steady there = λ from to. still s.device
+  outcome_tells s (event.Cancel entity) steady there = λ from to. quiet journal s.device (cancelled_device s.device entity) (λ f q at ended. (q, at, ended))
   outcome_tells s (event.Reap entity) steady there = reap_by s.device entity (first (queue_of entity s.device.journal)) refl
   outcome_tells s (event.Read ctx b) steady there = λ from to. still s.device
   outcome_tells s (event.Status f) steady there = λ from to. still s.device

@@ -1,5 +1,5 @@
 -- The log of a run of the core: what its events and answers tell of jobs, line by line.
-use Rattle.std.specs.Prelude.{ℕ, false, ◌+◌, List, [], ◌∷◌, ◌++◌, map, flat_map, zip, Option, Some, None, slice_get}
+use Rattle.std.specs.Prelude.{ℕ, false, ◌+◌, List, [], ◌∷◌, map, flat_map, zip, Option, Some, None, slice_get}
 use Rattle.drm_types.specs.declared.spec.DeviceSpec.{DeviceSpec}
 use Rattle.drm_job.specs.declared.Draft.{Draft}
 use Rattle.drm_trace.specs.declared.event.Event.{Event as Line}
