@@ -25,3 +25,4 @@ pub mod HeadlineKept
 pub mod CoreStands
 pub mod Lists
 pub mod DeviceFacts
+pub mod Telling

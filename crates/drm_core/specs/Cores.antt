@@ -1,11 +1,13 @@
 -- The state that a core's parts stand for, and what they keep.
-use Rattle.std.specs.Prelude.{◌≡◌, ℕ, ◌≤◌, ◌^◌, IsTrue, length, map, Option, Some, None, option_map, slice_get}
+use Rattle.std.specs.Prelude.{◌≡◌, ℕ, ◌≤◌, ◌^◌, IsTrue, List, length, map, Option, Some, None, option_map, slice_get}
 use Rattle.std.specs.Option.{option_map_or}
 use Rattle.drm_resv.specs.Reservation.{WithRoom}
 use Rattle.drm_state.specs.declared.plans.Plan.{Plan}
 use Rattle.drm_core.specs.declared.cores.ContextRow.{ContextRow}
 use Rattle.drm_core.specs.declared.cores.CoreTable.{CoreTable}
 use Rattle.drm_core.specs.State.{Context, CoreState}
+use Rattle.drm_core.specs.Bytes.{option_bytes}
+use Rattle.drm_core.specs.Outline.{context_bytes}
 use Rattle.drm_core.specs.Context.{holds_all}
 use Rattle.drm_state.specs.Reservation.{usage_at}
 use Rattle.drm_core.specs.Steady.{IsSteadyCore, PlansHeld, HoldersBegun, JobsHavePlace}
@@ -25,6 +27,10 @@ core_state c = record {
   contexts = map (option_map context_of_row) c.contexts.items;
   next_ticket = c.next_ticket;
 }
+
+-- the bytes that tell the context of a row, if it has begun
+abbrev pub row_bytes : Option ContextRow → List ℕ
+row_bytes row = option_bytes context_bytes (option_map context_of_row row)
 
 -- the plan of a context
 abbrev pub planned_by : CoreTable → ℕ → Option Plan

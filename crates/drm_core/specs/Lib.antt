@@ -10,6 +10,9 @@ pub mod Run
 pub mod Lawful
 pub mod Steady
 pub mod Headline
+-- what of a core decides what may come
+pub mod Bytes
+pub mod Outline
 -- What helps the bodies: no promise of a core rests on these.
 pub mod Cores
 pub mod Planning

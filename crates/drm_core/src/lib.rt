@@ -17,6 +17,7 @@ mod locking;
 mod looking;
 mod machine;
 mod names;
+mod outline;
 mod planned;
 mod planning;
 mod submission;
@@ -30,3 +31,4 @@ pub use drm_sched::{
 pub use event::Event;
 pub use laws::{every_run_is_lawful, headline};
 pub use machine::Core;
+pub use outline::{put_draft, put_job, put_number};

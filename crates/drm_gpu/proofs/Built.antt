@@ -23,7 +23,7 @@ few_buffers spec none =
 pub few_entities : (spec : DeviceSpec) → spec_fault spec ≡ None → length spec.entities ≤ 64
 few_entities spec none =
     let count : is_between 1 64 (length spec.entities) ≡ true = none_when (is_between 1 64 (length spec.entities)) (record { part = 6; index = 0 })
-    (none_at (tests_of spec) 6 (whole 6 (is_between 1 64 (length spec.entities))) none refl) in
+    (none_at (spec_tests spec) 6 (whole 6 (is_between 1 64 (length spec.entities))) none refl) in
     leb-true (length spec.entities) 64 (and_parts (nat_le 1 (length spec.entities)) (nat_le (length spec.entities) 64) count).1
 
 pub some_jobs : (spec : DeviceSpec) → spec_fault spec ≡ None → 0 < spec.max_jobs

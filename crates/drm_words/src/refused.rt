@@ -5,11 +5,11 @@ ghost use Rattle.drm_answer.specs.Answers.{number_of_list, numbers_of_fault};
 ghost use Rattle.drm_words.specs.Refused.{case_of, case_of_fault, first_number, idle_case, number_of_refusal, said_of_refusal, stopped_case};
 
 use crate::filling::Numbers;
-use crate::subject::Subject;
-use drm_core::Refusal;
+use crate::named::{buffer_in, ctx_in, entity_in, ring_in};
+use drm_core::{Event, Refusal};
 use drm_explain::sentence;
 use drm_job::{DraftList, JobFault};
-use drm_text::Command;
+use drm_types::EntityId;
 
 // The number of a refusal, which of the sentences in its row is said of it, counted from 0, and the numbers in that.
 type Choice = (u32, usize, Numbers);
@@ -26,11 +26,11 @@ fn list_case(list: DraftList) -> usize
 }
 
 // Why a job is none of the device.
-fn choice_of_fault(subject: Subject, fault: JobFault) -> Choice
+fn choice_of_fault(subject: &Event<EntityId>, fault: JobFault) -> Choice
     ensures number { result.0 ≡ first_number (numbers_of_fault fault) }
-    ensures case { case_of_fault subject fault ≡ (result.1, result.2) }
+    ensures case { case_of_fault subject.now fault ≡ (result.1, result.2) }
 {
-    let entity = u64::from(subject.entity);
+    let entity = entity_in(subject);
     match fault {
         JobFault::NoEntity => (10, 0, [entity, 0, 0]),
         JobFault::NoCredits => (11, 0, [0, 0, 0]),
@@ -46,37 +46,35 @@ fn choice_of_fault(subject: Subject, fault: JobFault) -> Choice
 }
 
 // Which sentence is said of a ring that has nothing to do: what the command looked for there.
-fn idle_case(command: Command) -> usize
-    ensures { result ≡ idle_case command }
+fn idle_case(subject: &Event<EntityId>) -> usize
+    ensures { result ≡ idle_case subject.now }
 {
-    match command {
-        Command::Pick => 0,
-        Command::Step => 1,
+    match subject {
+        Event::Pick { .. } => 0,
+        Event::Step { .. } => 1,
         _ => 2,
     }
 }
 
 // Which sentence is said where the entity of a job is stopped, which a planned job has named before, and the number in it.
-fn stopped_case(subject: Subject) -> (usize, Numbers)
-    ensures { stopped_case subject.command subject ≡ (result.0, result.1) }
+fn stopped_case(subject: &Event<EntityId>) -> (usize, Numbers)
+    ensures { stopped_case subject.now ≡ (result.0, result.1) }
 {
-    let ctx = u64::from(subject.ctx);
-    let entity = u64::from(subject.entity);
-    match subject.command {
-        Command::Arm => (1, [ctx, 0, 0]),
-        _ => (0, [entity, 0, 0]),
+    match subject {
+        Event::Arm { ctx } => (1, [u64::from(*ctx), 0, 0]),
+        _ => (0, [entity_in(subject), 0, 0]),
     }
 }
 
 // Why a command was refused.
-fn choice_of(subject: Subject, refusal: Refusal) -> Choice
+fn choice_of(subject: &Event<EntityId>, refusal: Refusal) -> Choice
     ensures number { result.0 ≡ number_of_refusal refusal }
-    ensures case { case_of subject refusal ≡ (result.1, result.2) }
+    ensures case { case_of subject.now refusal ≡ (result.1, result.2) }
 {
-    let ctx = u64::from(subject.ctx);
-    let ring = u64::from(subject.ring);
-    let entity = u64::from(subject.entity);
-    let named = u64::from(subject.buffer);
+    let ctx = ctx_in(subject);
+    let ring = ring_in(subject);
+    let entity = entity_in(subject);
+    let named = buffer_in(subject);
     match refusal {
         Refusal::Faulty(fault) => choice_of_fault(subject, fault),
         Refusal::Memory => (12, 0, [0, 0, 0]),
@@ -86,7 +84,7 @@ fn choice_of(subject: Subject, refusal: Refusal) -> Choice
             (30, case, numbers)
         }
         Refusal::Full => (31, 0, [0, 0, 0]),
-        Refusal::Idle => (40, idle_case(subject.command), [ring, 0, 0]),
+        Refusal::Idle => (40, idle_case(subject), [ring, 0, 0]),
         Refusal::NoCredit { need, free } => (41, 0, [ring, u64::from(need), u64::from(free)]),
         Refusal::NotComplete => (42, 0, [ring, 0, 0]),
         Refusal::AlreadyStopped => (43, 0, [entity, 0, 0]),
@@ -108,8 +106,11 @@ fn choice_of(subject: Subject, refusal: Refusal) -> Choice
 }
 
 /// What is said of a refusal.
-pub(crate) fn said_of_refusal(subject: Subject, refusal: Refusal) -> (&'static str, Numbers)
-    ensures { said_of_refusal subject refusal ≡ (result.0.now, result.1) }
+pub(crate) fn said_of_refusal(
+    subject: &Event<EntityId>,
+    refusal: Refusal,
+) -> (&'static str, Numbers)
+    ensures { said_of_refusal subject.now refusal ≡ (result.0.now, result.1) }
 {
     let (number, case, numbers) = choice_of(subject, refusal);
     (sentence(number, case), numbers)

@@ -4,21 +4,21 @@ ghost use Rattle.drm_stream.specs.Transfer.{TakesAtMost};
 ghost use Rattle.drm_engine.specs.Failures.{EndsBy};
 ghost use Rattle.drm_words.specs.Replaying.{ReplaysWithWords};
 
+use crate::named::subject;
 use crate::sentences::put_worded_line;
-use crate::subject::{Subject, naming_nothing};
-use drm_core::{Answer, Core};
+use drm_core::{Answer, Core, Event};
 use drm_engine::{Ending, Lines, Piece, WriteFailed, replay_lines};
 use drm_script::ChunkLeft;
 use drm_stream::{Sink, Source};
-use drm_text::Command;
+use drm_types::EntityId;
 use std::alloc::Global;
 use std::io::{Read, Write};
 
 /// The lines of answers with what each means behind it, which the command and its answer tell together.
 #[derive(Drop)]
 struct Worded {
-    // the command that happened last, and what it names
-    subject: Subject,
+    // the command that happened last
+    subject: Event<EntityId>,
 }
 
 impl Lines for Worded {
@@ -38,7 +38,7 @@ impl Lines for Worded {
     ) -> Option<Answer> {
         match rest.next() {
             Some(event) => {
-                self.subject = Subject::of_event(&event);
+                self.subject = subject(&event);
                 let answer = core.apply(alloc, event);
                 Some(answer)
             }
@@ -52,7 +52,7 @@ impl Lines for Worded {
         writer: &mut Sink<W>,
         answer: &Answer,
     ) -> Result<(), WriteFailed> {
-        put_worded_line(piece, writer, self.subject, answer)
+        put_worded_line(piece, writer, &self.subject, answer)
     }
 }
 
@@ -68,7 +68,8 @@ pub fn replay_with_words<R: Read, W: Write>(
     ensures failures { EndsBy reader.old reader.new writer.old writer.new result }
 {
     let mut lines = Worded {
-        subject: naming_nothing(Command::Dump),
+        // none happened yet, and nothing is told before one does
+        subject: Event::Step { ring: 0 },
     };
     replay_lines(alloc, &mut lines, reader, writer)
 }

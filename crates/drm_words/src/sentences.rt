@@ -8,13 +8,12 @@ ghost use Rattle.drm_words.specs.Lines.{worded_line_of};
 ghost use Rattle.drm_words.specs.Sentences.{said_of, said_of_armed, said_of_bytes, said_of_ok, sentence_of, words_of_finished, words_of_picked, words_of_status};
 
 use crate::filling::{Numbers, put_filled};
+use crate::named::{buffer_in, ctx_in, entity_in, fence_in, ring_in};
 use crate::refused::said_of_refusal;
-use crate::subject::Subject;
-use drm_core::Answer;
+use drm_core::{Answer, Event};
 use drm_engine::{Piece, WriteFailed};
 use drm_stream::Sink;
-use drm_text::Command;
-use drm_types::{FenceId, Outcome};
+use drm_types::{EntityId, FenceId, Outcome};
 use std::io::Write;
 
 // What is said of some answers, with `%` in place of each number.
@@ -56,30 +55,27 @@ const REAPED: &str =
     "the job of fence % leaves the queue of entity %: it is stopped, and never ran";
 
 // What was done: a context sealed, let go or ended, or an entity stopped.
-fn said_of_ok(subject: Subject) -> (&'static str, Numbers)
-    ensures { said_of_ok subject.command subject ≡ (result.0.now, result.1) }
+fn said_of_ok(subject: &Event<EntityId>) -> (&'static str, Numbers)
+    ensures { said_of_ok subject.now ≡ (result.0.now, result.1) }
 {
-    let ctx = u64::from(subject.ctx);
-    let buffer = u64::from(subject.buffer);
-    let entity = u64::from(subject.entity);
-    match subject.command {
-        Command::Done => ("context % takes no more locks", [ctx, 0, 0]),
-        Command::Drop => (DROPPED, [ctx, buffer, 0]),
-        Command::Cancel => (CANCELLED, [entity, 0, 0]),
-        _ => ("context % has ended", [ctx, 0, 0]),
+    match subject {
+        Event::Done { ctx } => ("context % takes no more locks", [u64::from(*ctx), 0, 0]),
+        Event::Drop { ctx, buffer } => {
+            (DROPPED, [u64::from(*ctx), u64::from(buffer.number()), 0])
+        }
+        Event::Cancel { entity } => (CANCELLED, [u64::from(*entity), 0, 0]),
+        _ => ("context % has ended", [ctx_in(subject), 0, 0]),
     }
 }
 
 // A job that was armed at once, or as it was planned.
-fn said_of_armed(subject: Subject, fence: FenceId) -> (&'static str, Numbers)
-    ensures { said_of_armed subject.command subject fence ≡ (result.0.now, result.1) }
+fn said_of_armed(subject: &Event<EntityId>, fence: FenceId) -> (&'static str, Numbers)
+    ensures { said_of_armed subject.now fence ≡ (result.0.now, result.1) }
 {
-    let ctx = u64::from(subject.ctx);
-    let entity = u64::from(subject.entity);
     let armed = u64::from(fence);
-    match subject.command {
-        Command::Arm => (ARMED_AS_PLANNED, [ctx, armed, 0]),
-        _ => (ARMED, [armed, entity, 0]),
+    match subject {
+        Event::Arm { ctx } => (ARMED_AS_PLANNED, [u64::from(*ctx), armed, 0]),
+        _ => (ARMED, [armed, entity_in(subject), 0]),
     }
 }
 
@@ -106,17 +102,18 @@ fn words_of_finished(outcome: Outcome) -> &'static str
 }
 
 // Bytes that were read under a lock, or with none.
-fn said_of_bytes(subject: Subject) -> (&'static str, Numbers)
-    ensures { said_of_bytes subject.command subject ≡ (result.0.now, result.1) }
+fn said_of_bytes(subject: &Event<EntityId>) -> (&'static str, Numbers)
+    ensures { said_of_bytes subject.now ≡ (result.0.now, result.1) }
 {
-    let ctx = u64::from(subject.ctx);
-    let buffer = u64::from(subject.buffer);
-    match subject.command {
-        Command::Read => (
+    match subject {
+        Event::Read { ctx, buffer } => (
             "context % reads buffer %: all that write it have ended",
-            [ctx, buffer, 0],
+            [u64::from(*ctx), u64::from(buffer.number()), 0],
         ),
-        _ => ("what buffer % holds now, read with no lock", [buffer, 0, 0]),
+        _ => (
+            "what buffer % holds now, read with no lock",
+            [buffer_in(subject), 0, 0],
+        ),
     }
 }
 
@@ -136,13 +133,13 @@ fn words_of_status(status: i32) -> &'static str
 }
 
 // What an answer means to the command that it answers: words with `%` in place of each number, and the numbers of both.
-fn said(subject: Subject, answer: &Answer) -> (&'static str, Numbers)
-    ensures { said_of subject answer.now ≡ (result.0.now, result.1) }
+fn said(subject: &Event<EntityId>, answer: &Answer) -> (&'static str, Numbers)
+    ensures { said_of subject.now answer.now ≡ (result.0.now, result.1) }
 {
-    let ctx = u64::from(subject.ctx);
-    let buffer = u64::from(subject.buffer);
-    let ring = u64::from(subject.ring);
-    let entity = u64::from(subject.entity);
+    let ctx = ctx_in(subject);
+    let buffer = buffer_in(subject);
+    let ring = ring_in(subject);
+    let entity = entity_in(subject);
     match answer {
         Answer::Refused(refusal) => said_of_refusal(subject, *refusal),
         Answer::Ok => said_of_ok(subject),
@@ -167,7 +164,7 @@ fn said(subject: Subject, answer: &Answer) -> (&'static str, Numbers)
         Answer::Guilty { entity } => (GUILTY, [ring, u64::from(*entity), 0]),
         Answer::Reaped { fence } => (REAPED, [u64::from(*fence), entity, 0]),
         Answer::Bytes { .. } => said_of_bytes(subject),
-        Answer::Status { status } => (words_of_status(*status), [u64::from(subject.fence), 0, 0]),
+        Answer::Status { status } => (words_of_status(*status), [fence_in(subject), 0, 0]),
     }
 }
 
@@ -175,10 +172,10 @@ fn said(subject: Subject, answer: &Answer) -> (&'static str, Numbers)
 pub fn put_sentence<W: Write>(
     piece: &mut Piece,
     writer: &mut Sink<W>,
-    subject: Subject,
+    subject: &Event<EntityId>,
     answer: &Answer,
 ) -> Result<(), WriteFailed>
-    ensures { Told writer.old writer.new result (piece.old ++ sentence_of subject answer.now) piece.new }
+    ensures { Told writer.old writer.new result (piece.old ++ sentence_of subject.now answer.now) piece.new }
 {
     let told = said(subject, answer);
     let numbers = told.1;
@@ -199,11 +196,11 @@ fn put_answer(piece: &mut Piece, answer: &Answer)
 pub(crate) fn put_worded_line<W: Write>(
     piece: &mut Piece,
     writer: &mut Sink<W>,
-    subject: Subject,
+    subject: &Event<EntityId>,
     answer: &Answer,
 ) -> Result<(), WriteFailed>
     requires { length piece.old + line_room answer.now ≤ 41088 }
-    ensures { Told writer.old writer.new result (piece.old ++ worded_line_of subject answer.now) piece.new }
+    ensures { Told writer.old writer.new result (piece.old ++ worded_line_of subject.now answer.now) piece.new }
 {
     put_answer(piece, answer);
     put_filled(piece, writer, b"  # ", &[])?;

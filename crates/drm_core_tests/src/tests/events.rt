@@ -2,7 +2,7 @@
 use crate::{ENTITY, Job, RING, Work, device, draft_of};
 use drm_core::{Answer, Core, Event};
 use drm_job::Draft;
-use drm_types::Access;
+use drm_types::{Access, Outcome};
 use std::alloc::Global;
 use std::test::Fail;
 
@@ -31,6 +31,48 @@ fn is_armed(alloc: Global, core: &mut Core) -> bool {
         answer_to(alloc, core, Event::Submit { job }),
         Some(Answer::Armed { fence: 0 })
     )
+}
+
+/// Whether the job is armed, picked, run and finished, and its fence has signaled success: the worked call of the head of
+/// `drm_core`.
+fn goes_to_its_end(alloc: Global, core: &mut Core) -> bool {
+    is_armed(alloc, core)
+        && matches!(
+            answer_to(alloc, core, Event::Pick { ring: 0, now: 0 }),
+            Some(Answer::Picked {
+                fence: 0,
+                skipped: false
+            })
+        )
+        && matches!(
+            answer_to(alloc, core, Event::Step { ring: 0 }),
+            Some(Answer::Ran {
+                fence: 0,
+                packet: 0
+            })
+        )
+        && matches!(
+            answer_to(alloc, core, Event::Finish { ring: 0, now: 1 }),
+            Some(Answer::Finished {
+                fence: 0,
+                outcome: Outcome::Good
+            })
+        )
+        && matches!(
+            answer_to(alloc, core, Event::Status { fence: 0 }),
+            Some(Answer::Status { status: 1 })
+        )
+}
+
+#[test]
+fn a_job_goes_to_its_end(rt: HostRuntime) -> Result<(), Fail> {
+    let alloc = rt.alloc();
+    let spec = device(alloc, &[&[0; 4]], &[RING], &[ENTITY], 8)?;
+    let Ok(mut core) = Core::build(alloc, spec) else {
+        panic!(rt; "not built");
+    };
+    assert!(rt; goes_to_its_end(alloc, &mut core));
+    Ok(())
 }
 
 #[test]

@@ -1,4 +1,4 @@
-use Rattle.std.proofs.Common.{◌+◌, [], sym, subst, take}
+use Rattle.std.proofs.Common.{[], sym, subst, take}
 use Rattle.std.proofs.lemmas.List.{take_all}
 use Rattle.drm_state.specs.Collected.{IsCollected}
 use Rattle.drm_state.specs.Held.{kept_of}

@@ -7,5 +7,5 @@ use Rattle.drm_words.proofs.sentences.put_sentence.Goals as goal
 pub returns : goal.returns
 returns g c =
     subst (λ (t : List ℕ). Told c.args.writer.now c.put_filled.new.writer c.put_filled.result (c.args.piece.now ++ t) c.put_filled.new.piece)
-    (filled_by (said_of c.args.subject c.args.answer.now) c.said-told.result.0.now c.said-told.result.1 c.as_bytes.result.now c.said-told.ensures c.as_bytes.ensures.value)
+    (filled_by (said_of c.args.subject.now c.args.answer.now) c.said-told.result.0.now c.said-told.result.1 c.as_bytes.result.now c.said-told.ensures c.as_bytes.ensures.value)
     c.put_filled.ensures

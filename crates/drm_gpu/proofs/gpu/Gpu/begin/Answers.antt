@@ -26,7 +26,7 @@ pub returns-in-Err-Memory-clause-refused : goal.returns-in-Err-Memory-clause-ref
 returns-in-Err-Memory-clause-refused g c =
     let back = subst (λ e. IsBackFromRead c.take_box.new.self e) c.in-Err-Memory.field-0-is c.in-Err-Memory.ensures.refused in (back ∙ c.take_box.ensures, refl)
 
-pub returns-in-Err-TicketsOut-clause-refused : goal.returns-in-Err-TicketsOut-clause-refused
-returns-in-Err-TicketsOut-clause-refused g c =
+pub returns-clause-refused : goal.returns-clause-refused
+returns-clause-refused g c =
     let back = subst (λ e. IsBackFromRead c.take_box.new.self e) c.in-Err-TicketsOut.field-0-is c.in-Err-TicketsOut.ensures.refused in
     (back ∙ ap (λ (p : PassState). record p { tickets_out = true }) c.take_box.ensures, refl)

@@ -8,7 +8,7 @@ returns-in-Some-clause-some c = (c.in-Some.event, c.in-Some.ensures.some, c.appl
 
 pub returns-in-Some-clause-noted : goal.returns-in-Some-clause-noted
 returns-in-Some-clause-noted c = λ event split.
-    let same : c.in-Some.event ≡ event = cc (c.in-Some.ensures.some, split) in c.of_event-self.ensures ∙ ap subject_of same
+    let same : c.in-Some.event ≡ event = cc (c.in-Some.ensures.some, split) in c.subject-self.ensures ∙ ap subject_of same
 
 pub returns-in-Some-clause-names : goal.returns-in-Some-clause-names
 returns-in-Some-clause-names c =
