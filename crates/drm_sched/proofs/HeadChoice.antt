@@ -144,7 +144,7 @@ candidate_key d ring entity k c =
     its_spec (Some e) is = (e, refl, eqb-true (rank_of e.priority) (rank_of k.priority) is)
 
 -- nothing is left of dependencies that are all met
-pub none_unmet : (js : List JobRecord) (entity ring : ℕ) (deps : List (ℕ × ℕ)) → (length (unmet_pairs js entity ring deps) == 0) ≡ list_all (λ e. is_at js e.1 (is_met ring)) deps
+none_unmet : (js : List JobRecord) (entity ring : ℕ) (deps : List (ℕ × ℕ)) → (length (unmet_pairs js entity ring deps) == 0) ≡ list_all (λ e. is_at js e.1 (is_met ring)) deps
 none_unmet js entity ring [] = refl
 none_unmet js entity ring (d ∷ deps) = in_front (is_at js d.1 (is_met ring)) (none_unmet js entity ring deps)
   where

@@ -15,7 +15,6 @@ pub mod Calls
 pub mod MarkedDone
 pub mod ChoiceByKeys
 pub mod HeadChoice
-pub mod HeadWaits
 pub mod HeadsKept
 pub mod HeadsLeft
 pub mod HeadEvents

@@ -1,5 +1,5 @@
 -- Which fences the heads of the queues wait for.
-use Rattle.std.specs.Prelude.{ℕ, Bool, false, ◌==◌, ◌&&◌, not, if◌then◌else◌, List, [], map, slice_get}
+use Rattle.std.specs.Prelude.{ℕ, ◌==◌, not, if◌then◌else◌, List, [], map, slice_get}
 use Rattle.std.specs.Option.{option_map_or}
 use Rattle.std.specs.List.{filter}
 use Rattle.drm_types.specs.Firsts.{first}
@@ -7,7 +7,7 @@ use Rattle.drm_fence.specs.declared.pair.Pair.{Pair}
 use Rattle.drm_state.specs.declared.journal.JobRecord.{JobRecord}
 use Rattle.drm_state.specs.State.{DeviceState}
 use Rattle.drm_state.specs.Journal.{is_at}
-use Rattle.drm_state.specs.Order.{is_met, is_ready}
+use Rattle.drm_state.specs.Order.{is_met}
 use Rattle.drm_state.specs.Choice.{queue_of}
 use Rattle.drm_state.specs.Ring.{is_stopped}
 
@@ -29,9 +29,3 @@ watched_of device waits entity =
     (λ n. unmet_pairs device.journal entity n.1.ring (option_map_or (λ deps. deps) (slice_get waits n.0) []))
     (first (queue_of entity device.journal))
     []
-
--- whether the head of an entity waits for a fence: the entity is not stopped, and its head is there and not ready
-abbrev pub is_waiting : DeviceState → ℕ → Bool
-is_waiting device entity =
-    not (is_stopped device entity)
-    && option_map_or (λ n. not (is_ready device.journal n.0 n.1)) (first (queue_of entity device.journal)) false

@@ -22,7 +22,6 @@ ghost use Rattle.drm_state.specs.State.{opened_device};
 ghost use Rattle.drm_sched.specs.Begun.{IsReport, HasReported, KeepsTasks, MayRun, out_or, MayComeBack};
 ghost use Rattle.drm_sched.specs.Calls.{PickIs, StepIs, FinishIs, TimeoutIs, CancelIs, ReapIs, BeginIs, ArmIs, ArmRefused, LacksFence, StatusIs, StaysLawful};
 ghost use Rattle.drm_sched.specs.Marks.{is_step_blocked, is_out, ring_out, unmarked, IsSteadyMarked};
-ghost use Rattle.drm_sched.specs.Watching.{is_waiting};
 ghost use Rattle.drm_state.specs.Steady.{IsSteady};
 ghost use Rattle.drm_state.specs.Records.{fence_state_of};
 ghost use Rattle.drm_state.specs.Choice.{choice, queue_of};
@@ -408,14 +407,6 @@ impl Device {
         ensures { result ≡ option_map (λ n. n.0) (first (queue_of entity self.now.state.journal)) }
     {
         self.parts.table.entities.head(entity)
-    }
-
-    /// Whether the first job in the queue of the entity waits for a fence (`dependency` of `struct drm_sched_entity`). One
-    /// look-up.
-    pub fn is_waiting(&self, entity: EntityId) -> bool
-        ensures { result ≡ is_waiting self.now.state entity }
-    {
-        self.parts.heads.waiters.unmet(entity) != 0
     }
 
     /// The first pending job of the ring that has packets to run: the one that the ring runs.
