@@ -1,0 +1,9 @@
+pub mod There
+pub mod Finds
+pub mod Hows
+pub mod Unmet
+pub mod Told
+pub mod Stands
+pub mod Takes
+pub mod Laws
+pub mod Looks

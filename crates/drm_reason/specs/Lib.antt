@@ -1,0 +1,4 @@
+pub mod Reasons
+pub mod Standing
+pub mod Laws
+pub mod Watching
