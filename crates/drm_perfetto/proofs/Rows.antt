@@ -1,6 +1,6 @@
 -- Rows of lanes, and what is told of each.
-use Rattle.std.proofs.Common.{◌≡◌, ◌∙◌, ◌≢◌, ℕ, zero, suc, ◌+◌, ◌<◌, ◌≤◌, List, [], ◌∷◌, ◌++◌, Option, ap, arith, inl, inr, length, refl, set, subst, sym}
-use Rattle.std.specs.Prelude.{option_and_then}
+use Rattle.std.proofs.Common.{◌≡◌, ◌∙◌, ◌≢◌, ℕ, true, false, Some, None, zero, suc, ◌+◌, ◌<◌, ◌≤◌, List, [], ◌∷◌, ◌++◌, Option, ap, arith, inl, inr, length, refl, set, subst, sym}
+use Rattle.std.specs.Prelude.{is_none, option_and_then}
 use Rattle.std.proofs.lemmas.Bool.{cases_lt}
 use Rattle.drm_lists.proofs.Changed.{get_set_other, get_set_within}
 use Rattle.drm_types.specs.declared.spec.DeviceSpec.{DeviceSpec}
@@ -15,7 +15,7 @@ use Rattle.drm_perfetto.specs.declared.pen.Pen.{Pen}
 use Rattle.drm_perfetto.specs.declared.rows.Rows.{Rows}
 use Rattle.drm_perfetto.specs.Pens.{AddsEntries}
 use Rattle.drm_perfetto.specs.Rows.{AllRows, AreRows, HaveRoom, row_at}
-use Rattle.drm_perfetto.specs.Steps.{changed, changes, each}
+use Rattle.drm_perfetto.specs.Steps.{arrow, arrow_between, changed, changes, each, is_same}
 use Rattle.drm_perfetto.specs.Tracks.{count_of, shown}
 use Rattle.drm_perfetto.proofs.Pens.{entries_same}
 
@@ -90,3 +90,19 @@ pub have_room : (old new : CoreState) (rows : Rows) → old.device.spec ≡ new.
 have_room old new rows same all =
     subst (λ (spec : DeviceSpec). HaveRoom spec rows) same
     (record { wait = all.wait.0; queue = all.queue.0; ring = all.ring.0; buffer = all.buffer.0; credits = all.credits.0; queued = all.queued.0 })
+
+-- ---- arrows
+
+-- there is none where nothing waited, nor where the same waits still
+pub arrow_none : (on : Track) (when : When) (entity : ℕ) (old new : Option Row) → is_none old ≡ true → [] ≡ arrow (Some on) when entity old new
+arrow_none on when entity None new none = refl
+arrow_none on when entity (Some row) new none = absurd (cc (none))
+
+pub arrow_kept : (on : Track) (when : When) (entity : ℕ) (old new : Option Row) → is_same old new ≡ true → [] ≡ arrow (Some on) when entity old new
+arrow_kept on when entity None new same = refl
+arrow_kept on when entity (Some row) new same = rw same refl
+
+-- else there is one
+pub arrow_put : (on : Track) (when : When) (entity : ℕ) (old new : Option Row) → is_none old ≡ false → is_same old new ≡ false → arrow_between on when entity ≡ arrow (Some on) when entity old new
+arrow_put on when entity None new some other = absurd (cc (some))
+arrow_put on when entity (Some row) new some other = rw other refl

@@ -1,5 +1,5 @@
 -- What a step of a run adds to its trace.
-use Rattle.std.specs.Prelude.{ℕ, suc, Bool, true, false, ◌==◌, if◌then◌else◌, List, [], ◌∷◌, ◌++◌, Option, Some, None}
+use Rattle.std.specs.Prelude.{ℕ, suc, Bool, true, false, ◌==◌, ◌&&◌, if◌then◌else◌, List, [], ◌∷◌, ◌++◌, Option, Some, None}
 use Rattle.std.specs.Option.{option_to_list}
 use Rattle.drm_types.specs.declared.outcome.Outcome.{Outcome}
 use Rattle.drm_types.specs.declared.outcome.Outcome.TheVariants as outcome
@@ -76,10 +76,10 @@ cause_of journal named (gives.Reaped fence) = Some (track.Queue named.entity)
 cause_of journal named (gives.Picked fence skipped) = Some (track.Queue (owner_of journal fence))
 cause_of journal named _ = None
 
--- the same job, context or count, or none on both sides
+-- the same is shown, or nothing on both sides
 abbrev pub is_same : Option Row → Option Row → Bool
 is_same None None = true
-is_same (Some old) (Some new) = old.what == new.what
+is_same (Some old) (Some new) = (old.what == new.what) && (old.of == new.of)
 is_same None (Some new) = false
 is_same (Some old) None = false
 
@@ -101,12 +101,11 @@ turned on at old new = if is_same old new then [] else ended on at old ++ begun 
 abbrev pub arrow_between : Track → When → ℕ → List Entry
 arrow_between on when entity = entry.Leave on when entity ∷ entry.Reach when entity ∷ []
 
--- from the track of the job that lets others go to a job that waited and waits no more
+-- from the track of the job that lets others go to a job that waited, and waits no more or for another
 abbrev pub arrow : Option Track → When → ℕ → Option Row → Option Row → List Entry
-arrow (Some on) when entity (Some old) None = arrow_between on when entity
 arrow None when entity old new = []
 arrow (Some on) when entity None new = []
-arrow (Some on) when entity (Some old) (Some new) = []
+arrow (Some on) when entity (Some old) new = if is_same (Some old) new then [] else arrow_between on when entity
 
 -- a count that is another one than before
 abbrev pub recounted : Option Row → Option Row → Option ℕ

@@ -1,5 +1,5 @@
 -- What the tracks and counters of a trace show of the state of a core.
-use Rattle.std.specs.Prelude.{ℕ, ◌-◌, min, if◌then◌else◌, List, length, Option, Some, None, option_map, slice_get}
+use Rattle.std.specs.Prelude.{ℕ, ◌-◌, min, List, length, Option, Some, None, option_and_then, option_map, slice_get}
 use Rattle.std.specs.Option.{option_map_or}
 use Rattle.drm_types.specs.declared.spec.DeviceSpec.{DeviceSpec}
 use Rattle.drm_types.specs.Firsts.{first}
@@ -7,7 +7,9 @@ use Rattle.drm_state.specs.declared.journal.JobRecord.{JobRecord}
 use Rattle.drm_state.specs.Arming.{load}
 use Rattle.drm_state.specs.Choice.{queue_of}
 use Rattle.drm_state.specs.Ring.{credit_limit_of, free_credits, head_of, pending_of}
-use Rattle.drm_sched.specs.Watching.{is_waiting}
+use Rattle.drm_reason.specs.declared.reason.Reason.{Reason}
+use Rattle.drm_reason.specs.declared.reason.Reason.TheVariants as reason
+use Rattle.drm_reason.specs.Reasons.{reason_of}
 use Rattle.drm_core.specs.State.{CoreState}
 use Rattle.drm_core.specs.Context.{holder_of}
 use Rattle.drm_perfetto.specs.declared.lanes.Lane.{Lane}
@@ -37,9 +39,17 @@ shown_in_queue core entity =
     (λ fence. record { what = fence; of = ring_of core.device.journal fence })
     (option_map (λ n. n.0) (first (queue_of entity core.device.journal)))
 
--- the same while it waits for a fence
+-- the row of a job that waits for a fence, if that is its reason: of those that are not met the least
+abbrev pub wait_row : ℕ → Reason → Option Row
+wait_row fence (reason.Waits earlier how ring queued) = Some (record { what = fence; of = earlier })
+wait_row fence _ = None
+
+-- the first job in the queue of an entity, if it waits for a fence
 abbrev pub shown_wait : CoreState → ℕ → Option Row
-shown_wait core entity = if is_waiting core.device entity then shown_in_queue core entity else None
+shown_wait core entity =
+    option_and_then
+    (λ fence. wait_row fence (reason_of core.device fence))
+    (option_map (λ n. n.0) (first (queue_of entity core.device.journal)))
 
 -- the context that holds a buffer
 abbrev pub shown_on_buffer : CoreState → ℕ → Option Row

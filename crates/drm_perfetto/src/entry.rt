@@ -35,7 +35,8 @@ pub enum Entry {
     Name {
         track: Track,
     },
-    /// A slice begins: of this job or context, and of this entity, where a ring shows it, or for this ring, where a queue does.
+    /// A slice begins: of this job or context, and of this entity, where a ring shows it, for this ring, where a queue does, or
+    /// for this fence, where it waits.
     Begin {
         track: Track,
         at: u64,
@@ -157,7 +158,7 @@ const QUEUE_BEGIN: &str =
 
 /// A job begins to wait.
 const WAIT_BEGIN: &str =
-    ",\n{\"ph\":\"B\",\"pid\":3,\"tid\":%,\"ts\":%,\"name\":\"job % waits\",\"args\":{\"ring\":%}}";
+    ",\n{\"ph\":\"B\",\"pid\":3,\"tid\":%,\"ts\":%,\"name\":\"job % waits for fence %\"}";
 
 /// A context takes a buffer.
 const BUFFER_BEGIN: &str = ",\n{\"ph\":\"B\",\"pid\":4,\"tid\":%,\"ts\":%,\"name\":\"context %\"}";

@@ -1,11 +1,12 @@
 //! What each track and counter shows of a core, and what changes there with a command.
 
 ghost use Rattle.std.specs.Prelude.{◌≡◌, ◌<◌, length};
-ghost use Rattle.drm_perfetto.specs.Tracks.{count_of, owner_of, ring_of, row_of_job, shown, shown_on_buffer, shown_in_queue, shown_on_ring, shown_credits, shown_queued, shown_wait};
+ghost use Rattle.drm_perfetto.specs.Tracks.{count_of, owner_of, ring_of, row_of_job, shown, shown_on_buffer, shown_in_queue, shown_on_ring, shown_credits, shown_queued, shown_wait, wait_row};
 ghost use Rattle.drm_core.specs.Context.{holder_of};
 ghost use Rattle.drm_state.specs.Ring.{head_of};
 
 use drm_core::Core;
+use drm_reason::{Reason, reason_of};
 use drm_types::{CtxId, EntityId, FenceId, RingId};
 
 /// The most entities or buffers of a device, which has fewer rings.
@@ -33,7 +34,7 @@ pub enum Lane {
 pub struct Row {
     /// The job, the context or the count.
     pub what: u32,
-    /// The entity of a job that a ring shows, the ring of one that a queue shows, else 0.
+    /// The entity of a job that a ring shows, the ring of one that a queue shows, the fence that one waits for, else 0.
     pub of: u32,
 }
 
@@ -85,15 +86,27 @@ fn in_queue(core: &Core, entity: u32) -> Option<Row>
     }
 }
 
+// The row of a job that waits for a fence, if that is its reason.
+fn wait_row(fence: FenceId, reason: Reason) -> Option<Row>
+    ensures { result ≡ wait_row fence reason }
+{
+    match reason {
+        Reason::Waits { fence: earlier, .. } => Some(Row {
+            what: fence,
+            of: earlier,
+        }),
+        _ => None,
+    }
+}
+
 // The first job in the queue of an entity, if it waits for a fence.
 fn waiting(core: &Core, entity: u32) -> Option<Row>
     requires { entity < length core.now.device.spec.entities }
     ensures { result ≡ shown_wait core.now entity }
 {
-    if core.device().is_waiting(entity) {
-        in_queue(core, entity)
-    } else {
-        None
+    match core.device().head(entity) {
+        Some(fence) => wait_row(fence, reason_of(core.device(), fence)),
+        None => None,
     }
 }
 

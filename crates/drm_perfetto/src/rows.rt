@@ -51,7 +51,7 @@ fn is_same(old: Option<Row>, new: Option<Row>) -> bool
 {
     match (old, new) {
         (None, None) => true,
-        (Some(old), Some(new)) => old.what == new.what,
+        (Some(old), Some(new)) => old.what == new.what && old.of == new.of,
         (None, Some(_)) => false,
         (Some(_), None) => false,
     }
@@ -118,7 +118,7 @@ fn put_pair<W: Write>(pen: &mut Pen, writer: &mut Sink<W>, track: Track, when: W
     pen.put(writer, Entry::Reach { when, entity });
 }
 
-// An arrow from a track, where a job waited and waits no more.
+// An arrow from a track, where a job waited, and waits no more or for another.
 fn put_arrow_from<W: Write>(
     pen: &mut Pen,
     writer: &mut Sink<W>,
@@ -130,16 +130,16 @@ fn put_arrow_from<W: Write>(
 )
     ensures { AddsEntries pen.old writer.old (arrow (Some track) when entity old new) pen.new writer.new }
 {
-    match old {
-        Some(_) => match new {
-            None => put_pair(pen, writer, track, when, entity),
-            Some(_) => {}
-        },
-        None => {}
+    if old.is_none() {
+        return;
     }
+    if is_same(old, new) {
+        return;
+    }
+    put_pair(pen, writer, track, when, entity);
 }
 
-// An arrow, where a job waited and waits no more, and there is a track that it comes from.
+// The same, where there is a track that it comes from.
 fn put_arrow<W: Write>(
     pen: &mut Pen,
     writer: &mut Sink<W>,
