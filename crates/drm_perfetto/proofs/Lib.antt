@@ -1,5 +1,5 @@
 pub mod Fillings
 pub mod Pens
 pub mod Pieces
-pub mod Rows
-pub mod Tracing
+pub mod RowFacts
+pub mod Traced

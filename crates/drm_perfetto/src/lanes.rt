@@ -1,9 +1,8 @@
 //! What each track and counter shows of a core, and what changes there with a command.
 
 ghost use Rattle.std.specs.Prelude.{◌≡◌, ◌<◌, length};
-ghost use Rattle.drm_perfetto.specs.Tracks.{count_of, owner_of, ring_of, row_of_job, shown, shown_on_buffer, shown_in_queue, shown_on_ring, shown_credits, shown_queued, shown_wait, wait_row};
+ghost use Rattle.drm_perfetto.specs.Tracks.{count_of, owner_of, ring_of, shown, shown_on_buffer, shown_in_queue, shown_on_ring, shown_credits, shown_queued, shown_wait, wait_row};
 ghost use Rattle.drm_core.specs.Context.{holder_of};
-ghost use Rattle.drm_state.specs.Ring.{head_of};
 
 use drm_core::Core;
 use drm_reason::{Reason, reason_of};

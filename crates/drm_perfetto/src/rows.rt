@@ -6,7 +6,7 @@ ghost use Rattle.drm_perfetto.specs.Pens.{AddsEntries};
 ghost use Rattle.drm_perfetto.specs.Rows.{AllRows, AreRows, HaveRoom, row_at};
 ghost use Rattle.drm_perfetto.specs.Steps.{all_changes, arrow, arrow_between, begun, changed, credits_entry, each, ended, is_same, queued_entry, recounted, turned};
 ghost use Rattle.drm_perfetto.specs.Tracks.{count_of, shown};
-ghost use Rattle.drm_perfetto.specs.declared.lanes.Lane.TheVariants as lane;
+ghost use Rattle.drm_perfetto.specs.declared.lanes.Lane.TheVariants as kind;
 
 use crate::entry::{Entry, Track, When};
 use crate::lanes::{Lane, Row, count, shown};
@@ -209,7 +209,7 @@ fn put_wait<W: Write>(
     old: Option<Row>,
     new: Option<Row>,
 )
-    ensures { AddsEntries pen.old writer.old (changed lane.Wait when cause entity old new) pen.new writer.new }
+    ensures { AddsEntries pen.old writer.old (changed kind.Wait when cause entity old new) pen.new writer.new }
 {
     put_arrow(pen, writer, cause, when, entity, old, new);
     put_turned(pen, writer, Track::Wait(entity), when.at, old, new);

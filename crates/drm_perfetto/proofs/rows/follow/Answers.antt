@@ -5,7 +5,7 @@ use Rattle.drm_perfetto.specs.Rows.{row_at}
 use Rattle.drm_perfetto.specs.Steps.{changed, each}
 use Rattle.drm_perfetto.specs.Tracks.{count_of, shown}
 use Rattle.drm_perfetto.proofs.Pens.{entries_more, entries_none, entries_same}
-use Rattle.drm_perfetto.proofs.Rows.{each_more, rows_done, rows_left}
+use Rattle.drm_perfetto.proofs.RowFacts.{each_more, rows_done, rows_left}
 use Rattle.drm_perfetto.proofs.rows.follow.Goals as goal
 
 pub loop-number-init : goal.loop-number-init

@@ -4,7 +4,7 @@ use Rattle.drm_perfetto.specs.declared.lanes.Row.{Row}
 use Rattle.drm_perfetto.specs.Pens.{AddsEntries}
 use Rattle.drm_perfetto.specs.Steps.{arrow}
 use Rattle.drm_perfetto.proofs.Pens.{entries_none, entries_same}
-use Rattle.drm_perfetto.proofs.Rows.{arrow_kept, arrow_none, arrow_put}
+use Rattle.drm_perfetto.proofs.RowFacts.{arrow_kept, arrow_none, arrow_put}
 use Rattle.drm_perfetto.proofs.rows.put_arrow_from.Goals as goal
 
 pub returns-then-is_none : goal.returns-then-is_none

@@ -2,7 +2,7 @@ use Rattle.std.proofs.Common.{◌≡◌, ◌∙◌, ℕ, ◌<◌, ◌+◌, ap, a
 use Rattle.std.proofs.lemmas.List.{length-append}
 use Rattle.drm_perfetto.specs.Rows.{row_at}
 use Rattle.drm_perfetto.specs.Tracks.{shown}
-use Rattle.drm_perfetto.proofs.Rows.{rows_more}
+use Rattle.drm_perfetto.proofs.RowFacts.{rows_more}
 use Rattle.drm_perfetto.proofs.rows.rows_of.Goals as goal
 
 pub loop-number-preserved : goal.loop-number-preserved

@@ -6,7 +6,7 @@ use Rattle.drm_perfetto.specs.Steps.{each}
 use Rattle.drm_perfetto.specs.Traces.{track_of}
 use Rattle.drm_perfetto.specs.Tracks.{count_of}
 use Rattle.drm_perfetto.proofs.Pens.{entries_more, entries_none, entries_same}
-use Rattle.drm_perfetto.proofs.Rows.{each_more}
+use Rattle.drm_perfetto.proofs.RowFacts.{each_more}
 use Rattle.drm_perfetto.proofs.tracing.put_names.Goals as goal
 
 pub loop-number-init : goal.loop-number-init

@@ -3,8 +3,8 @@ use Rattle.drm_core.specs.Run.{AllNamesExist}
 use Rattle.drm_perfetto.specs.Steps.{step_entries}
 use Rattle.drm_perfetto.specs.Traces.{later}
 use Rattle.drm_perfetto.proofs.Pens.{entries_more, entries_none, entries_same}
-use Rattle.drm_perfetto.proofs.Rows.{have_room}
-use Rattle.drm_perfetto.proofs.Tracing.{TracesOn, added, traced_end, traced_none, traced_turn}
+use Rattle.drm_perfetto.proofs.RowFacts.{have_room}
+use Rattle.drm_perfetto.proofs.Traced.{TracesOn, added, traced_end, traced_none, traced_turn}
 use Rattle.drm_perfetto.proofs.tracing.put_steps.Goals as goal
 
 pub put_step-requires : goal.put_step-requires

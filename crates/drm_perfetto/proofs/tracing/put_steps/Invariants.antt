@@ -4,7 +4,7 @@ use Rattle.drm_core.specs.Run.{AllNamesExist}
 use Rattle.drm_perfetto.specs.declared.entry.Entry.{Entry}
 use Rattle.drm_perfetto.specs.Pens.{AddsEntries}
 use Rattle.drm_perfetto.specs.Rows.{AllRows}
-use Rattle.drm_perfetto.proofs.Tracing.{TracesOn}
+use Rattle.drm_perfetto.proofs.Traced.{TracesOn}
 use Rattle.drm_perfetto.proofs.tracing.put_steps.Given as goal
 
 abbrev pub invariant-loop-event : goal.invariant-loop-event

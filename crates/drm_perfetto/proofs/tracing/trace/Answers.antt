@@ -1,5 +1,5 @@
 use Rattle.drm_engine.proofs.Failures.{input_fails}
-use Rattle.drm_perfetto.proofs.Tracing.{traces_spelled}
+use Rattle.drm_perfetto.proofs.Traced.{traces_spelled}
 use Rattle.drm_perfetto.proofs.tracing.trace.Goals as goal
 
 pub returns-in-Ok-clause-ending : goal.returns-in-Ok-clause-ending

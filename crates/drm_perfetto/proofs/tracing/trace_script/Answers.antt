@@ -2,7 +2,7 @@ use Rattle.std.proofs.Common.{refl, sym, subst}
 use Rattle.std.specs.Io.KnownBytes.{Appends}
 use Rattle.drm_stream.specs.Streams.{NoWriteFailed}
 use Rattle.drm_engine.specs.Replaying.{ToldFront}
-use Rattle.drm_perfetto.proofs.Tracing.{trace_of}
+use Rattle.drm_perfetto.proofs.Traced.{trace_of}
 use Rattle.drm_perfetto.proofs.tracing.trace_script.Goals as goal
 
 pub returns-in-Ok-write_trace-clause-ending : goal.returns-in-Ok-write_trace-clause-ending

@@ -1,5 +1,5 @@
 use Rattle.drm_perfetto.proofs.Pens.{entries_more}
-use Rattle.drm_perfetto.proofs.Rows.{told_of_rows}
+use Rattle.drm_perfetto.proofs.RowFacts.{told_of_rows}
 use Rattle.drm_perfetto.proofs.rows.Rows.put_changes.Goals as goal
 
 pub returns-clause-entries : goal.returns-clause-entries
