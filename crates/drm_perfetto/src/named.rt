@@ -49,7 +49,7 @@ fn naming_ring(ring: RingId) -> Named
 }
 
 /// What an event names of what its answer is told by.
-pub(crate) fn named(event: &Event<Draft>) -> Named
+pub(crate) fn names(event: &Event<Draft>) -> Named
     ensures { result ≡ named_of event.now }
 {
     match event {

@@ -20,7 +20,7 @@ ghost use Rattle.drm_perfetto.specs.Traces.{Traces, TracesScript, names_of, name
 use crate::clock::Clock;
 use crate::entry::{Entry, Track, When};
 use crate::lanes::{Lane, count};
-use crate::named::{Named, cause, instant, named};
+use crate::named::{Named, cause, instant, names};
 use crate::pen::Pen;
 use crate::rows::Rows;
 use drm_core::{Answer, Core, every_run_is_lawful, headline};
@@ -111,7 +111,7 @@ fn put_steps<W: Write>(
     let mut rest = events.into_left();
     while let Some(event) = rest.next() {
         at = by.time(command, at, &event);
-        let named = named(&event);
+        let named = names(&event);
         let answer = core.apply(alloc, event);
         put_step(
             pen,

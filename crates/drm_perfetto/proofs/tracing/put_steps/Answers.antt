@@ -35,7 +35,7 @@ loop-event-preserved g c =
     let turned = traced_turn by start before after events c.loop-event.rest left so.0 so.1 command last event answer split c.apply-answer.ensures.step so.2 in
     let given = so.0 ++ answer ∷ [] in
     let entries = so.1 ++ added by command last before event answer after in
-    let put = c.put_step.ensures.entries before event (sym c.apply-answer.ensures.grows.spec) c.loop-event.invariant.rows c.named-named.ensures in
+    let put = c.put_step.ensures.entries before event (sym c.apply-answer.ensures.grows.spec) c.loop-event.invariant.rows c.names-named.ensures in
     record {
       names = subst (λ spec. AllNamesExist spec left) (sym c.apply-answer.ensures.grows.spec) named.1;
       rows = c.put_step.ensures.rows;
