@@ -1,6 +1,6 @@
 -- Rows of lanes, and what is told of each.
 use Rattle.std.proofs.Common.{◌≡◌, ◌∙◌, ◌≢◌, ℕ, true, false, Some, None, zero, suc, ◌+◌, ◌<◌, ◌≤◌, List, [], ◌∷◌, ◌++◌, Option, ap, arith, inl, inr, length, refl, set, subst, sym}
-use Rattle.std.specs.Prelude.{is_none, option_and_then}
+use Rattle.std.specs.Prelude.{is_some, option_and_then}
 use Rattle.std.proofs.lemmas.Bool.{cases_lt}
 use Rattle.drm_lists.proofs.Changed.{get_set_other, get_set_within}
 use Rattle.drm_types.specs.declared.spec.DeviceSpec.{DeviceSpec}
@@ -94,15 +94,15 @@ have_room old new rows same all =
 -- ---- arrows
 
 -- there is none where nothing waited, nor where the same waits still
-pub arrow_none : (on : Track) (when : When) (entity : ℕ) (old new : Option Row) → is_none old ≡ true → [] ≡ arrow (Some on) when entity old new
+pub arrow_none : (on : Track) (when : When) (entity : ℕ) (old new : Option Row) → is_some old ≡ false → [] ≡ arrow (Some on) when entity old new
 arrow_none on when entity None new none = refl
-arrow_none on when entity (Some row) new none = absurd (cc (none))
+arrow_none on when entity (Some row) new none = absurd (let never : true ≡ false = none in cc (never))
 
 pub arrow_kept : (on : Track) (when : When) (entity : ℕ) (old new : Option Row) → is_same old new ≡ true → [] ≡ arrow (Some on) when entity old new
 arrow_kept on when entity None new same = refl
 arrow_kept on when entity (Some row) new same = rw same refl
 
 -- else there is one
-pub arrow_put : (on : Track) (when : When) (entity : ℕ) (old new : Option Row) → is_none old ≡ false → is_same old new ≡ false → arrow_between on when entity ≡ arrow (Some on) when entity old new
-arrow_put on when entity None new some other = absurd (cc (some))
+pub arrow_put : (on : Track) (when : When) (entity : ℕ) (old new : Option Row) → is_some old ≡ true → is_same old new ≡ false → arrow_between on when entity ≡ arrow (Some on) when entity old new
+arrow_put on when entity None new some other = absurd (let never : false ≡ true = some in cc (never))
 arrow_put on when entity (Some row) new some other = rw other refl

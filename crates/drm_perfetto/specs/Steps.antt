@@ -1,5 +1,5 @@
 -- What a step of a run adds to its trace.
-use Rattle.std.specs.Prelude.{ℕ, suc, Bool, true, false, ◌==◌, ◌&&◌, if◌then◌else◌, List, [], ◌∷◌, ◌++◌, Option, Some, None}
+use Rattle.std.specs.Prelude.{ℕ, zero, suc, Bool, true, false, ◌==◌, ◌&&◌, if◌then◌else◌, List, [], ◌∷◌, ◌++◌, Option, Some, None}
 use Rattle.std.specs.Option.{option_to_list}
 use Rattle.drm_types.specs.declared.outcome.Outcome.{Outcome}
 use Rattle.drm_types.specs.declared.outcome.Outcome.TheVariants as outcome
@@ -24,7 +24,7 @@ use Rattle.drm_perfetto.specs.Tracks.{count_of, owner_of, shown}
 
 -- what this gives of each number below a count, in their order
 abbrev pub each : ℕ → (ℕ → List Entry) → List Entry
-each 0 entries = []
+each zero entries = []
 each (suc n) entries = each n entries ++ entries n
 
 -- ---- what a command names

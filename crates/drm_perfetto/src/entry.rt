@@ -1,6 +1,6 @@
 //! The entries of a trace, and the words of each.
 
-ghost use Rattle.std.specs.Prelude.{◌≡◌};
+ghost use Rattle.std.specs.Prelude.{◌≡◌, ◌+◌};
 ghost use Rattle.drm_perfetto.specs.Entries.{said_of, said_of_begin, said_of_end, said_of_leave, said_of_name};
 
 /// The numbers of an entry, of which none has more than four: zeros stand behind the last.

@@ -25,7 +25,7 @@ loop-number-preserved g c =
     let was = c.args.rows.now.items in
     let now = c.shown-new.result in
     let told = λ (n : ℕ). changed lane c.args.when c.args.cause n (row_at was n) (shown core lane n) in
-    let within : k < length rows = omega (arith, c.loop-number.invariant.room, c.count.ensures, c.loop-number-test.true) in
+    let within : k < length rows = omega (arith, c.loop-number.invariant.room, c.count-number-end.ensures, c.loop-number-test.true) in
     let old : c.row_at-old.result ≡ row_at was k = c.row_at-old.ensures ∙ ap (λ (rs : _). row_at rs k) c.as_slice.ensures.value ∙ c.loop-number.invariant.left k (omega arith) in
     let put = ap (λ (r : Option Row). changed lane c.args.when c.args.cause k r now) old ∙ ap (λ (r : Option Row). changed lane c.args.when c.args.cause k (row_at was k) r) c.shown-new.ensures in
     record {
@@ -37,12 +37,12 @@ loop-number-preserved g c =
 
 pub returns-clause-entries : goal.returns-clause-entries
 returns-clause-entries g c =
-    let all : c.loop-number.number ≡ count_of c.args.core.now.device.spec c.args.lane = omega (arith, c.count.ensures, c.loop-number-test.false, c.loop-number.auto.number-end) in
+    let all : c.loop-number.number ≡ count_of c.args.core.now.device.spec c.args.lane = omega (arith, c.count-number-end.ensures, c.loop-number-test.false, c.loop-number.auto.number-end) in
     subst (λ (k : ℕ). AddsEntries c.args.pen.now c.args.writer.now
     (each k (λ n. changed c.args.lane c.args.when c.args.cause n (row_at c.args.rows.now.items n) (shown c.args.core.now c.args.lane n))) c.loop-number.pen c.loop-number.writer) all c.loop-number.invariant.entries
 
 pub returns-clause-rows : goal.returns-clause-rows
 returns-clause-rows g c = (
   c.loop-number.invariant.room,
-  λ n lt. c.loop-number.invariant.done n (omega (arith, lt, c.count.ensures, c.loop-number-test.false)),
+  λ n lt. c.loop-number.invariant.done n (omega (arith, lt, c.count-number-end.ensures, c.loop-number-test.false)),
 )

@@ -1,15 +1,11 @@
-use Rattle.std.proofs.Common.{◌≡◌, ◌∙◌, Option, Some, None, true, false, sym, subst}
-use Rattle.std.specs.Prelude.{is_none}
-use Rattle.drm_perfetto.specs.declared.lanes.Row.{Row}
-use Rattle.drm_perfetto.specs.Pens.{AddsEntries}
-use Rattle.drm_perfetto.specs.Steps.{arrow}
+use Rattle.std.proofs.Common.{◌∙◌, ap, not, sym}
 use Rattle.drm_perfetto.proofs.Pens.{entries_none, entries_same}
 use Rattle.drm_perfetto.proofs.RowFacts.{arrow_kept, arrow_none, arrow_put}
 use Rattle.drm_perfetto.proofs.rows.put_arrow_from.Goals as goal
 
 pub returns-then-is_none : goal.returns-then-is_none
 returns-then-is_none g c =
-    entries_same (arrow_none c.args.track c.args.when c.args.entity c.args.old c.args.new (sym c.is_none.ensures.value ∙ c.if-is_none.true)) (entries_none c.args.pen.now c.args.writer.now)
+    entries_same (arrow_none c.args.track c.args.when c.args.entity c.args.old c.args.new (c.is_none.ensures ∙ ap not c.if-is_none.true)) (entries_none c.args.pen.now c.args.writer.now)
 
 pub returns-then-is_same : goal.returns-then-is_same
 returns-then-is_same g c =
@@ -17,4 +13,4 @@ returns-then-is_same g c =
 
 pub returns : goal.returns
 returns g c =
-    entries_same (arrow_put c.args.track c.args.when c.args.entity c.args.old c.args.new (sym c.is_none.ensures.value ∙ c.if-is_none.false) (sym c.is_same.ensures ∙ c.if-is_same.false)) c.put_pair.ensures
+    entries_same (arrow_put c.args.track c.args.when c.args.entity c.args.old c.args.new (c.is_none.ensures ∙ ap not c.if-is_none.false) (sym c.is_same.ensures ∙ c.if-is_same.false)) c.put_pair.ensures

@@ -20,5 +20,5 @@ loop-number-preserved g c =
 
 pub returns : goal.returns
 returns g c =
-    let all : c.loop-number.number ≡ count_of c.args.core.now.device.spec c.args.lane = omega (arith, c.count.ensures, c.loop-number-test.false, c.loop-number.auto.number-end) in
+    let all : c.loop-number.number ≡ count_of c.args.core.now.device.spec c.args.lane = omega (arith, c.count-number-end.ensures, c.loop-number-test.false, c.loop-number.auto.number-end) in
     subst (λ (k : ℕ). AddsEntries c.args.pen.now c.args.writer.now (each k (λ n. entry.Name (track_of c.args.lane n) ∷ [])) c.loop-number.pen c.loop-number.writer) all c.loop-number.invariant
