@@ -8,7 +8,9 @@ use Rattle.drm_perfetto.proofs.Traced.{TracesOn, added, traced_end, traced_none,
 use Rattle.drm_perfetto.proofs.tracing.put_steps.Goals as goal
 
 pub put_step-requires : goal.put_step-requires
-put_step-requires g c = have_room c.loop-event.core c.apply-answer.new.self c.loop-event.rows (sym c.apply-answer.ensures.grows.spec) c.loop-event.invariant.rows
+put_step-requires g c = record {
+  room = have_room c.loop-event.core c.apply-answer.new.self c.loop-event.rows (sym c.apply-answer.ensures.grows.spec) c.loop-event.invariant.rows;
+}
 
 pub loop-event-init : goal.loop-event-init
 loop-event-init g c = record {
