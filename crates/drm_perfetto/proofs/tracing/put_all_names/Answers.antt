@@ -11,4 +11,4 @@ returns g c =
     let queues : AddsEntries c.put_names.new.pen c.put_names.new.writer (names_of_lane spec lane.Queue) c.put_names-2.new.pen c.put_names-2.new.writer = c.put_names-2.ensures in
     let waits : AddsEntries c.put_names-2.new.pen c.put_names-2.new.writer (names_of_lane spec lane.Wait) c.put_names-3.new.pen c.put_names-3.new.writer = c.put_names-3.ensures in
     let buffers : AddsEntries c.put_names-3.new.pen c.put_names-3.new.writer (names_of_lane spec lane.Buffer) c.put_names-4.new.pen c.put_names-4.new.writer = c.put_names-4.ensures in
-    entries_more rings (entries_more queues (entries_more waits buffers))
+    entries_more (entries_more (entries_more rings queues) waits) buffers
