@@ -19,8 +19,8 @@ loop-event-init g c = record {
   so_far = ([], [], traced_none c.args.by c.args.core.now c.args.events c.into_left-rest.result c.into_left-rest.ensures, entries_none c.args.pen.now c.args.writer.now);
 }
 
-pub loop-event-preserved-in-Some : goal.loop-event-preserved-in-Some
-loop-event-preserved-in-Some g c =
+pub loop-event-preserved : goal.loop-event-preserved
+loop-event-preserved g c =
     let by = c.args.by in
     let start = c.args.core.now in
     let events = c.args.events in
