@@ -49,10 +49,3 @@ idle_queue : (n e : ℕ) (r : EntityRow) → r.queue ≡ [] → option_map_or (�
 idle_queue zero e r idle = refl
 idle_queue (suc n) zero r idle = idle
 idle_queue (suc n) (suc e) r idle = idle_queue n e r idle
-
-pub below_none : (n places limit : ℕ) → AllBelow (record { places = places; rows = replicate n (record { queue = []; is_stopped = false; is_guilty = false }) }) limit
-below_none n places limit entity number in_queue =
-    none (subst (λ (l : List ℕ). Contains l number) (idle_queue n entity (record { queue = []; is_stopped = false; is_guilty = false }) refl) in_queue)
-  where
-    none : Contains {X = ℕ} [] number → number < limit
-    none there = absurd (omega (arith, there.1))

@@ -140,11 +140,6 @@ found_keeps : (Good : Row → Type 0) (again : Bool) (found : Option Rule) (valu
 found_keeps Good again None values rows keeps passed each = each
 found_keeps Good again (Some a) values rows keeps passed each = keeps values rows passed each
 
--- the rows stay good whichever of two holdings is taken
-either_held : (Good : Row → Type 0) (first : Bool) (a b : Held) → Each Good a.rows → Each Good b.rows → Each Good (if first then a else b).rows
-either_held Good true a b one other = one
-either_held Good false a b one other = other
-
 module _ (Good : Row → Type 0) (c : List Rule) (again : Bool) (keeps : Each (Keeps Good again) c) where
   -- what is pending is used
   pending_keeps : (pending : Option (Text × List Text)) (rows : List Row)

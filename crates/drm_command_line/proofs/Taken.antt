@@ -8,12 +8,6 @@ use Rattle.drm_engine.specs.declared.engine.Engine.{Engine}
 use Rattle.drm_engine.specs.declared.engine.Engine.TheVariants as engine
 use Rattle.drm_command_line.specs.CommandLine.{program_app, wants_words, word_entered}
 
-pub is_simple_program : is_simple program_app ≡ true
-is_simple_program = refl
-
-pub is_free_program : is_simple_and_free program_app ≡ true
-is_free_program = refl
-
 pub is_taken : (name : Text) (engine : Engine) → takes program_app (name ∷ word_of engine ∷ []) ≡ true
 unfolding clap_on_literals
 is_taken name engine.Replay = refl

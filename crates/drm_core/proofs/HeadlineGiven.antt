@@ -38,10 +38,6 @@ begun_stays (x ∷ xs) zero (suc k) c begun = begun
 begun_stays (x ∷ xs) (suc ctx) zero c begun = begun
 begun_stays (x ∷ xs) (suc ctx) (suc k) c begun = begun_stays xs ctx k c begun
 
-pub begun_changed : (m : CoreState) (ctx k : ℕ) (change : Context → Context) → begun_in m.contexts k ≡ true → begun_in (context_changed m ctx change).contexts k ≡ true
-begun_changed m ctx k change begun =
-    at_option (λ (n : CoreState). begun_in n.contexts k ≡ true) _ (context_of m ctx) m begun (λ c. begun_stays m.contexts ctx k (change c) begun)
-
 pub begun_if_not_idle : (s : CoreState) (ctx : ℕ) → idle_refusal s ctx ≡ None → begun_in s.contexts ctx ≡ true
 begun_if_not_idle s ctx is = by_context (context_of s ctx) is
   where

@@ -10,9 +10,6 @@ use Rattle.drm_resv.specs.Reservation.{WithRoom}
 use Rattle.drm_core.specs.Planning.{MoreRoom, HasRoomFor}
 use Rattle.drm_core.proofs.Lists.{get_set_same, get_set_other, get_set_cases}
 
-pub more_itself : (rs : List WithRoom) → MoreRoom rs rs
-more_itself rs = record { count = refl; each = λ k r at. (r, at, refl, λ room. room) }
-
 pub more_trans : (a b c : List WithRoom) → MoreRoom a b → MoreRoom b c → MoreRoom a c
 more_trans a b c ab bc = record {
   count = bc.count ∙ ab.count;

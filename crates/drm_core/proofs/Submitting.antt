@@ -61,9 +61,6 @@ submit_early s draft o none is =
     one_of None = refl
     one_of (Some b) = refl
 
-pub submit_faulty : (s : CoreState) (draft : Draft) (f : JobFault) → job_fault s.device.spec draft ≡ Some f → early_refusal s (event.Submit draft) ≡ Some (Faulty f)
-submit_faulty s draft f is = ap (λ o. first_of (option_map Faulty o ∷ option_map Held (find (is_held s) (buffers_of draft)) ∷ [])) is
-
 -- more room leaves what the reservations keep
 pub kept_same : (old new : List WithRoom) → MoreRoom old new → map (λ r. r.kept) new ≡ map (λ r. r.kept) old
 kept_same old new more = list_ext (map kept_of new) (map kept_of old) (length-map new kept_of ∙ (more.count ∙ sym (length-map old kept_of))) each

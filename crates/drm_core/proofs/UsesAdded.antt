@@ -51,9 +51,6 @@ pub record UsesOfFirst (ended : ℕ → Bool) (fence : ℕ) (job : Draft) (n : �
       → (m : WithRoom) × (slice_get new b ≡ Some m) × HasUse ended fence job b r m
   pub rest : (b : ℕ) → ((k : ℕ) (d : ℕ × Access) → k < n → slice_get job.declared k ≡ Some d → d.0 ≡ b → ⊥) → slice_get new b ≡ slice_get old b
 
-pub uses_of_none : (ended : ℕ → Bool) (fence : ℕ) (job : Draft) (old : List WithRoom) → UsesOfFirst ended fence job 0 old old
-uses_of_none ended fence job old = record { done = λ b k r d at lt. absurd (omega (arith, lt)); rest = λ b none. refl }
-
 -- the reservation of the next buffer is as it was
 pub next_is_untouched : (ended : ℕ → Bool) (fence : ℕ) (job : Draft) (n place : ℕ) (d : ℕ × Access) (old rs : List WithRoom) → DeclaresOnce job
     → slice_get job.declared n ≡ Some d → place ≡ d.0 → UsesOfFirst ended fence job n old rs → slice_get rs place ≡ slice_get old place

@@ -197,9 +197,6 @@ pub ends_are : (cells : List (Option Pair)) (n f j : ℕ) → IsOf cells n j f �
 ends_are cells n f j (inl x) past = absurd (omega (arith, past, slice_get_within cells j (Some x.0) x.1))
 ends_are cells n f j (inr x) past = x.0
 
-pub end_not_early : (cells : List (Option Pair)) (k : ℕ) → length cells ≤ k → IsEarly cells k → ⊥
-end_not_early cells k past x = absurd (omega (arith, past, slice_get_within cells k (Some x.0) x.1))
-
 -- the pair at the front of a list, where the list has a pair for which something holds that holds of those before it too
 pub at_front : (cells : List (Option Pair)) (unmet : List ℕ) (links : List Links) (Q : ℕ → Type 0) (f k : ℕ) (p : Pair) → IsLinked cells unmet links
     → ((j : ℕ) → IsOf cells (length links) j f → Q j → before_of links j < length cells → Q (before_of links j))

@@ -53,6 +53,3 @@ pub count_of : (n : ℕ) (xs : List WithRoom) → map (λ r. r.kept) xs ≡ repl
 count_of n xs all = sym (length-map xs (λ (r : WithRoom). r.kept)) ∙ (ap length all ∙ length-replicate n empty)
 
 -- ---- and it shows no fence
-
-pub shows_none : (f : ℕ) → word_at [] f ≡ 0
-shows_none f = refl

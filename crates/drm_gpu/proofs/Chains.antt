@@ -55,9 +55,6 @@ knows_called spec p q v w k on sees mine = record {
 knows_last : (spec : DeviceSpec) (q : MarkedDevice) (w : Seeing) → Knows spec q w → Knows spec (last_of w) w
 knows_last spec q w k = subst (λ d. Knows spec d w) (sym (last_is spec q w k)) k
 
-pub knows_right : (spec : DeviceSpec) (d : MarkedDevice) (v : Seeing) → Knows spec d v → Knows spec d (right_half v)
-knows_right spec d v k = record { seen = k.seen; described = k.described; chain = tt; lefts = λ c h. absurd h }
-
 module _ (spec : DeviceSpec) (p q : MarkedDevice) (xs : List (ℕ × WithRoom)) (change : TaskChange Task) where
   -- a caller that found p has brought q home
   pub left : (r : MarkedDevice) (v w : Seeing) → Knows spec p v → v.pivot.posted ≡ false → GrowsTo p q → v.pivot.seen ≡ r ∷ [] → w ≡ with_exit true change r q xs v

@@ -37,10 +37,3 @@ module _ (journal : List JobRecord) (fence word : ℕ) (shown : word ≡ word_at
 
   pub told_none : word ≡ 0 → slice_get journal fence ≡ None
   told_none is = no_record (slice_get journal fence) (record_status (slice_get journal fence) ∙ ap status_by (sym shown ∙ is))
-
-pub last_status : (n : ℕ) → 3 < n → status_by n ≡ Some (negsuc 2)
-last_status zero lt = absurd (omega (arith, lt))
-last_status (suc zero) lt = absurd (omega (arith, lt))
-last_status (suc (suc zero)) lt = absurd (omega (arith, lt))
-last_status (suc (suc (suc zero))) lt = absurd (omega (arith, lt))
-last_status (suc (suc (suc (suc n)))) lt = refl

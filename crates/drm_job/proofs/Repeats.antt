@@ -34,11 +34,6 @@ pub passed : (declared : List (ℕ × Access)) (i : ℕ) (d : ℕ × Access) →
     → list_any (λ y. y == d.0) (buffers (take i declared)) ≡ false → left_at declared i ≡ left_at declared (i + 1)
 passed declared i d lt is test = look_at declared i d false lt is test ∙ first_of_one (left_at declared (i + 1))
 
--- no place stands before the first, so the second is looked at first
-pub from_second : (declared : List (ℕ × Access)) → left_at declared 1 ≡ repeat_after [] (buffers declared)
-from_second [] = refl
-from_second (d ∷ ds) = sym (first_of_one (repeat_after (d.0 ∷ []) (buffers ds)))
-
 -- a buffer stands among these where it is declared by them
 pub among : (declared : List (ℕ × Access)) (b : ℕ)
     → list_any (λ y. y == b) (buffers declared) ≡ is_some (option_map (λ d. d.1) (find (λ d. d.0 == b) declared))

@@ -310,13 +310,6 @@ lines_take spec reading n bytes (next ∷ rest) out read e =
     let l = line_takes spec reading n bytes a.0 a.1 in
     one_line spec reading bytes (next ∷ rest) out l.0 a.0 read l.1 l.2 (lines_take spec a.0 (n + 1) next rest out (tells_read spec reading l.0 a.0 read l.2) a.2)
 
--- what was read up to the end
-pub body_read : (spec : DeviceSpec) (reading : Reading) (n : ℕ) (bytes : List ℕ) (more : List (List ℕ)) (out : Reading) → IsRead spec reading → body_of spec reading n bytes more ≡ Ok out
-    → IsRead spec out × (out.is_over ≡ true)
-body_read spec reading n bytes more out read e =
-    let body = lines_take spec reading n bytes more out read e in
-    (body.read, ap (λ (r : Reading). r.is_over) body.adds)
-
 -- ---- what is written
 
 body_in : DeviceSpec → Reading → ℕ → List (List ℕ) → Result Reading Fault

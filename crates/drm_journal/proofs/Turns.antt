@@ -222,10 +222,6 @@ RunsOn spec all armed reading machine left =
     (before : List JournalJob) × (length before ≡ armed) × (body_of spec (with_before before reading) left.line left.bytes left.more ≡ all)
     × IsRead spec (with_before before reading) × (machine ≡ serial spec.buffers (map turn_of before))
 
-pub runs_first : (spec : DeviceSpec) (reading : Reading) (machine : List (List ℕ)) (left : Left) → reading ≡ nothing_read → machine ≡ spec.buffers
-    → RunsOn spec (body_of spec nothing_read left.line left.bytes left.more) 0 reading machine left
-runs_first spec reading machine left none first = rw none ([], refl, refl, none_read spec, first)
-
 -- the jobs of a line that is read
 pub runs_here : (spec : DeviceSpec) (all : Result Reading Fault) (armed : ℕ) (reading next : Reading) (machine : List (List ℕ)) (left : Left) → RunsOn spec all armed reading machine left → reading.jobs ≡ []
     → journal_line spec armed reading left.line left.bytes ≡ Ok next → All (λ armed. RunsIn machine armed.job) next.jobs

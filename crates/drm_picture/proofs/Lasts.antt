@@ -158,7 +158,3 @@ any-grown_by some grown false rest is = rest is
 any-grown : (test : ℕ → Bool) (entities more : List ℕ) → list_any test entities ≡ true → list_any test (entities ++ more) ≡ true
 any-grown test [] more some = cc
 any-grown test (entity ∷ entities) more some = any-grown_by (list_any test entities) (list_any test (entities ++ more)) (test entity) (any-grown test entities more) some
-
-pub listed-grown : (entities more : List ℕ) (job : Option Request) → is_listed entities job ≡ true → is_listed (entities ++ more) job ≡ true
-listed-grown entities more None listed = refl
-listed-grown entities more (Some request) listed = any-grown (λ entity. entity == request.entity) entities more listed

@@ -24,12 +24,6 @@ take-more xs place x within found =
     let one : place + 1 ≡ suc place = omega arith in
     ap (λ n. take n xs) one ∙ take-suc xs place x within ∙ ap (λ y. take place xs ++ y ∷ []) (sym found)
 
--- one element more, of which something is told
-pub mapped_more : {X Y : Type 0} (f : X → Y) (xs : List X) (place : ℕ) (x : X) (ys : List Y) → place < length xs → x ≡ get_or xs place x
-    → ys ≡ map f (take place xs) → ys ++ f x ∷ [] ≡ map f (take (place + 1) xs)
-mapped_more f xs place x ys within found so =
-    ap (λ l. l ++ f x ∷ []) so ∙ sym (map-append f (take place xs) (x ∷ [])) ∙ ap (map f) (sym (take-more xs place x within found))
-
 -- one element more, with its place
 pub placed_more : {X : Type 0} (xs : List X) (place : ℕ) (x : X) → place < length xs → x ≡ get_or xs place x
     → enumerate_from 0 (take (place + 1) xs) ≡ enumerate_from 0 (take place xs) ++ (place, x) ∷ []

@@ -20,23 +20,3 @@ join_lesser (Some y) x (Some z) = ap Some (assoc y x z)
   where
     assoc : (a b d : ℕ) → min a (min b d) ≡ min (min a b) d
     assoc a b d = omega arith
-
-pub joined_none : (found : Option ℕ) → joined found None ≡ found
-joined_none None = refl
-joined_none (Some x) = refl
-
--- one entry more
-pub active_more : (ended : ℕ → Bool) (usage : Usage) (found : Option ℕ) (e : Entry) (rest : List Entry)
-    → joined found (least_active ended usage (e ∷ rest))
-    ≡ joined (cond (is_as_strong e.usage usage && not (ended e.fence)) (lesser found e.fence) found) (least_active ended usage rest)
-active_more ended usage found e rest =
-    elim (is_as_strong e.usage usage) as (λ s. joined found (least (map (λ (x : Entry). x.fence) (filter (λ x. not (ended x.fence)) (cond s (e ∷ entries_of usage rest) (entries_of usage rest)))))
-    ≡ joined (cond (s && not (ended e.fence)) (lesser found e.fence) found) (least_active ended usage rest)) [
-      | true ↦
-          elim (not (ended e.fence)) as (λ t. joined found (least (map (λ (x : Entry). x.fence) (cond t (e ∷ filter (λ x. not (ended x.fence)) (entries_of usage rest)) (filter (λ x. not (ended x.fence)) (entries_of usage rest)))))
-          ≡ joined (cond t (lesser found e.fence) found) (least_active ended usage rest)) [
-            | true ↦ join_lesser found e.fence (least_active ended usage rest)
-            | false ↦ refl
-          ]
-      | false ↦ refl
-    ]

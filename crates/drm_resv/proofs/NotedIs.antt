@@ -75,10 +75,6 @@ eqb_turned a b apart =
       | false ↦ λ is. refl
     ] refl
 
--- an entity that is not there leaves a place for it
-keys_of : List (ℕ × ℕ) → List ℕ
-keys_of xs = map (λ (d : ℕ × ℕ). d.0) xs
-
 apart_before : (xs : List (ℕ × ℕ)) (entity : ℕ) → ((i : ℕ) (y : ℕ × ℕ) → i < length xs → slice_get xs i ≡ Some y → eqb y.0 entity ≡ false)
     → AllByRecursion (λ y. eqb entity y ≡ false) (map (λ (d : ℕ × ℕ). d.0) xs)
 apart_before [] entity before = tt
@@ -140,16 +136,3 @@ pub before_all : (items seen : List (ℕ × ℕ)) (place entity : ℕ) → seen 
     → (k : ℕ) (d : ℕ × ℕ) → k < length items → slice_get items k ≡ Some d → eqb d.0 entity ≡ false
 before_all items seen place entity seen_is past before k d lt at =
     before k d (omega (arith, lt, past)) (subst (λ (l : List (ℕ × ℕ)). slice_get l k ≡ Some d) (sym seen_is) at)
-
--- the same in a list that is written in place
-pub noted_in_place : (items seen now : List (ℕ × ℕ)) (place entity fence m : ℕ) (d : ℕ × ℕ) → seen ≡ items → items ≡ now
-    → d ≡ get_or items place d → m ≡ max d.1 fence → place < length items
-    → ((k : ℕ) (y : ℕ × ℕ) → k < place → slice_get seen k ≡ Some y → eqb y.0 entity ≡ false)
-    → ((y : ℕ × ℕ) → slice_get seen place ≡ Some y → eqb y.0 entity ≡ true)
-    → set items place (d.0, m) ≡ noted now entity fence
-noted_in_place items seen now place entity fence m d seen_is view d_is m_is lt before here =
-    let at : slice_get items place ≡ Some d = slice_get-get_or items place d lt ∙ ap Some (sym d_is) in
-    let Before : List (ℕ × ℕ) → Type 0 = λ l. (k : ℕ) (y : ℕ × ℕ) → k < place → slice_get l k ≡ Some y → eqb y.0 entity ≡ false in
-    let Here : List (ℕ × ℕ) → Type 0 = λ l. (y : ℕ × ℕ) → slice_get l place ≡ Some y → eqb y.0 entity ≡ true in
-    let is = noted_at items place d entity fence at (subst Here seen_is here d at) (subst Before seen_is before) in
-    ap (λ n. set items place (d.0, n)) m_is ∙ (sym is ∙ ap (λ (l : List (ℕ × ℕ)). noted l entity fence) view)

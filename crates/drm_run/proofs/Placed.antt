@@ -81,9 +81,6 @@ none_named (f ∷ fs) fence number is has = absurd (cc (is))
 each_is : (spec : DeviceSpec) (jobs : List Draft) → AreRunnable spec jobs → All (IsRunnable spec) jobs
 each_is spec jobs are = All-from_recursion (IsRunnable spec) jobs are
 
-pub are_jobs : (spec : DeviceSpec) (jobs : List Draft) → AreRunnable spec jobs → All (IsJob spec) jobs
-are_jobs spec jobs are k d lt = (each_is spec jobs are k d lt).0
-
 turns_fit : JobsRunInTheirDevice → (spec : DeviceSpec) (records : List JobRecord) → All (λ r. IsJob spec r.job) records → All (λ (t : Turn). RunsIn spec.buffers t.job) (turns records)
 turns_fit run spec [] all = All-nil (λ (t : Turn). RunsIn spec.buffers t.job)
 turns_fit run spec (r ∷ rs) all =

@@ -58,11 +58,6 @@ matched_alone k ks js is matched =
 pub joined_with : (k : Kept) (j : Draft) (ks : List Kept) (js : List Draft) → brings_job k ≡ true → AreMatched ks js → joined (ks ++ k ∷ []) (js ++ j ∷ []) ≡ joined ks js ++ event_with k j ∷ []
 joined_with k j ks js is matched = joined_behind k (j ∷ []) (event_with k j ∷ []) (ap (λ b. next_joined b k (joined []) (j ∷ [])) is) ks js matched
 
-pub matched_with : (k : Kept) (j : Draft) (ks : List Kept) (js : List Draft) → brings_job k ≡ true → AreMatched ks js → AreMatched (ks ++ k ∷ []) (js ++ j ∷ [])
-matched_with k j ks js is matched =
-    let one : jobs_of k ≡ 1 = ap (λ (b : Bool). cond b 1 0) is in
-    omega (arith, counted_last k ks, one, matched, length-append js (j ∷ []))
-
 -- ---- at the front
 
 -- where the first event brings a job there is one

@@ -63,12 +63,6 @@ finish_may d ring f r is at complete =
     ap (λ o. option_map_or (λ f. when (not (is_at d.journal f is_complete)) NotComplete) o (Some Idle)) is
     ∙ ap (λ b. when (not b) NotComplete) (at_test d.journal f r is_complete at ∙ complete)
 
-pub finish_may_not : (d : DeviceState) (ring f : ℕ) (r : JobRecord) → head_of d ring ≡ Some f → slice_get d.journal f ≡ Some r → is_complete r ≡ false
-    → finish_refusal d ring ≡ Some NotComplete
-finish_may_not d ring f r is at going =
-    ap (λ o. option_map_or (λ f. when (not (is_at d.journal f is_complete)) NotComplete) o (Some Idle)) is
-    ∙ ap (λ b. when (not b) NotComplete) (at_test d.journal f r is_complete at ∙ going)
-
 pub finish_ends : (d : DeviceState) (ring now f : ℕ) (r : JobRecord) → head_of d ring ≡ Some f → slice_get d.journal f ≡ Some r
     → finish_outcome d ring now ≡ (answer.Finished f (final_outcome r), finished_device d ring now f (final_outcome r))
 finish_ends d ring now f r is at =
@@ -79,16 +73,6 @@ pub pick_may : (d : DeviceState) (ring f : ℕ) → choice d ring ≡ Some f →
 pick_may d ring f is fits =
     ap (λ o. option_map_or (λ f. when (nat_lt (free_credits d ring) (credits_of d ring f)) (NoCredit (credits_of d ring f) (free_credits d ring))) o (Some Idle)) is
     ∙ ap (λ b. when b (NoCredit (credits_of d ring f) (free_credits d ring))) fits
-
-pub pick_may_not : (d : DeviceState) (ring f : ℕ) → choice d ring ≡ Some f → nat_lt (free_credits d ring) (credits_of d ring f) ≡ true
-    → pick_refusal d ring ≡ Some (NoCredit (credits_of d ring f) (free_credits d ring))
-pick_may_not d ring f is more =
-    ap (λ o. option_map_or (λ f. when (nat_lt (free_credits d ring) (credits_of d ring f)) (NoCredit (credits_of d ring f) (free_credits d ring))) o (Some Idle)) is
-    ∙ ap (λ b. when b (NoCredit (credits_of d ring f) (free_credits d ring))) more
-
-pub pick_idle : (d : DeviceState) (ring : ℕ) → choice d ring ≡ None → pick_refusal d ring ≡ Some Idle
-pick_idle d ring is =
-    ap (λ o. option_map_or (λ f. when (nat_lt (free_credits d ring) (credits_of d ring f)) (NoCredit (credits_of d ring f) (free_credits d ring))) o (Some Idle)) is
 
 pub pick_takes : (d : DeviceState) (ring now f : ℕ) (r : JobRecord) → choice d ring ≡ Some f → slice_get d.journal f ≡ Some r
     → pick_outcome d ring now ≡ (answer.Picked f (is_guilty d r.job.entity), picked_device d ring now f)

@@ -31,14 +31,6 @@ head_found journal entity age is = by_first (first (queue_of entity journal)) is
     by_first None none = absurd (cc (none))
     by_first (Some n) some = let same : n.0 ≡ age = cc (some) in eq-eqb n.0 age same
 
--- and the only one
-pub head_only : (journal : List JobRecord) (entity age other : ℕ) → head_number journal entity ≡ Some age → is_head_of entity journal other ≡ true → other ≡ age
-head_only journal entity age other is heads = by_first (first (queue_of entity journal)) is heads
-  where
-    by_first : (o : Option (ℕ × JobRecord)) → option_map (λ (n : ℕ × JobRecord). n.0) o ≡ Some age → option_map_or (λ (n : ℕ × JobRecord). n.0 == other) o false ≡ true → other ≡ age
-    by_first None none some = absurd (cc (none))
-    by_first (Some n) some here = let same : n.0 ≡ age = cc (some) in sym (eqb-true n.0 other here) ∙ same
-
 -- a queue with no head has no head
 pub no_head : (journal : List JobRecord) (entity other : ℕ) → head_number journal entity ≡ None → is_head_of entity journal other ≡ true → false ≡ true
 no_head journal entity other is heads = by_first (first (queue_of entity journal)) is heads

@@ -54,18 +54,6 @@ may_end t ring f outcome w there is ends =
           let never : None ≡ Some outcome = sym (ap (λ b. cond b (Some (final_outcome h.0)) None) going) ∙ ends_so in absurd (cc (never))
     ]
 
--- a head that may not end
-pub may_not_end : (t : Table) (ring f : ℕ) → IsWhole t → ring < length t.spec.rings → head_of (state_of t) ring ≡ Some f
-    → option_map_or ending (slice_get t.journal.items f) None ≡ None → (r : JobRecord) × IsHead (state_of t) ring f r × (is_complete r ≡ false)
-may_not_end t ring f w there is ends =
-    let h = head_is (state_of t) ring f w.steady.lawful there is in
-    let ends_so : ending h.0 ≡ None = sym (ap (λ o. option_map_or ending o None) h.1.at) ∙ ends in
-    elim (cases_Bool (is_complete h.0)) [
-      | inl complete ↦
-          let never : Some (final_outcome h.0) ≡ None = sym (ap (λ b. cond b (Some (final_outcome h.0)) None) complete) ∙ ends_so in absurd (cc (never))
-      | inr going ↦ (h.0, h.1, going)
-    ]
-
 -- it is still going in the eyes of its fence
 pub not_ended_yet : (t : Table) (ring f : ℕ) (r : JobRecord) → IsHead (state_of t) ring f r → is_at t.journal.items f (λ r. not (has_ended r.phase)) ≡ true
 not_ended_yet t ring f r h = at_test t.journal.items f r (λ r. not (has_ended r.phase)) h.at ∙ ap (λ p. not (has_ended p)) h.phase

@@ -232,6 +232,3 @@ not_less a b x y le x_is y_is =
       | inl less ↦ let lt = ltb-true x y less in absurd (omega (arith, le, lt, x_is, y_is))
       | inr no_less ↦ no_less
     ]
-
-pub is_less : (a b x y : ℕ) → a < b → x ≡ a → y ≡ b → nat_lt x y ≡ true
-is_less a b x y lt x_is y_is = lt-ltb x y (omega (arith, lt, x_is, y_is))

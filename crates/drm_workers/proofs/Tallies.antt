@@ -69,10 +69,6 @@ none_left [] (suc i) past = refl
 none_left (r ∷ rs) zero past = absurd (omega (arith, past))
 none_left (r ∷ rs) (suc i) past = none_left rs i (omega (arith, past))
 
--- all are counted
-pub all_counted : (rs : List JobRecord) (i : ℕ) (counts : List ℕ) → length rs ≤ i → Tally rs i counts → (ring k : ℕ) → slice_get counts ring ≡ Some k → k ≡ records_of ring rs
-all_counted rs i counts past tally ring k get = omega (arith, tally ring k get, ap (records_of ring) (none_left rs i past))
-
 -- what is told of each ring is the number of its records, where it is what was counted
 pub told_right : (rs seen : List JobRecord) (items told counts : List ℕ) (rings n : ℕ) → seen ≡ rs → told ≡ items → n ≡ rings
     → ((ring k : ℕ) → slice_get counts ring ≡ Some k → k ≡ records_of ring seen)
