@@ -1,0 +1,2 @@
+pub mod TextChains
+pub mod Timed

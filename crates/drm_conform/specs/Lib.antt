@@ -1,0 +1,5 @@
+pub mod Answers
+pub mod Tables
+pub mod Times
+pub mod Verdicts
+pub mod Words

@@ -1,0 +1,18 @@
+//! The engine that holds the log of a real kernel against the rules of a scheduler, between any reader and any writer.
+//!
+//! `conform` reads a log and writes the rules that it breaks (`drm_rules`), line by line, with the lines that they are broken
+//! against; then how many jobs and broken rules there are, what was not judged, and how long the jobs of each ring waited
+//! and ran. Its verdict is `Kept` exactly where the log keeps all rules.
+#![tactic(auto)]
+
+mod answering;
+mod conforming;
+mod options;
+mod times;
+mod verdict;
+mod words;
+
+pub use conforming::conform;
+pub use options::{Limit, Options};
+pub use times::{Counts, Times, Total};
+pub use verdict::Verdict;

@@ -1,0 +1,4 @@
+pub mod LineLists
+pub mod PlainlyKept
+pub mod RunsTold
+pub mod StepsTold

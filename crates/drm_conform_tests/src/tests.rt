@@ -1,0 +1,28 @@
+//! What the tests of the judge share.
+
+mod damaged;
+mod logs;
+mod streams;
+
+use crate::{SlowWriter, judge_on};
+use drm_conform::Options;
+use drm_types::Sequence;
+use std::alloc::Global;
+use std::process::Abort;
+
+/// Options without limits and without the times of jobs.
+fn options(alloc: Global, tolerance: u64, in_order: bool) -> Options {
+    Options {
+        tolerance,
+        in_order,
+        limits: Sequence::new(alloc),
+        jobs: false,
+    }
+}
+
+/// A log is judged with this status, and this is told of it.
+fn judged(rt: &impl Abort, alloc: Global, options: &Options, log: &[u8], status: u8, told: &str) {
+    let (verdict, writer) = judge_on(alloc, options, log, SlowWriter::new(alloc, 100, None));
+    assert_eq!(rt; writer.taken.as_slice(), told.as_bytes());
+    assert_eq!(rt; verdict.status(), status);
+}

@@ -1,0 +1,3 @@
+pub mod Exact
+pub mod Judged
+pub mod Passing

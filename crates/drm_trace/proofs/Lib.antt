@@ -1,0 +1,5 @@
+pub mod Cutting
+pub mod LogRead
+pub mod Marks
+pub mod NamesMet
+pub mod Spans
