@@ -1,0 +1,21 @@
+use Rattle.std.proofs.Common.{◌≡◌, ◌∙◌, Some, ap, sym, arith, slice_get}
+use Rattle.drm_lists.proofs.Places.{at_index}
+use Rattle.drm_why.proofs.Numbered.{none_queued, none_queued_more, queued_found}
+use Rattle.drm_why.proofs.rings.first_queued.Goals as goal
+
+pub loop-number-preserved : goal.loop-number-preserved
+loop-number-preserved c =
+    let js = c.args.device.now.state.journal in
+    let record_at = c.index-records-number.result in
+    let at = at_index js c.loop-number.number record_at (rw c.records-records.ensures at c.index-records-number.is) (omega (arith, c.loop-number-test.true, c.armed.ensures)) in
+    none_queued_more js c.args.ring c.loop-number.number record_at at (sym c.is_queued_for.ensures ∙ c.if-is_queued_for.false) c.loop-number.invariant
+
+pub returns-then-is_queued_for : goal.returns-then-is_queued_for
+returns-then-is_queued_for c =
+    let js = c.args.device.now.state.journal in
+    let record_at = c.index-records-number.result in
+    let at = at_index js c.loop-number.number record_at (rw c.records-records.ensures at c.index-records-number.is) (omega (arith, c.loop-number-test.true, c.armed.ensures)) in
+    queued_found js c.args.ring c.loop-number.number record_at at (sym c.is_queued_for.ensures ∙ c.if-is_queued_for.true) c.loop-number.invariant
+
+pub returns : goal.returns
+returns c = none_queued c.args.device.now.state.journal c.args.ring c.loop-number.number (omega (arith, c.loop-number-test.false, c.armed.ensures)) c.loop-number.invariant
