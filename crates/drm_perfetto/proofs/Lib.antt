@@ -1,0 +1,5 @@
+pub mod Fillings
+pub mod Pens
+pub mod Pieces
+pub mod RowFacts
+pub mod Traced

@@ -1,0 +1,48 @@
+use Rattle.std.proofs.Common.{◌≡◌, ◌∙◌, ℕ, ◌<◌, ◌≤◌, ◌+◌, Option, ap, arith, length, length-set, refl, subst, sym}
+use Rattle.drm_perfetto.specs.declared.lanes.Row.{Row}
+use Rattle.drm_perfetto.specs.Pens.{AddsEntries}
+use Rattle.drm_perfetto.specs.Rows.{row_at}
+use Rattle.drm_perfetto.specs.Steps.{changed, each}
+use Rattle.drm_perfetto.specs.Tracks.{count_of, shown}
+use Rattle.drm_perfetto.proofs.Pens.{entries_more, entries_none, entries_same}
+use Rattle.drm_perfetto.proofs.RowFacts.{each_more, rows_done, rows_left}
+use Rattle.drm_perfetto.proofs.rows.follow.Goals as goal
+
+pub loop-number-init : goal.loop-number-init
+loop-number-init g c = record {
+  room = c.requires.room;
+  done = λ n lt. absurd (omega (arith, lt));
+  left = λ n from. refl;
+  entries = entries_none c.args.pen.now c.args.writer.now;
+}
+
+pub loop-number-preserved : goal.loop-number-preserved
+loop-number-preserved g c =
+    let core = c.args.core.now in
+    let lane = c.args.lane in
+    let k = c.loop-number.number in
+    let rows = c.loop-number.rows.items in
+    let was = c.args.rows.now.items in
+    let now = c.shown-new.result in
+    let told = λ (n : ℕ). changed lane c.args.when c.args.cause n (row_at was n) (shown core lane n) in
+    let within : k < length rows = omega (arith, c.loop-number.invariant.room, c.count-number-end.ensures, c.loop-number-test.true) in
+    let old : c.row_at-old.result ≡ row_at was k = c.row_at-old.ensures ∙ ap (λ (rs : _). row_at rs k) c.as_slice.ensures.value ∙ c.loop-number.invariant.left k (omega arith) in
+    let put = ap (λ (r : Option Row). changed lane c.args.when c.args.cause k r now) old ∙ ap (λ (r : Option Row). changed lane c.args.when c.args.cause k (row_at was k) r) c.shown-new.ensures in
+    record {
+      room = length-set rows k now ∙ c.loop-number.invariant.room;
+      done = rows_done rows now (shown core lane) k within c.loop-number.invariant.done c.shown-new.ensures;
+      left = rows_left rows was now k c.loop-number.invariant.left;
+      entries = entries_same (each_more k told) (entries_more c.loop-number.invariant.entries (entries_same put c.put_changed.ensures));
+    }
+
+pub returns-clause-entries : goal.returns-clause-entries
+returns-clause-entries g c =
+    let all : c.loop-number.number ≡ count_of c.args.core.now.device.spec c.args.lane = omega (arith, c.count-number-end.ensures, c.loop-number-test.false, c.loop-number.auto.number-end) in
+    subst (λ (k : ℕ). AddsEntries c.args.pen.now c.args.writer.now
+    (each k (λ n. changed c.args.lane c.args.when c.args.cause n (row_at c.args.rows.now.items n) (shown c.args.core.now c.args.lane n))) c.loop-number.pen c.loop-number.writer) all c.loop-number.invariant.entries
+
+pub returns-clause-rows : goal.returns-clause-rows
+returns-clause-rows g c = (
+  c.loop-number.invariant.room,
+  λ n lt. c.loop-number.invariant.done n (omega (arith, lt, c.count-number-end.ensures, c.loop-number-test.false)),
+)

@@ -1,0 +1,8 @@
+pub mod Filling
+pub mod Entries
+pub mod Tracks
+pub mod Steps
+pub mod Traces
+pub mod Runs
+pub mod Pens
+pub mod Rows

@@ -1,0 +1,78 @@
+//! Words with numbers in them, put into a piece of text.
+
+ghost use Rattle.std.specs.Prelude.{◌≡◌, ◌++◌, decimal, drop, flat_map, take};
+ghost use Rattle.drm_engine.specs.Replaying.{Told};
+ghost use Rattle.drm_perfetto.specs.Filling.{filled};
+
+use drm_engine::{Piece, WriteFailed};
+use drm_stream::Sink;
+use std::io::Write;
+
+/// Puts these bytes.
+pub(crate) fn put_bytes<W: Write>(
+    piece: &mut Piece,
+    writer: &mut Sink<W>,
+    bytes: &[u8],
+) -> Result<(), WriteFailed>
+    ensures { Told writer.old writer.new result (piece.old ++ bytes.now) piece.new }
+{
+    for byte in bytes {
+        piece.push(writer, *byte)?;
+    }
+    Ok(())
+}
+
+// Puts a number.
+fn put_number<W: Write>(
+    piece: &mut Piece,
+    writer: &mut Sink<W>,
+    number: u64,
+) -> Result<(), WriteFailed>
+    ensures { Told writer.old writer.new result (piece.old ++ decimal number) piece.new }
+{
+    let mut buffer = itoa::Buffer::new();
+    let digits = buffer.format(number).as_bytes();
+    put_bytes(piece, writer, digits)
+}
+
+// Puts the first of the numbers, if there is one.
+fn put_first<W: Write>(
+    piece: &mut Piece,
+    writer: &mut Sink<W>,
+    numbers: &[u64],
+) -> Result<(), WriteFailed>
+    ensures { Told writer.old writer.new result (piece.old ++ flat_map decimal (take 1 numbers.now)) piece.new }
+{
+    match numbers.first() {
+        Some(number) => put_number(piece, writer, *number),
+        None => Ok(()),
+    }
+}
+
+// All numbers but the first.
+fn behind_first(numbers: &[u64]) -> &[u64]
+    ensures { result.now ≡ drop 1 numbers.now }
+{
+    numbers.get(1..).unwrap_or(&[])
+}
+
+/// Puts the words, with the next of the numbers in place of each '%'.
+pub(crate) fn put_filled<W: Write>(
+    piece: &mut Piece,
+    writer: &mut Sink<W>,
+    words: &[u8],
+    numbers: &[u64],
+) -> Result<(), WriteFailed>
+    ensures { Told writer.old writer.new result (piece.old ++ filled words.now numbers.now) piece.new }
+{
+    let mut left = numbers;
+    for byte in words {
+        if *byte == b'%' {
+            put_first(piece, writer, left)?;
+            left = behind_first(left);
+        } else {
+            piece.push(writer, *byte)?;
+        }
+    }
+    Ok(())
+}
