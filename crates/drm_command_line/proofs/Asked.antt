@@ -1,10 +1,10 @@
 -- Words that clap refuses nowhere ask for something.
-use Rattle.std.proofs.Common.{◌≡◌, Bool, true, false, List, [], Option, Some, None, inl, inr, refl, codes}
+use Rattle.std.proofs.Common.{◌≡◌, Bool, true, false, not, List, [], Option, Some, None, inl, inr, refl, codes}
 use Rattle.clap.specs.Words.{Text, fault_of}
 use Rattle.drm_engine.specs.Engines.{word_of}
 use Rattle.drm_engine.specs.declared.engine.Engine.{Engine}
-use Rattle.drm_command_line.specs.CommandLine.{IsAnythingAsked, number_entered, program_app, wants_words, word_entered, word_given}
-use Rattle.drm_command_line.specs.declared.command_line.Request.TheVariants.{Draw, Explain, ReplayWithWords, Run, Work}
+use Rattle.drm_command_line.specs.CommandLine.{IsAnythingAsked, flag_entered, number_entered, program_app, wants_words, word_entered, word_given}
+use Rattle.drm_command_line.specs.declared.command_line.Request.TheVariants.{Draw, Explain, Explore, ReplayWithWords, Run, Work}
 use Rattle.drm_command_line.proofs.Entered.{command_entered}
 use Rattle.drm_command_line.proofs.Numbers.{run_is_asked}
 
@@ -27,11 +27,19 @@ draw_asked words (Some from) None named first last = (Draw (Some (record { ref_p
 draw_asked words (Some from) (Some to) named first last =
     (Draw (Some (record { ref_ptr = (0, 0); now = from })) (Some (record { ref_ptr = (0, 0); now = to })), (named, (first, last)))
 
+-- the command that explores asks for what stands behind its options
+explore_asked : (words : List Text) (most : Option Text) → word_entered words ≡ Some (codes "explore") → word_given (codes "states") words ≡ most → IsAnythingAsked words
+explore_asked words None named given =
+    (Explore (not (flag_entered (codes "mutex") words)) (not (flag_entered (codes "no-reap") words)) None, (named, (refl, (refl, given))))
+explore_asked words (Some text) named given =
+    (Explore (not (flag_entered (codes "mutex") words)) (not (flag_entered (codes "no-reap") words)) (Some (record { ref_ptr = (0, 0); now = text })), (named, (refl, (refl, given))))
+
 pub anything_asked : (words : List Text) → fault_of program_app words ≡ [] → IsAnythingAsked words
 anything_asked words passed =
     elim (command_entered words passed) [
       | inl named ↦ engine_asked words named.0 (wants_words words) named.1 refl
       | inr (inl named) ↦ let asked = run_is_asked words passed named in (Work asked.0 asked.1, asked.2)
       | inr (inr (inl named)) ↦ explain_asked words (number_entered words) named refl
-      | inr (inr (inr named)) ↦ draw_asked words (word_given (codes "from") words) (word_given (codes "to") words) named refl refl
+      | inr (inr (inr (inl named))) ↦ draw_asked words (word_given (codes "from") words) (word_given (codes "to") words) named refl refl
+      | inr (inr (inr (inr named))) ↦ explore_asked words (word_given (codes "states") words) named refl
     ]

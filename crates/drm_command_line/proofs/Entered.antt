@@ -26,7 +26,7 @@ use Rattle.clap.specs.Matches.{ReadsOne, first_value, found_of, one_text}
 use Rattle.clap.proofs.WalkLemmas.{first_value-rows, one_text-rows}
 use Rattle.std.specs.Option.{option_map_or}
 use Rattle.std.specs.Str.Parse.{ParsesBool}
-use Rattle.drm_command_line.specs.CommandLine.{is_replay_with_words, number_entered, option_entered, program_app, wants_words, word_entered, word_given}
+use Rattle.drm_command_line.specs.CommandLine.{flag_entered, is_on, is_replay_with_words, number_entered, option_entered, program_app, wants_words, word_entered, word_given}
 
 -- where the walk over the words has not stopped at `help`
 abbrev StopsElsewhere : Option (Text × List Text) → Type 0
@@ -121,25 +121,30 @@ wants_command true wants_help wants_argument passed = refl
 wants_command false true wants_argument passed = absurd (cc)
 wants_command false false wants_argument passed = absurd (cc)
 
--- what was entered is the command of an engine, or that which runs a script in threads, or that which explains, or that which draws
+-- what was entered is the command of an engine, or that which runs a script in threads, or that which explains, or that which draws, or
+-- that which explores
 abbrev Named : {X : Type 0} → (X → Text) → Option X → Type 0
 Named name entered =
-    ((engine : Engine) × (option_map name entered ≡ Some (word_of engine))) ⊎ ((option_map name entered ≡ Some (codes "run")) ⊎ ((option_map name entered ≡ Some (codes "explain")) ⊎ (option_map name entered ≡ Some (codes "draw"))))
+    ((engine : Engine) × (option_map name entered ≡ Some (word_of engine)))
+    ⊎ ((option_map name entered ≡ Some (codes "run"))
+    ⊎ ((option_map name entered ≡ Some (codes "explain"))
+    ⊎ ((option_map name entered ≡ Some (codes "draw")) ⊎ (option_map name entered ≡ Some (codes "explore")))))
 
--- what was entered is one of the first six of seven
-first_six : {X Y : Type 0} (enter : X → Y) (name : Y → Text) (a b c r e w d : X) (is_a is_b is_c is_r is_e is_w is_d : Bool)
+-- what was entered is one of the first seven of eight
+first_seven : {X Y : Type 0} (enter : X → Y) (name : Y → Text) (a b c r e w o d : X) (is_a is_b is_c is_r is_e is_w is_o is_d : Bool)
     → name (enter a) ≡ word_of engine.Replay → name (enter b) ≡ word_of engine.Serial → name (enter c) ≡ word_of engine.Check → name (enter r) ≡ codes "run" → name (enter e) ≡ codes "explain"
-    → name (enter w) ≡ codes "draw" → is_d ≡ false
-    → is_some (option_map enter (cond (is_a || false) (Some a) (cond (is_b || false) (Some b) (cond (is_c || false) (Some c) (cond (is_r || false) (Some r) (cond (is_e || false) (Some e) (cond (is_w || false) (Some w) (cond (is_d || false) (Some d) None)))))))) ≡ true
-    → Named name (option_map enter (cond (is_a || false) (Some a) (cond (is_b || false) (Some b) (cond (is_c || false) (Some c) (cond (is_r || false) (Some r) (cond (is_e || false) (Some e) (cond (is_w || false) (Some w) (cond (is_d || false) (Some d) None))))))))
-first_six enter name a b c r e w d true is_b is_c is_r is_e is_w is_d x y z u v t other some = inl (engine.Replay, ap Some x)
-first_six enter name a b c r e w d false true is_c is_r is_e is_w is_d x y z u v t other some = inl (engine.Serial, ap Some y)
-first_six enter name a b c r e w d false false true is_r is_e is_w is_d x y z u v t other some = inl (engine.Check, ap Some z)
-first_six enter name a b c r e w d false false false true is_e is_w is_d x y z u v t other some = inr (inl (ap Some u))
-first_six enter name a b c r e w d false false false false true is_w is_d x y z u v t other some = inr (inr (inl (ap Some v)))
-first_six enter name a b c r e w d false false false false false true is_d x y z u v t other some = inr (inr (inr (ap Some t)))
-first_six enter name a b c r e w d false false false false false false true x y z u v t other some = absurd (cc)
-first_six enter name a b c r e w d false false false false false false false x y z u v t other some = absurd (cc)
+    → name (enter w) ≡ codes "draw" → name (enter o) ≡ codes "explore" → is_d ≡ false
+    → is_some (option_map enter (cond (is_a || false) (Some a) (cond (is_b || false) (Some b) (cond (is_c || false) (Some c) (cond (is_r || false) (Some r) (cond (is_e || false) (Some e) (cond (is_w || false) (Some w) (cond (is_o || false) (Some o) (cond (is_d || false) (Some d) None))))))))) ≡ true
+    → Named name (option_map enter (cond (is_a || false) (Some a) (cond (is_b || false) (Some b) (cond (is_c || false) (Some c) (cond (is_r || false) (Some r) (cond (is_e || false) (Some e) (cond (is_w || false) (Some w) (cond (is_o || false) (Some o) (cond (is_d || false) (Some d) None)))))))))
+first_seven enter name a b c r e w o d true is_b is_c is_r is_e is_w is_o is_d x y z u v t q other some = inl (engine.Replay, ap Some x)
+first_seven enter name a b c r e w o d false true is_c is_r is_e is_w is_o is_d x y z u v t q other some = inl (engine.Serial, ap Some y)
+first_seven enter name a b c r e w o d false false true is_r is_e is_w is_o is_d x y z u v t q other some = inl (engine.Check, ap Some z)
+first_seven enter name a b c r e w o d false false false true is_e is_w is_o is_d x y z u v t q other some = inr (inl (ap Some u))
+first_seven enter name a b c r e w o d false false false false true is_w is_o is_d x y z u v t q other some = inr (inr (inl (ap Some v)))
+first_seven enter name a b c r e w o d false false false false false true is_o is_d x y z u v t q other some = inr (inr (inr (inl (ap Some t))))
+first_seven enter name a b c r e w o d false false false false false false true is_d x y z u v t q other some = inr (inr (inr (inr (ap Some q))))
+first_seven enter name a b c r e w o d false false false false false false false true x y z u v t q other some = absurd (cc)
+first_seven enter name a b c r e w o d false false false false false false false false x y z u v t q other some = absurd (cc)
 
 is_false : (b : Bool) → (b ≡ true → ⊥) → b ≡ false
 is_false true never = absurd (never refl)
@@ -153,8 +158,8 @@ entered_named : (stop : Option (Text × List Text)) → StopsElsewhere stop → 
 entered_named None elsewhere some = absurd (cc)
 entered_named (Some stop) elsewhere some =
     let other : bytes_eq (codes "help") stop.0 ≡ false = not_equal _ _ (λ same. elsewhere (sym same)) in
-    first_six (λ s. rows_at s stop.1) (λ p. p.0) _ _ _ _ _ _ _ (bytes_eq (codes "replay") stop.0) (bytes_eq (codes "serial") stop.0) (bytes_eq (codes "check") stop.0) (bytes_eq (codes "run") stop.0)
-    (bytes_eq (codes "explain") stop.0) (bytes_eq (codes "draw") stop.0) (bytes_eq (codes "help") stop.0) refl refl refl refl refl refl other some
+    first_seven (λ s. rows_at s stop.1) (λ p. p.0) _ _ _ _ _ _ _ _ (bytes_eq (codes "replay") stop.0) (bytes_eq (codes "serial") stop.0) (bytes_eq (codes "check") stop.0) (bytes_eq (codes "run") stop.0)
+    (bytes_eq (codes "explain") stop.0) (bytes_eq (codes "draw") stop.0) (bytes_eq (codes "explore") stop.0) (bytes_eq (codes "help") stop.0) refl refl refl refl refl refl refl other some
 
 -- one level that clap refuses nowhere was walked to its end and has met the command that it wants
 level_passed : (s : Shape) (names : Names) (h : Held) (words : List Text) (has : Bool) (below : Kinds) → s.subcommand_required ≡ true
@@ -214,7 +219,8 @@ none_entered a words m is matches none passed =
       | inl named ↦ no_rows (out-ArgMatches m).subcommand (subcommand_of program_app words) rows none _ named.1
       | inr (inl named) ↦ no_rows (out-ArgMatches m).subcommand (subcommand_of program_app words) rows none _ named
       | inr (inr (inl named)) ↦ no_rows (out-ArgMatches m).subcommand (subcommand_of program_app words) rows none _ named
-      | inr (inr (inr named)) ↦ no_rows (out-ArgMatches m).subcommand (subcommand_of program_app words) rows none _ named
+      | inr (inr (inr (inl named))) ↦ no_rows (out-ArgMatches m).subcommand (subcommand_of program_app words) rows none _ named
+      | inr (inr (inr (inr named))) ↦ no_rows (out-ArgMatches m).subcommand (subcommand_of program_app words) rows none _ named
     ]
 
 -- the rows of a command that was entered are those that clap finds
@@ -254,10 +260,6 @@ pub wants_are : (a : App) (words : List Text) (m : ArgMatches) (wants b : Bool) 
     → wants ≡ b → wants_words words ≡ b
 wants_are a words m wants b is matches reads read = sym (wants_found a words m is matches) ∙ sym reads ∙ read
 
--- whether a flag is on whose text is this
-abbrev pub is_on : Option Text → Bool
-is_on text = option_map_or (λ t. bytes_eq t (codes "true")) text false
-
 -- the truth that is read of a flag's text
 pub flag_read : (E : Type 0) (text : Option Text) (read : Option Bool) → (text ≡ None → read ≡ None) → ((t : Text) → text ≡ Some t → ReadsOne (ParsesBool {E = E}) t read)
     → unwrap_or read false ≡ is_on text
@@ -282,3 +284,8 @@ module _ {Z : Type 0} where
   other_entered (Some b) never =
       ap (λ (is_replay : Bool). is_replay && is_on (one_of (codes "words") (rows_of (found_of (out-SubCommand (box_value b)).matches))))
       (not_equal (out-SubCommand (box_value b)).name.now (codes "replay") (λ same. never (ap Some same)))
+
+-- whether a flag of the command is on
+pub flag_found : (name : Text) (a : App) (words : List Text) (m own : ArgMatches) → a ≡ program_app → HasMatchesOf a words m
+    → option_map (λ p. p.1) (subcommand_rows (out-ArgMatches m).subcommand) ≡ Some (rows_of (found_of own)) → flag_entered name words ≡ is_on (one_text (found_of own) name)
+flag_found name a words m own is matches rows = ap is_on (option_found name a words m own is matches rows)

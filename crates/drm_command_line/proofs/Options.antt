@@ -406,19 +406,21 @@ run_reads words passed =
 differs : (name wanted : Text) → bytes_eq name wanted ≡ false → Some name ≡ Some wanted → ⊥
 differs name wanted other same = true≢false (sym ((bytes_eq-Decides name wanted).1 (same_Some _ _ same)) ∙ other)
 
--- what is found by a name among seven of which only the fourth has it is the fourth
-fourth_found : {X : Type 0} (name : X → Text) (wanted : Text) (a b c d e f g : X) (is_a is_b is_c is_d is_e is_f is_g : Bool)
+-- what is found by a name among eight of which only the fourth has it is the fourth
+fourth_found : {X : Type 0} (name : X → Text) (wanted : Text) (a b c d e f g h : X) (is_a is_b is_c is_d is_e is_f is_g is_h : Bool)
     → bytes_eq (name a) wanted ≡ false → bytes_eq (name b) wanted ≡ false → bytes_eq (name c) wanted ≡ false → bytes_eq (name e) wanted ≡ false → bytes_eq (name f) wanted ≡ false → bytes_eq (name g) wanted ≡ false
-    → option_map name (cond is_a (Some a) (cond is_b (Some b) (cond is_c (Some c) (cond is_d (Some d) (cond is_e (Some e) (cond is_f (Some f) (cond is_g (Some g) None))))))) ≡ Some wanted
-    → cond is_a (Some a) (cond is_b (Some b) (cond is_c (Some c) (cond is_d (Some d) (cond is_e (Some e) (cond is_f (Some f) (cond is_g (Some g) None)))))) ≡ Some d
-fourth_found name wanted a b c d e f g true is_b is_c is_d is_e is_f is_g no_a no_b no_c no_e no_f no_g found = absurd (differs (name a) wanted no_a found)
-fourth_found name wanted a b c d e f g false true is_c is_d is_e is_f is_g no_a no_b no_c no_e no_f no_g found = absurd (differs (name b) wanted no_b found)
-fourth_found name wanted a b c d e f g false false true is_d is_e is_f is_g no_a no_b no_c no_e no_f no_g found = absurd (differs (name c) wanted no_c found)
-fourth_found name wanted a b c d e f g false false false true is_e is_f is_g no_a no_b no_c no_e no_f no_g found = refl
-fourth_found name wanted a b c d e f g false false false false true is_f is_g no_a no_b no_c no_e no_f no_g found = absurd (differs (name e) wanted no_e found)
-fourth_found name wanted a b c d e f g false false false false false true is_g no_a no_b no_c no_e no_f no_g found = absurd (differs (name f) wanted no_f found)
-fourth_found name wanted a b c d e f g false false false false false false true no_a no_b no_c no_e no_f no_g found = absurd (differs (name g) wanted no_g found)
-fourth_found name wanted a b c d e f g false false false false false false false no_a no_b no_c no_e no_f no_g found = absurd (cc)
+    → bytes_eq (name h) wanted ≡ false
+    → option_map name (cond is_a (Some a) (cond is_b (Some b) (cond is_c (Some c) (cond is_d (Some d) (cond is_e (Some e) (cond is_f (Some f) (cond is_g (Some g) (cond is_h (Some h) None)))))))) ≡ Some wanted
+    → cond is_a (Some a) (cond is_b (Some b) (cond is_c (Some c) (cond is_d (Some d) (cond is_e (Some e) (cond is_f (Some f) (cond is_g (Some g) (cond is_h (Some h) None))))))) ≡ Some d
+fourth_found name wanted a b c d e f g h true is_b is_c is_d is_e is_f is_g is_h no_a no_b no_c no_e no_f no_g no_h found = absurd (differs (name a) wanted no_a found)
+fourth_found name wanted a b c d e f g h false true is_c is_d is_e is_f is_g is_h no_a no_b no_c no_e no_f no_g no_h found = absurd (differs (name b) wanted no_b found)
+fourth_found name wanted a b c d e f g h false false true is_d is_e is_f is_g is_h no_a no_b no_c no_e no_f no_g no_h found = absurd (differs (name c) wanted no_c found)
+fourth_found name wanted a b c d e f g h false false false true is_e is_f is_g is_h no_a no_b no_c no_e no_f no_g no_h found = refl
+fourth_found name wanted a b c d e f g h false false false false true is_f is_g is_h no_a no_b no_c no_e no_f no_g no_h found = absurd (differs (name e) wanted no_e found)
+fourth_found name wanted a b c d e f g h false false false false false true is_g is_h no_a no_b no_c no_e no_f no_g no_h found = absurd (differs (name f) wanted no_f found)
+fourth_found name wanted a b c d e f g h false false false false false false true is_h no_a no_b no_c no_e no_f no_g no_h found = absurd (differs (name g) wanted no_g found)
+fourth_found name wanted a b c d e f g h false false false false false false false true no_a no_b no_c no_e no_f no_g no_h found = absurd (differs (name h) wanted no_h found)
+fourth_found name wanted a b c d e f g h false false false false false false false false no_a no_b no_c no_e no_f no_g no_h found = absurd (cc)
 
 -- a command that is found passes its level, where it is the command that runs
 found_reads : (found : Option Shape) (words : List Text) → found ≡ Some run_built
@@ -444,8 +446,8 @@ stopped_reads None passed named = absurd (cc)
 stopped_reads (Some stop) passed named =
     let found = find (λ s. answers_to stop.0 (label_of s)) (built program_app).subs in
     found_reads found stop.1
-    (fourth_found (λ (s : Shape). s.name) (codes "run") _ _ _ _ _ _ _ (bytes_eq (codes "replay") stop.0 || false) (bytes_eq (codes "serial") stop.0 || false) (bytes_eq (codes "check") stop.0 || false)
-    (bytes_eq (codes "run") stop.0 || false) (bytes_eq (codes "explain") stop.0 || false) (bytes_eq (codes "draw") stop.0 || false) (bytes_eq (codes "help") stop.0 || false) refl refl refl refl refl refl
+    (fourth_found (λ (s : Shape). s.name) (codes "run") _ _ _ _ _ _ _ _ (bytes_eq (codes "replay") stop.0 || false) (bytes_eq (codes "serial") stop.0 || false) (bytes_eq (codes "check") stop.0 || false)
+    (bytes_eq (codes "run") stop.0 || false) (bytes_eq (codes "explain") stop.0 || false) (bytes_eq (codes "draw") stop.0 || false) (bytes_eq (codes "explore") stop.0 || false) (bytes_eq (codes "help") stop.0 || false) refl refl refl refl refl refl refl
     (named_found found stop.1 (codes "run") named)) passed
 
 -- where clap refuses the words nowhere and finds `run`, both options are there with a text that their parser accepts

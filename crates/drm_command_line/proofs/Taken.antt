@@ -72,6 +72,12 @@ not_draw engine.Replay same = absurd (true≢false (ap (λ (t : Text). slice_ind
 not_draw engine.Serial same = absurd (true≢false (ap (λ (t : Text). slice_index t 0 == 115) same))
 not_draw engine.Check same = absurd (true≢false (ap (λ (t : Text). slice_index t 0 == 99) same))
 
+-- nor that of the command that explores
+pub not_explore : (engine : Engine) → word_of engine ≡ codes "explore" → ⊥
+not_explore engine.Replay same = absurd (true≢false (ap (λ (t : Text). slice_index t 0 == 114) same))
+not_explore engine.Serial same = absurd (true≢false (ap (λ (t : Text). slice_index t 0 == 115) same))
+not_explore engine.Check same = absurd (true≢false (ap (λ (t : Text). slice_index t 0 == 99) same))
+
 -- what is none is not there
 pub none_is_not : {X : Type 0} (o : Option X) → o ≡ None → is_some o ≡ true → ⊥
 none_is_not None is some = absurd (true≢false (sym some))

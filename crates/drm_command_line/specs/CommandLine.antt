@@ -1,5 +1,5 @@
 -- The words of the command line.
-use Rattle.std.specs.Prelude.{◌≡◌, ◌<◌, ◌≤◌, ℕ, Bool, List, [], ◌∷◌, Option, Some, Result, MatchResult, codes, option_and_then, option_map, true, false, ◌&&◌}
+use Rattle.std.specs.Prelude.{◌≡◌, ◌<◌, ◌≤◌, ℕ, Bool, List, [], ◌∷◌, Option, Some, Result, MatchResult, codes, option_and_then, option_map, not, true, false, ◌&&◌}
 use Rattle.std.specs.Option.{option_map_or}
 use Rattle.std.specs.Str.{bytes_eq}
 use Rattle.std.specs.Str.Parse.{digits_value, without_leading_plus}
@@ -11,7 +11,7 @@ use Rattle.clap.specs.declared.error.kind.ErrorKind.TheVariants.{OutOfMemory}
 use Rattle.drm_engine.specs.Engines.{word_of}
 use Rattle.drm_engine.specs.declared.engine.Engine.{Engine}
 use Rattle.drm_command_line.specs.declared.command_line.Request.{Request}
-use Rattle.drm_command_line.specs.declared.command_line.Request.TheVariants.{Run, ReplayWithWords, Work, Explain, Draw}
+use Rattle.drm_command_line.specs.declared.command_line.Request.TheVariants.{Run, ReplayWithWords, Work, Explain, Draw, Explore}
 
 -- the program without its commands, as clap reads it
 abbrev pub top_app : App
@@ -60,9 +60,13 @@ text_rule name = record (new_rule name) { long = Some name; value_names = 1 }
 abbrev pub draw_app : App
 draw_app = with_rule (with_rule (new_app (codes "draw")) (text_rule (codes "from"))) (text_rule (codes "to"))
 
+-- the command that explores all orders of a script
+abbrev pub explore_app : App
+explore_app = with_rule (with_rule (with_rule (new_app (codes "explore")) (flag_rule (codes "mutex"))) (flag_rule (codes "no-reap"))) (text_rule (codes "states"))
+
 -- the program with its commands
 abbrev pub program_app : App
-program_app = with_subcommand (with_subcommand (with_subcommand (with_subcommand (with_subcommand (with_subcommand top_app replay_app.top) (new_app (codes "serial")).top) (new_app (codes "check")).top) run_app.top) explain_app.top) draw_app.top
+program_app = with_subcommand (with_subcommand (with_subcommand (with_subcommand (with_subcommand (with_subcommand (with_subcommand top_app replay_app.top) (new_app (codes "serial")).top) (new_app (codes "check")).top) run_app.top) explain_app.top) draw_app.top) explore_app.top
 
 -- the name of the command that clap finds in the words
 abbrev pub word_entered : List Text → Option Text
@@ -80,10 +84,18 @@ word_given name words = option_and_then (λ p. first_of name p.1) (subcommand_of
 abbrev pub option_entered : Text → List Text → Option Text
 option_entered name words = option_and_then (λ p. one_of name p.1) (subcommand_of program_app words)
 
+-- whether a flag is on whose text is this
+abbrev pub is_on : Option Text → Bool
+is_on text = option_map_or (λ t. bytes_eq t (codes "true")) text false
+
+-- whether a flag of the command that clap finds is on
+abbrev pub flag_entered : Text → List Text → Bool
+flag_entered name words = is_on (option_entered name words)
+
 -- what clap finds is the command that answers a script, and its flag for words is on
 abbrev pub is_replay_with_words : Option (Text × List Row) → Bool
 is_replay_with_words found =
-    option_map_or (λ p. bytes_eq p.0 (codes "replay") && option_map_or (λ text. bytes_eq text (codes "true")) (one_of (codes "words") p.1) false) found false
+    option_map_or (λ p. bytes_eq p.0 (codes "replay") && is_on (one_of (codes "words") p.1)) found false
 
 -- whether the words ask for answers with words beside them
 abbrev pub wants_words : List Text → Bool
@@ -95,8 +107,8 @@ IsNumber name most words n =
     ((text : Text) × (option_entered name words ≡ Some text) × (digits_value 10 (without_leading_plus text) ≡ n)) × ((0 < n) × (n ≤ most))
 
 -- clap finds in the words what is asked for: the command of the engine, with no words beside what it writes, that which answers
--- with words, that which runs a script by workers, with both its numbers, that which explains, and the word behind it, or that
--- which draws, and the words behind its options
+-- with words, that which runs a script by workers, with both its numbers, that which explains, and the word behind it, that which
+-- draws, and the words behind its options, or that which explores, with its flags and the word behind its option
 abbrev pub IsAsked : List Text → Request → Type 0
 IsAsked words (Run engine) = (word_entered words ≡ Some (word_of engine)) × (wants_words words ≡ false)
 IsAsked words ReplayWithWords = wants_words words ≡ true
@@ -105,6 +117,9 @@ IsAsked words (Work submitters turns) =
 IsAsked words (Explain word) = (word_entered words ≡ Some (codes "explain")) × (number_entered words ≡ option_map (λ w. w.now) word)
 IsAsked words (Draw from to) =
     (word_entered words ≡ Some (codes "draw")) × ((word_given (codes "from") words ≡ option_map (λ w. w.now) from) × (word_given (codes "to") words ≡ option_map (λ w. w.now) to))
+IsAsked words (Explore backs_off reaps most) =
+    (word_entered words ≡ Some (codes "explore"))
+    × ((backs_off ≡ not (flag_entered (codes "mutex") words)) × ((reaps ≡ not (flag_entered (codes "no-reap") words)) × (word_given (codes "states") words ≡ option_map (λ w. w.now) most)))
 
 -- something is asked for
 abbrev pub IsAnythingAsked : List Text → Type 0

@@ -2,10 +2,10 @@
 
 ghost use Rattle.std.specs.Prelude.{◌≡◌, [], IfOk, false, map};
 ghost use Rattle.std.specs.String.{string_bytes};
-ghost use Rattle.clap.specs.Words.{FailsBy, app_of, fault_of, new_app, rule_of, subcommand_rows_of};
+ghost use Rattle.clap.specs.Words.{FailsBy, app_of, fault_of, found_of, new_app, one_text, rule_of, subcommand_rows_of};
 ghost use Rattle.clap.specs.declared.builder.command.Command.TheViews.{out-Command};
 ghost use Rattle.drm_engine.specs.declared.engine.Engine.{Engine as EngineOf};
-ghost use Rattle.drm_command_line.specs.CommandLine.{GivesAlone, IsAnythingAsked, IsAsked, IsCommandLineForWords, IsCommandLineOf, draw_app, explain_app, flag_rule, is_replay_with_words, number_rule, program_app, replay_app, run_app, text_rule, top_app};
+ghost use Rattle.drm_command_line.specs.CommandLine.{GivesAlone, IsAnythingAsked, IsAsked, IsCommandLineForWords, IsCommandLineOf, draw_app, explain_app, explore_app, flag_rule, is_on as is_on_of, is_replay_with_words, number_rule, program_app, replay_app, run_app, text_rule, top_app};
 ghost use Rattle.drm_command_line.specs.declared.command_line.Request.TheVariants.{ReplayWithWords, Run};
 
 use clap::builder::ValueParser;
@@ -79,21 +79,34 @@ part, the commands counted from 0, '--to' the first that is not drawn.
 Example:
   drmsim draw < examples/first_fill.script > run.svg";
 
+const EXPLORE_HELP: &str = "\
+Reads a script from standard input, and finds what all orders of its lines of execution lead to: it keeps the order of each \
+entity's submissions, of each context's commands, of each watchdog's looks and of each cancel, and lets picks, steps, finishes \
+and reaps come at any moment. Writes how many states there are and how many moves, how many moves the farthest state is away, \
+how many states are stuck, and a line for each final: the bytes of the buffers, and the status of each job in the order of the \
+script. A job may name no fence.
+
+Example:
+  drmsim explore < examples/explore/opposite_locks.script
+begins with 'states 863'.";
+
 const STATUS_HELP: &str = "\
 Examples:
   drmsim replay < examples/first_fill.script
   drmsim check < examples/journals/pipeline_same.journal
   drmsim run --threads 4 --turns 1000000 < examples/threads/two_rings.script
   drmsim draw < examples/first_fill.script > run.svg
+  drmsim explore < examples/explore/opposite_locks.script
 
 Exit status:
   0  all was done; of 'check', all bytes are the same
-  1  of 'check', a byte differs; of 'run', a worker gave up or a thread could not be started
+  1  of 'check', a byte differs; of 'run', a worker gave up or a thread could not be started; of 'explore', a state is stuck,
+     or there are more states than may be explored
   2  the command line, the text or its device is refused, and standard error says where
   3  memory was refused
   4  a read or a write failed
 
-With status 2 or 3, and of 'run' with status 1, nothing was written. docs/FORMATS.md is the manual of scripts, answers and journals.";
+With status 2 or 3, of 'run' with status 1, and where 'explore' gave up, nothing was written. docs/FORMATS.md is the manual of scripts, answers and journals.";
 
 /// A command of the program, with what help says of it.
 fn command<'a>(alloc: Global, name: &'a str, about: &'a str, help: &'a str) -> Command<'a>
@@ -225,6 +238,34 @@ fn draw_command<'a>(alloc: Global) -> Result<Command<'a>, AllocError>
     .arg(to)
 }
 
+/// The command that explores all orders of a script.
+fn explore_command<'a>(alloc: Global) -> Result<Command<'a>, AllocError>
+    ensures app { IfOk result (λ command. app_of command ≡ explore_app) }
+    ensures local { IfOk result (λ command. (out-Command command).has_globals ≡ false) }
+{
+    let mutex = flag(
+        alloc,
+        "mutex",
+        "A context waits behind any holder, as with plain mutexes, and gives nothing back",
+    );
+    let no_reap = flag(alloc, "no-reap", "Jobs of stopped entities are not reaped");
+    let states = text(
+        alloc,
+        "states",
+        "M",
+        "The most states to explore, 1000000 if not given",
+    );
+    command(
+        alloc,
+        "explore",
+        "Finds what all orders of a script lead to",
+        EXPLORE_HELP,
+    )
+    .arg(mutex)?
+    .arg(no_reap)?
+    .arg(states)
+}
+
 /// The program without its commands.
 fn bare_program<'a>(alloc: Global) -> Command<'a>
     ensures app { app_of result ≡ top_app }
@@ -266,7 +307,9 @@ fn program<'a>(alloc: Global) -> Result<Command<'a>, AllocError>
     let explain = explain_command(alloc)?;
     let explains = runs.subcommand(explain)?;
     let draw = draw_command(alloc)?;
-    explains.subcommand(draw)
+    let draws = explains.subcommand(draw)?;
+    let explore = explore_command(alloc)?;
+    draws.subcommand(explore)
 }
 
 /// What the words of the command line ask for.
@@ -292,6 +335,15 @@ pub enum Request<'a> {
         /// The first that is not.
         to: Option<&'a str>,
     },
+    /// To find what all orders of a script lead to.
+    Explore {
+        /// Whether a context backs off behind an older holder. Else it waits, as for a plain mutex.
+        backs_off: bool,
+        /// Whether the jobs of stopped entities are reaped.
+        reaps: bool,
+        /// The word that spells how many states are explored at most.
+        most: Option<&'a str>,
+    },
 }
 
 /// Whether the command that was found answers a script, and its flag for words is on.
@@ -302,6 +354,13 @@ fn wants_words(matches: &ArgMatches) -> bool
         Some(replay) => replay.get_one("words").unwrap_or(false),
         None => false,
     }
+}
+
+/// Returns whether a flag of the command that was found is on.
+fn is_on(matches: &ArgMatches, name: &str) -> bool
+    ensures { result ≡ is_on_of (one_text (found_of matches.now) name.now) }
+{
+    matches.get_one(name).unwrap_or(false)
 }
 
 /// Returns what the words ask for, the program's name first. An error is what `clap` says of words that ask for nothing
@@ -330,6 +389,13 @@ pub fn read_words<'a>(alloc: Global, words: &'a [String]) -> Result<Request<'a>,
         return Ok(Request::Draw {
             from: draw.get_str("from"),
             to: draw.get_str("to"),
+        });
+    }
+    if let Some(explore) = matches.subcommand_matches("explore") {
+        return Ok(Request::Explore {
+            backs_off: !is_on(explore, "mutex"),
+            reaps: !is_on(explore, "no-reap"),
+            most: explore.get_str("states"),
         });
     }
     match matches.subcommand_name() {

@@ -30,8 +30,29 @@ fn command_lines(rt: HostRuntime) -> Result<(), Fail> {
     assert_eq!(rt; read_words(rt.alloc(), &runs)?, work);
     let one = words_of(rt.alloc(), &["drmsim", "explain", "46"])?;
     assert_eq!(rt; read_words(rt.alloc(), &one)?, Request::Explain(Some("46")));
+    let orders = words_of(
+        rt.alloc(),
+        &["drmsim", "explore", "--mutex", "--states", "9"],
+    )?;
+    let explore = Request::Explore {
+        backs_off: false,
+        reaps: true,
+        most: Some("9"),
+    };
+    assert_eq!(rt; read_words(rt.alloc(), &orders)?, explore);
     let all = words_of(rt.alloc(), &["drmsim", "explain"])?;
     assert_eq!(rt; read_words(rt.alloc(), &all)?, Request::Explain(None));
+    let log = words_of(
+        rt.alloc(),
+        &["drmsim", "conform", "--jobs", "--limit", "gfx=3", "--tolerance=500"],
+    )?;
+    let judged = Request::Conform {
+        jobs: true,
+        in_order: false,
+        limits: Some("gfx=3"),
+        tolerance: Some("500"),
+    };
+    assert_eq!(rt; read_words(rt.alloc(), &log)?, judged);
     Ok(())
 }
 

@@ -19,6 +19,7 @@ ending_of_input (input.Fault fault) = ending.Fault fault
 abbrev pub is_told : Ending → Bool
 is_told ending.Done = true
 is_told ending.Differs = true
+is_told ending.Stuck = true
 is_told other = false
 
 -- the exit status
@@ -27,9 +28,12 @@ status_of ending.Done = 0
 status_of ending.Differs = 1
 status_of (ending.GaveUp worker turns) = 1
 status_of ending.NoThread = 1
+status_of ending.Stuck = 1
+status_of ending.MoreStates = 1
 status_of (ending.Fault fault) = 2
 status_of ending.TooMany = 2
 status_of ending.NoCount = 2
+status_of ending.NoStates = 2
 status_of (ending.Unexplained word) = 2
 status_of ending.NoMemory = 3
 status_of ending.NoInput = 4
@@ -48,6 +52,9 @@ text_of_ending ending.TooMany =
     codes "error: a picture has at most 5000 commands\n\nDraw a part with '--from N' and '--to M'. For more information, try '--help'."
 text_of_ending ending.NoCount =
     codes "error: '--from' and '--to' take a number of commands, 0 to 4294967295\n\nFor more information, try '--help'."
+text_of_ending ending.Stuck = codes "stuck"
+text_of_ending ending.MoreStates = codes "gave up"
+text_of_ending ending.NoStates = codes "error: '--states' takes a number of states, 0 to 4294967295\n\nFor more information, try '--help'."
 text_of_ending (ending.Unexplained word) =
     codes "error: invalid value '" ++ string_bytes word
     ++ codes "' for '[NUMBER]': no refusal and no fault has this number\n\nFor more information, try '--help'."

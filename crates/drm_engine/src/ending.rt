@@ -30,6 +30,12 @@ pub enum Ending {
     TooMany,
     /// A word that is to count the commands to be drawn spells no number. Nothing was read, and nothing written.
     NoCount,
+    /// All was read, and all that was asked for was written: some orders of the script are stuck.
+    Stuck,
+    /// Orders of the script lead to more states than were to be explored. Nothing was written.
+    MoreStates,
+    /// A word that is to count the states to be explored spells no number. Nothing was read, and nothing written.
+    NoStates,
     /// The word that is to be explained spells no number that is. Nothing was written.
     Unexplained {
         /// The word.
@@ -59,7 +65,7 @@ impl Ending {
     pub fn is_told(&self) -> bool
         ensures { result ≡ is_told self.now }
     {
-        matches!(self, Ending::Done | Ending::Differs)
+        matches!(self, Ending::Done | Ending::Differs | Ending::Stuck)
     }
 
     /// Returns the exit status of a program that ends so.
@@ -70,8 +76,10 @@ impl Ending {
             Ending::Done => 0,
             Ending::Differs => 1,
             Ending::GaveUp { .. } | Ending::NoThread => 1,
+            Ending::Stuck | Ending::MoreStates => 1,
             Ending::Fault(_) => 2,
-            Ending::TooMany | Ending::NoCount | Ending::Unexplained { .. } => 2,
+            Ending::TooMany | Ending::NoCount | Ending::NoStates => 2,
+            Ending::Unexplained { .. } => 2,
             Ending::NoMemory => 3,
             Ending::NoInput | Ending::NoOutput => 4,
         }
@@ -100,6 +108,12 @@ impl fmt::Display for Ending {
             Ending::NoCount => write!(
                 f,
                 "error: '--from' and '--to' take a number of commands, 0 to 4294967295\n\nFor more information, try '--help'."
+            ),
+            Ending::Stuck => write!(f, "stuck"),
+            Ending::MoreStates => write!(f, "gave up"),
+            Ending::NoStates => write!(
+                f,
+                "error: '--states' takes a number of states, 0 to 4294967295\n\nFor more information, try '--help'."
             ),
             Ending::Unexplained { word } => write!(
                 f,

@@ -1,5 +1,5 @@
 -- What is left where memory was refused, and what is asked of a request.
-use Rattle.std.proofs.Common.{◌≡◌, ◌⊎◌, inl, inr, ℕ, List, [], ◌∷◌, Option, Some, None, refl}
+use Rattle.std.proofs.Common.{◌≡◌, ◌⊎◌, inl, inr, ℕ, Bool, List, [], ◌∷◌, Option, Some, None, refl}
 use Rattle.std.specs.Io.KnownBytes.{Keeps}
 use Rattle.clap.specs.Words.{IsAmong, Kinds, Text}
 use Rattle.clap.specs.declared.error.kind.ErrorKind.{ErrorKind}
@@ -12,10 +12,13 @@ use Rattle.drm_engine.specs.declared.engine.Engine.TheVariants as engine
 use Rattle.drm_engine.specs.declared.ending.Ending.{Ending}
 use Rattle.drm_engine.specs.declared.ending.Ending.TheVariants as ending
 use Rattle.drm_explain.specs.Telling.{Tells}
+use Rattle.drm_explore.specs.Exploring.{ExploresBy}
+use Rattle.drm_explore.specs.declared.exploring.Exploring.{Exploring}
+use Rattle.drm_explore.specs.declared.exploring.Exploring.TheVariants as exploring
 use Rattle.drm_command_line.specs.CommandLine.{IsAsked}
 use Rattle.drm_command_line.specs.declared.command_line.Request.{Request}
 use Rattle.drm_command_line.specs.declared.command_line.Request.TheVariants as request
-use Rattle.drmsim.specs.Statuses.{Does, DrawsBetween, EndsAs, MayHappen}
+use Rattle.drmsim.specs.Statuses.{Does, DrawsBetween, EndsAs, ExploresUpTo, MayHappen, ending_of_exploring}
 
 pub untouched : (bytes : Option (List ℕ)) → Keeps bytes bytes
 untouched None = tt
@@ -33,6 +36,19 @@ drawn_without_memory (Some from) (Some to) source sink = untouched sink.contents
 drawn_without_memory (Some from) None source sink = (refl, refl)
 drawn_without_memory None to source sink = (refl, refl)
 
+-- what an exploration tells of its reads and writes, its ending does
+pub explored_by : (before after : SourceState) (old new : SinkState) (found : Exploring) → ExploresBy before after old new found
+    → EndsBy before after old new (ending_of_exploring found)
+explored_by before after old new (exploring.Ended ended) by = by
+explored_by before after old new exploring.Stuck by = by
+explored_by before after old new exploring.GaveUp by = by
+
+-- an exploration for which memory was refused leaves what the writer holds
+explored_without_memory : (backs_off reaps : Bool) (most : Option ℕ) (source : SourceState) (sink : SinkState)
+    → ExploresUpTo backs_off reaps most source source sink sink ending.NoMemory
+explored_without_memory backs_off reaps (Some most) source sink = (exploring.Ended ending.NoMemory, untouched sink.contents, refl)
+explored_without_memory backs_off reaps None source sink = (refl, refl)
+
 -- and whatever is asked for
 done_without_memory : (asked : Request) (source : SourceState) (sink : SinkState) → Does asked source source sink sink ending.NoMemory
 done_without_memory (request.Run engine) source sink = runs_without_memory engine source.remaining sink.contents
@@ -40,6 +56,7 @@ done_without_memory request.ReplayWithWords source sink = untouched sink.content
 done_without_memory (request.Work submitters turns) source sink = untouched sink.contents
 done_without_memory (request.Explain word) source sink = (refl, untouched sink.contents)
 done_without_memory (request.Draw from to) source sink = drawn_without_memory _ _ source sink
+done_without_memory (request.Explore backs_off reaps most) source sink = explored_without_memory backs_off reaps _ source sink
 
 pub ends_without_memory : (asked : Request) (source : SourceState) (sink : SinkState) (status : ℕ) → status ≡ 3 → EndsAs asked source source sink sink status
 ends_without_memory asked source sink status is = (ending.NoMemory, done_without_memory asked source sink, (refl, refl), is)
@@ -53,6 +70,9 @@ told_unread word source old new ending.NoThread never wrote = absurd never
 told_unread word source old new (ending.Fault fault) never wrote = absurd never
 told_unread word source old new ending.TooMany never wrote = absurd never
 told_unread word source old new ending.NoCount never wrote = absurd never
+told_unread word source old new ending.Stuck never wrote = absurd never
+told_unread word source old new ending.MoreStates never wrote = absurd never
+told_unread word source old new ending.NoStates never wrote = absurd never
 told_unread word source old new (ending.Unexplained said) tells wrote = ((refl, refl), wrote)
 told_unread word source old new ending.NoMemory tells wrote = (refl, wrote)
 told_unread word source old new ending.NoInput never wrote = absurd never
@@ -65,6 +85,7 @@ may_happen words request.ReplayWithWords is = tt
 may_happen words (request.Work submitters turns) is = is.1.0.1
 may_happen words (request.Explain word) is = tt
 may_happen words (request.Draw from to) is = tt
+may_happen words (request.Explore backs_off reaps most) is = tt
 
 -- of words without a fault only want of memory is an error
 pub memory_alone : (kinds : Kinds) (found : ErrorKind) → kinds ≡ [] → (found ≡ OutOfMemory) ⊎ IsAmong found kinds → found ≡ OutOfMemory

@@ -15,6 +15,9 @@ use Rattle.drm_words.specs.Replaying.{ReplaysWithWords}
 use Rattle.drm_run.specs.Runs as worked
 use Rattle.drm_explain.specs.Telling.{Tells}
 use Rattle.drm_draw.specs.Drawing.{Draws}
+use Rattle.drm_explore.specs.Exploring.{Explores}
+use Rattle.drm_explore.specs.declared.exploring.Exploring.{Exploring}
+use Rattle.drm_explore.specs.declared.exploring.Exploring.TheVariants as exploring
 use Rattle.drm_command_line.specs.CommandLine.{IsAsked, most_submitters}
 use Rattle.drm_command_line.specs.declared.command_line.Request.{Request}
 use Rattle.drm_command_line.specs.declared.command_line.Request.TheVariants as request
@@ -39,8 +42,27 @@ DrawsBetween (Some from) (Some to) before after old new ended = Draws from to be
 DrawsBetween (Some from) None before after old new ended = DrawsNothing before after old new ended
 DrawsBetween None to before after old new ended = DrawsNothing before after old new ended
 
--- what each ending says of what was asked for: an explanation reads nothing, and a drawing goes from the first command where
--- there is no first word, and to the last where there is no second
+-- how an exploration ended, as the program tells it
+abbrev pub ending_of_exploring : Exploring → Ending
+ending_of_exploring (exploring.Ended ended) = ended
+ending_of_exploring exploring.Stuck = ending.Stuck
+ending_of_exploring exploring.GaveUp = ending.MoreStates
+
+-- what each ending of an exploration says for which a word spells no number
+abbrev pub ExploresNothing : SourceState → SourceState → SinkState → SinkState → Ending → Type 0
+ExploresNothing before after old new ending.NoStates = IsUnused before after old new
+ExploresNothing before after old new ending.NoMemory = IsUnused before after old new
+ExploresNothing before after old new other = ⊥
+
+-- what each ending of an exploration says of a number of states, if there is one
+abbrev pub ExploresUpTo : Bool → Bool → Option ℕ → SourceState → SourceState → SinkState → SinkState → Ending → Type 0
+ExploresUpTo backs_off reaps (Some most) before after old new ended =
+    (found : Exploring) × Explores (record { backs_off = backs_off; reaps = reaps; most = most }) before.remaining old.contents new.contents found
+    × (ended ≡ ending_of_exploring found)
+ExploresUpTo backs_off reaps None before after old new ended = ExploresNothing before after old new ended
+
+-- what each ending says of what was asked for: an explanation reads nothing, a drawing goes from the first command where there is no
+-- first word, and to the last where there is no second, and an exploration takes a million states where there is no word
 abbrev pub Does : Request → SourceState → SourceState → SinkState → SinkState → Ending → Type 0
 Does (request.Run engine) before after old new ended = Runs engine before.remaining old.contents new.contents ended
 Does request.ReplayWithWords before after old new ended = ReplaysWithWords before.remaining old.contents new.contents ended
@@ -48,6 +70,8 @@ Does (request.Work submitters turns) before after old new ended = worked.Runs su
 Does (request.Explain word) before after old new ended = (after ≡ before) × Tells (option_map (λ w. w.now) word) old.contents new.contents ended
 Does (request.Draw from to) before after old new ended =
     DrawsBetween (number_of_word 0 (option_map (λ w. w.now) from)) (number_of_word 4294967295 (option_map (λ w. w.now) to)) before after old new ended
+Does (request.Explore backs_off reaps most) before after old new ended =
+    ExploresUpTo backs_off reaps (number_of_word 1000000 (option_map (λ w. w.now) most)) before after old new ended
 
 -- what was asked for was done to an ending, of which this is the exit status, by what became of its reads and writes
 abbrev pub EndsAs : Request → SourceState → SourceState → SinkState → SinkState → ℕ → Type 0

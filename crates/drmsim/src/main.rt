@@ -18,7 +18,7 @@ ghost use Rattle.drm_engine.specs.Endings.{status_of};
 ghost use Rattle.drm_engine.specs.Failures.{EndsBy};
 ghost use Rattle.drm_engine.specs.declared.engine.Engine.{Engine as EngineOf};
 ghost use Rattle.drm_run.specs.Runs.{Runs};
-ghost use Rattle.drmsim.specs.Statuses.{Does, DrawsBetween, EndsAs, IsObeyed, IsRefusal, MayHappen, number_of_word, status_of_error};
+ghost use Rattle.drmsim.specs.Statuses.{Does, DrawsBetween, EndsAs, ExploresUpTo, IsObeyed, IsRefusal, MayHappen, ending_of_exploring, number_of_word, status_of_error};
 
 mod progress;
 
@@ -27,6 +27,7 @@ use drm_command_line::{Request, read_words};
 use drm_draw::draw;
 use drm_engine::Ending;
 use drm_explain::tell_word;
+use drm_explore::{Exploring, Options, explore};
 use drm_run::run;
 use drm_stream::{Sink, Source};
 use drm_text::read_number;
@@ -109,6 +110,41 @@ fn draw_part<R: Read, W: Write>(
     }
 }
 
+/// How an exploration ended, as the program tells it.
+fn ending_of(found: Exploring) -> Ending
+    ensures { result ≡ ending_of_exploring found }
+{
+    match found {
+        Exploring::Ended(ending) => ending,
+        Exploring::Stuck => Ending::Stuck,
+        Exploring::GaveUp => Ending::MoreStates,
+    }
+}
+
+/// Finds what all orders of a script lead to, as many states as a word spells at most.
+fn explore_orders<R: Read, W: Write>(
+    alloc: Global,
+    backs_off: bool,
+    reaps: bool,
+    most: Option<&str>,
+    reader: &mut Source<R>,
+    writer: &mut Sink<W>,
+) -> Ending
+    ensures ending { ExploresUpTo backs_off reaps (number_of_word 1000000 (option_map (λ w. w.now) most.entry)) reader.old reader.new writer.old writer.new result }
+    ensures failures { EndsBy reader.old reader.new writer.old writer.new result }
+{
+    let Some(most) = number_or(1_000_000, most) else {
+        return Ending::NoStates;
+    };
+    let options = Options {
+        backs_off,
+        reaps,
+        most: most as usize,
+    };
+    let found = explore(alloc, options, reader, writer);
+    ending_of(found)
+}
+
 /// Runs a script by workers in threads. Where standard error is a terminal, a line there tells how far they are.
 fn work<H: Threads + Wait + Sync, R: Read, W: Write>(
     rt: &HostRuntime,
@@ -156,6 +192,11 @@ fn fulfil<H: Threads + Wait + Sync, R: Read, W: Write>(
         }
         Request::Explain(word) => tell_word(rt.alloc(), word, writer),
         Request::Draw { from, to } => draw_part(rt.alloc(), from, to, reader, writer),
+        Request::Explore {
+            backs_off,
+            reaps,
+            most,
+        } => explore_orders(rt.alloc(), backs_off, reaps, most, reader, writer),
     }
 }
 

@@ -13,6 +13,9 @@ Draw a part with '--from N' and '--to M'. For more information, try '--help'.";
 const NO_COUNT: &str = "error: '--from' and '--to' take a number of commands, 0 to 4294967295\n\n\
 For more information, try '--help'.";
 
+const NO_STATES: &str = "error: '--states' takes a number of states, 0 to 4294967295\n\n\
+For more information, try '--help'.";
+
 const UNEXPLAINED: &str =
     "error: invalid value '48' for '[NUMBER]': no refusal and no fault has this number\n\n\
 For more information, try '--help'.";
@@ -59,7 +62,7 @@ fn endings(rt: HostRuntime) -> Result<(), Fail> {
     Ok(())
 }
 
-/// Those that only a run by workers, a drawing or an explanation has.
+/// Those that only a run by workers, a drawing, an exploration or an explanation has.
 #[test]
 fn endings_of_few(rt: HostRuntime) -> Result<(), Fail> {
     let given_up = Ending::GaveUp {
@@ -73,5 +76,8 @@ fn endings_of_few(rt: HostRuntime) -> Result<(), Fail> {
     try_ending(&rt, rt.alloc(), &Ending::NoThread, 1, false, "no thread")?;
     try_ending(&rt, rt.alloc(), &Ending::TooMany, 2, false, TOO_MANY)?;
     try_ending(&rt, rt.alloc(), &Ending::NoCount, 2, false, NO_COUNT)?;
+    try_ending(&rt, rt.alloc(), &Ending::Stuck, 1, true, "stuck")?;
+    try_ending(&rt, rt.alloc(), &Ending::MoreStates, 1, false, "gave up")?;
+    try_ending(&rt, rt.alloc(), &Ending::NoStates, 2, false, NO_STATES)?;
     try_ending(&rt, rt.alloc(), &unexplained, 2, false, UNEXPLAINED)
 }

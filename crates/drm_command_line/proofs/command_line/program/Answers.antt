@@ -8,4 +8,5 @@ returns c =
     let check = added _ _ _ _ _ serial c.command-check.ensures.app c.command-check.ensures.local c.in_ok-checks.ensures in
     let run = added _ _ _ _ _ check c.in_ok-run.ensures.app c.in_ok-run.ensures.local c.in_ok-runs.ensures in
     let explain = added _ _ _ _ _ run c.in_ok-explain.ensures.app c.in_ok-explain.ensures.local c.in_ok-explains.ensures in
-    added_last _ _ c.subcommand-6.result _ _ explain c.in_ok-draw.ensures.app c.in_ok-draw.ensures.local c.subcommand-6.ensures
+    let draw = added _ _ _ _ _ explain c.in_ok-draw.ensures.app c.in_ok-draw.ensures.local c.in_ok-draws.ensures in
+    added_last _ _ c.subcommand-7.result _ _ draw c.in_ok-explore.ensures.app c.in_ok-explore.ensures.local c.subcommand-7.ensures

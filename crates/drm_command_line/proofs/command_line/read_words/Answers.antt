@@ -1,5 +1,5 @@
 use Rattle.std.specs.String.{string_bytes}
-use Rattle.std.proofs.Common.{rules, map, ◌∙◌, ap, ap₂, sym, refl, inl, inr, codes, subst, arith, is_some, Some, true≢false}
+use Rattle.std.proofs.Common.{rules, map, ◌∙◌, ap, ap₂, sym, refl, inl, inr, codes, subst, arith, is_some, not, Some, true≢false}
 use Rattle.std.proofs.lemmas.Option.{same_Some}
 use Rattle.clap.specs.Words.{takes}
 use Rattle.std.specs.Str.Parse.{ExplainsUnsignedError, HasUnsignedDigitsIfOk, ParsesUnsigned}
@@ -8,8 +8,8 @@ use Rattle.drm_command_line.specs.CommandLine.{IsNumber, most_submitters, most_t
 use Rattle.drm_command_line.proofs.Asked.{anything_asked}
 use Rattle.drm_command_line.proofs.Numbers.{number_read}
 use Rattle.drm_command_line.proofs.Options.{options_are_read}
-use Rattle.drm_command_line.proofs.Taken.{is_bare, is_entered, is_flag_taken, is_taken, is_worded, names_one, names_some, none_is_not, not_draw, not_explain, not_run}
-use Rattle.drm_command_line.proofs.Entered.{command_entered, given_found, none_entered, none_refused, number_found, wants_are, word_found}
+use Rattle.drm_command_line.proofs.Taken.{is_bare, is_entered, is_flag_taken, is_taken, is_worded, names_one, names_some, none_is_not, not_draw, not_explain, not_explore, not_run}
+use Rattle.drm_command_line.proofs.Entered.{command_entered, flag_found, given_found, none_entered, none_refused, number_found, wants_are, word_found}
 use Rattle.drm_command_line.proofs.command_line.read_words.Goals.{in_default-2-via-in-Some+in_default, in_default-2-via-in_default}
 use Rattle.drm_command_line.proofs.command_line.read_words.Goals as goal
 
@@ -176,6 +176,40 @@ returns-in-Some-subcommand_matches-2-clause-kinds c =
 pub returns-in-Some-subcommand_matches-2-clause-accepted : goal.returns-in-Some-subcommand_matches-2-clause-accepted
 returns-in-Some-subcommand_matches-2-clause-accepted c = anything_asked (map string_bytes c.args.words.now)
 
+pub returns-in-Some-subcommand_matches-3-clause-named : goal.returns-in-Some-subcommand_matches-3-clause-named
+returns-in-Some-subcommand_matches-3-clause-named c =
+    let app = c.in_ok-program.ensures in
+    let matches = c.in_ok-matches.ensures.matches in
+    let rows = c.in-Some-subcommand_matches-3.ensures.rows in (
+      word_found _ _ _ _ app matches (sym (c.in-Some-subcommand_matches-3.ensures.found.0 refl)),
+      (
+        ap not (c.is_on.ensures ∙ sym (flag_found _ _ _ _ _ app matches rows)),
+        (
+          ap not (c.is_on-2.ensures ∙ sym (flag_found _ _ _ _ _ app matches rows)),
+          given_found _ _ _ _ _ app matches rows ∙ sym c.get_str-in-Some-subcommand_matches-3.ensures,
+        ),
+      ),
+    )
+
+pub returns-in-Some-subcommand_matches-3-clause-command : goal.returns-in-Some-subcommand_matches-3-clause-command
+returns-in-Some-subcommand_matches-3-clause-command c = λ engine line.
+    let app = c.in_ok-program.ensures in
+    let found = word_found _ _ _ _ app c.in_ok-matches.ensures.matches (sym (c.in-Some-subcommand_matches-3.ensures.found.0 refl)) in
+    let entered = ap word_entered line.1 ∙ is_entered line.0 engine in
+    absurd (not_explore engine (same_Some _ _ (sym entered ∙ found)))
+
+pub returns-in-Some-subcommand_matches-3-clause-worded : goal.returns-in-Some-subcommand_matches-3-clause-worded
+returns-in-Some-subcommand_matches-3-clause-worded c = λ line.
+    let bare = wants_are _ (map string_bytes c.args.words.now) _ _ _ c.in_ok-program.ensures c.in_ok-matches.ensures.matches c.wants_words.ensures c.if-wants_words.false in
+    absurd (true≢false (sym (ap wants_words line.1 ∙ is_worded line.0) ∙ bare))
+
+pub returns-in-Some-subcommand_matches-3-clause-kinds : goal.returns-in-Some-subcommand_matches-3-clause-kinds
+returns-in-Some-subcommand_matches-3-clause-kinds c =
+    none_refused _ _ c.in_ok-program.ensures c.in_ok-matches.ensures.kinds
+
+pub returns-in-Some-subcommand_matches-3-clause-accepted : goal.returns-in-Some-subcommand_matches-3-clause-accepted
+returns-in-Some-subcommand_matches-3-clause-accepted c = anything_asked (map string_bytes c.args.words.now)
+
 pub unreachable-requires-in-None-of_word : goal.unreachable-requires-in-None-of_word
 unreachable-requires-in-None-of_word c =
     let app = c.in_ok-program.ensures in
@@ -184,7 +218,8 @@ unreachable-requires-in-None-of_word c =
       | inl named ↦ names_some named.0 _ (same_Some _ _ (sym found ∙ named.1)) c.in-None-of_word.ensures.none
       | inr (inl named) ↦ none_is_not c.subcommand_matches-2.result c.in_default-subcommand_matches.is (c.subcommand_matches-2.ensures.found.1 (sym c.in-Some-subcommand_name.ensures ∙ sym found ∙ named))
       | inr (inr (inl named)) ↦ none_is_not c.subcommand_matches.result c.in_default.is (c.subcommand_matches.ensures.found.1 (sym c.in-Some-subcommand_name.ensures ∙ sym found ∙ named))
-      | inr (inr (inr named)) ↦ none_is_not c.subcommand_matches-3.result c.in_default-subcommand_matches-2.is (c.subcommand_matches-3.ensures.found.1 (sym c.in-Some-subcommand_name.ensures ∙ sym found ∙ named))
+      | inr (inr (inr (inl named))) ↦ none_is_not c.subcommand_matches-3.result c.in_default-subcommand_matches-2.is (c.subcommand_matches-3.ensures.found.1 (sym c.in-Some-subcommand_name.ensures ∙ sym found ∙ named))
+      | inr (inr (inr (inr named))) ↦ none_is_not c.subcommand_matches-4.result c.in_default-subcommand_matches-3.is (c.subcommand_matches-4.ensures.found.1 (sym c.in-Some-subcommand_name.ensures ∙ sym found ∙ named))
     ]
 
 pub unreachable-requires-in-None : goal.unreachable-requires-in-None

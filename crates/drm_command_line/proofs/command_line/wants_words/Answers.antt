@@ -1,7 +1,8 @@
 use Rattle.std.proofs.Common.{◌∙◌, ap, codes, refl, sym}
 use Rattle.clap.specs.Words.{found_of}
 use Rattle.clap.proofs.WalkLemmas.{one_text-rows}
-use Rattle.drm_command_line.proofs.Entered.{flag_read, is_on, other_entered, replay_entered}
+use Rattle.drm_command_line.specs.CommandLine.{is_on}
+use Rattle.drm_command_line.proofs.Entered.{flag_read, other_entered, replay_entered}
 use Rattle.drm_command_line.proofs.Taken.{none_is_not}
 use Rattle.drm_command_line.proofs.command_line.wants_words.Goals as goal
 
