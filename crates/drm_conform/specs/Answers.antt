@@ -1,5 +1,5 @@
 -- What is answered of a log.
-use Rattle.std.specs.Prelude.{◌≡◌, ℕ, Bool, true, false, ◌-◌, List, [], ◌∷◌, ◌++◌, flat_map, find, length, map, option_map, Option, Some, None, if◌then◌else◌}
+use Rattle.std.specs.Prelude.{◌≡◌, ℕ, Bool, true, false, ◌-◌, ◌*◌, ◌^◌, min, List, [], ◌∷◌, ◌++◌, flat_map, find, length, map, option_map, Option, Some, None, if◌then◌else◌}
 use Rattle.std.specs.Str.{bytes_eq}
 use Rattle.drm_trace.specs.declared.log.Log.{Log}
 use Rattle.drm_conform.specs.declared.options.Limit.{Limit}
@@ -14,10 +14,10 @@ use Rattle.drm_conform.specs.Words.{text_of_broken, text_of_counts, text_of_jobs
 abbrev pub limit_of : List Limit → List ℕ → Option ℕ
 limit_of limits name = option_map (λ limit. limit.most) (find (λ limit. bytes_eq limit.ring name) limits)
 
--- what is demanded of a log, with the limits by the numbers of its rings
+-- what is demanded of a log, with the tolerance in nanoseconds, and the limits by the numbers of its rings
 abbrev pub demands_of : Options → Log → Demands
 demands_of options log = record {
-  tolerance = options.tolerance;
+  tolerance = min (options.tolerance * 1000) (2 ^ 64 - 1);
   in_order = options.in_order;
   limits = map (limit_of options.limits) log.rings;
 }

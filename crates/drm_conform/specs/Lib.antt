@@ -1,4 +1,5 @@
 pub mod Answers
+pub mod Asked
 pub mod Tables
 pub mod Times
 pub mod Verdicts

@@ -17,7 +17,7 @@ use Rattle.drm_conform.specs.Times.{ring_of, times_of, total_of}
 -- ---- names
 
 abbrev pub name_or_mark : Option (List ℕ) → List ℕ
-name_or_mark None = codes "?"
+name_or_mark None = codes "unknown"
 name_or_mark (Some name) = name
 
 abbrev pub ring_name : List (List ℕ) → ℕ → List ℕ
@@ -25,7 +25,7 @@ ring_name rings ring = name_or_mark (slice_get rings ring)
 
 -- a job by its context and number, or by its ring and its number there
 abbrev pub name_by : Option Format → List (List ℕ) → Option (ℕ × ℕ) → List ℕ
-name_by format rings None = codes "?"
+name_by format rings None = codes "unknown"
 name_by (Some formats.Addresses) rings (Some name) = ring_name rings name.0 ++ codes ":" ++ decimal name.1
 name_by (Some formats.Numbers) rings (Some name) = decimal name.0 ++ codes ":" ++ decimal name.1
 name_by None rings (Some name) = decimal name.0 ++ codes ":" ++ decimal name.1
@@ -107,7 +107,7 @@ text_of_rest counts passed =
 
 -- how far lines may be out of order
 abbrev pub near_text : ℕ → List ℕ
-near_text tolerance = codes "lines less than " ++ decimal tolerance ++ codes " ns apart may stand in either order\n"
+near_text tolerance = codes "lines less than " ++ decimal tolerance ++ codes " us apart may stand in either order\n"
 
 -- the same where they may be
 abbrev pub text_of_tolerance : ℕ → List ℕ

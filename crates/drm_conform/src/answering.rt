@@ -55,7 +55,7 @@ fn demands(alloc: Global, options: &Options, log: &Log) -> Result<Demands, Alloc
 {
     let limits = ring_limits(alloc, options.limits.as_slice(), log.rings.as_slice())?;
     Ok(Demands {
-        tolerance: options.tolerance,
+        tolerance: options.tolerance.saturating_mul(1000),
         in_order: options.in_order,
         limits,
     })

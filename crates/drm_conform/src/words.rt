@@ -30,7 +30,7 @@ fn put_ring(text: &mut Vec<u8>, rings: &[Sequence<u8>], ring: usize) -> Result<(
 {
     match rings.get(ring) {
         Some(name) => text.extend_from_slice(name.as_slice()),
-        None => put(text, "?"),
+        None => put(text, "unknown"),
     }
 }
 
@@ -62,7 +62,7 @@ fn put_job_name(text: &mut Vec<u8>, log: &Log, job: u32) -> Result<(), AllocErro
     ensures { OnOk result (text.new.items ≡ text.old.items ++ job_name log.now job) }
 {
     let Some(name) = log.jobs.as_slice().get(job as usize) else {
-        return put(text, "?");
+        return put(text, "unknown");
     };
     match log.format {
         Some(Format::Addresses) => put_numbered(text, log.rings.as_slice(), name.0, name.1),
@@ -291,7 +291,7 @@ fn put_near(text: &mut Vec<u8>, tolerance: u64) -> Result<(), AllocError>
 {
     put(text, "lines less than ")?;
     put_number(text, tolerance)?;
-    put(text, " ns apart may stand in either order\n")
+    put(text, " us apart may stand in either order\n")
 }
 
 /// Puts behind a text how far lines may be out of order, where they may be.

@@ -78,7 +78,7 @@ ring sdma: 2 whole jobs, waited for fences 104, for their turn 182, ran 52 us\n"
 /// The same where lines less than 14 microseconds apart may stand in either order.
 const NEAR_TOLD: &str = "6 jobs, 0 broken rules\n\
 passed over: 0 lines; queued before the log begins: 0 jobs; not ended where it ends: 0 jobs\n\
-lines less than 14000 ns apart may stand in either order\n\
+lines less than 14 us apart may stand in either order\n\
 ring gfx: 4 whole jobs, waited for fences 247, for their turn 325, ran 104 us\n\
 ring sdma: 2 whole jobs, waited for fences 104, for their turn 182, ran 52 us\n";
 
@@ -103,7 +103,7 @@ fn a_job_that_runs_before_its_fence(rt: HostRuntime) -> Result<(), Fail> {
     judged(
         &rt,
         rt.alloc(),
-        &options(rt.alloc(), 14_000, false),
+        &options(rt.alloc(), 14, false),
         BAD,
         0,
         NEAR_TOLD,
