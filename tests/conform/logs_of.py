@@ -1,5 +1,10 @@
-"""Random logs as a scheduler writes them: jobs of entities on rings, which wait for one another, run and end."""
+"""Random logs as a scheduler writes them: jobs of entities on rings, which wait for one another, run and end. And logs of
+what `drmsim replay` does with random scripts."""
 import random
+
+import program
+import random_script
+import reference
 
 RINGS = ("gfx", "sdma", "comp 1.0.1", "vcn_dec")
 
@@ -107,6 +112,52 @@ def log_of(seed, steps):
     for _ in range(steps):
         it.choice((kernel.queue, kernel.queue, kernel.run, kernel.run, kernel.end, kernel.end, kernel.other))()
     return kernel.lines, kernel.in_order, kernel.limits
+
+
+class Told:
+    """The log of a run, line by line."""
+
+    def __init__(self):
+        self.lines = []
+
+    def put(self, event, fields):
+        time = 100 * 10**6 + 13 * len(self.lines)
+        self.lines.append(f"  drmsim-1  [000] ..... {time // 10**6}.{time % 10**6:06}: {event}: {fields}")
+
+    def fence(self, job):
+        return f"fence={20 + job.entity.number}:{job.number}"
+
+    def take(self, device, command, answer):
+        """Tells what an answer says of a job."""
+        name, *words = answer.split(" ")
+        if name not in ("armed", "picked", "finished", "reaped"):
+            return
+        job = device.jobs[int(words[0])]
+        fields = f"dev=0000:03:00.0, {self.fence(job)}, ring=ring {job.ring.number}, job count:1, hw job count:0, client_id:5"
+        if name == "armed":
+            self.put("drm_sched_job_queue", fields)
+            for earlier in job.dependencies:
+                self.put("drm_sched_job_add_dep", f"{self.fence(job)} depends on {self.fence(earlier)}")
+        elif name == "picked":
+            self.put("drm_sched_job_run", fields)
+        else:
+            self.put("drm_sched_job_done", f"{self.fence(job)} signaled")
+
+
+def log_of_run(seed):
+    """The log of what `drmsim replay` does with a random script. A second reader tells what each job waits for, and has to
+    give the same answers; else there is no log."""
+    header, commands = random_script.Maker(random.Random(f"run {seed}")).lines()
+    text = "\n".join([*header, *commands, ""])
+    status, output, _ = program.run(["replay"], text.encode())
+    answers, device, told = output.decode().splitlines(), reference.Device(()), Told()
+    for line in header:
+        device.take(*reference.words_of(line))
+    for command, answer in zip(commands, answers):
+        if device.answer(command) != answer:
+            return None
+        told.take(device, command, answer)
+    return told.lines if status == 0 and len(answers) == len(commands) else None
 
 
 def damaged(it, lines):

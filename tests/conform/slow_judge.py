@@ -118,11 +118,11 @@ def read(text):
 
 
 class Judge:
-    """A log under demands. Times are in nanoseconds."""
+    """A log under demands, of which the tolerance is in microseconds. Times are in nanoseconds."""
 
     def __init__(self, text, tolerance=0, in_order=False, limits=()):
         self.log, self.rings, self.jobs, self.count = read(text)
-        self.tolerance, self.in_order = tolerance, in_order
+        self.tolerance, self.in_order = tolerance * 1000, in_order
         self.limits = {}
         for ring, most in limits:
             self.limits.setdefault(ring, most)
@@ -241,7 +241,7 @@ def answer(text, jobs=False, **demands):
     said = [*broken, f"{count(len(shown), 'job', 'jobs')}, {count(len(broken), 'broken rule', 'broken rules')}"]
     said.append(f"passed over: {count(judge.count - len(judge.log), 'line', 'lines')}; queued before the log begins: {count(early, 'job', 'jobs')}; not ended where it ends: {count(late, 'job', 'jobs')}")
     if judge.tolerance:
-        said.append(f"lines less than {judge.tolerance} ns apart may stand in either order")
+        said.append(f"lines less than {judge.tolerance // 1000} us apart may stand in either order")
     times = [(job, judge.times(job)) for job in judge.jobs]
     for ring in judge.rings:
         all_of = [it[1][1] for it in times if it[1] and it[1][0] == ring]
