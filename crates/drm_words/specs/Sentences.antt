@@ -47,7 +47,7 @@ words_of_status status =
     if int_eq status (pos 0) then codes "fence % is active: its job has not ended"
     else if int_eq status (pos 1) then codes "fence % has ended: its job is done"
     else if int_eq status (negsuc 2) then codes "fence % has ended: its job was stopped before it ran"
-    else codes "fence % has ended: its job was cancelled"
+    else codes "fence % has ended: its job was skipped"
 
 -- the words, with '%' in place of each number, and the numbers
 abbrev pub said_of : Event ℕ → Answer → List ℕ × List ℕ

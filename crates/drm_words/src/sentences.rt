@@ -128,7 +128,7 @@ fn words_of_status(status: i32) -> &'static str
     } else if status == -3 {
         "fence % has ended: its job was stopped before it ran"
     } else {
-        "fence % has ended: its job was cancelled"
+        "fence % has ended: its job was skipped"
     }
 }
 
