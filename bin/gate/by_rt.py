@@ -42,7 +42,9 @@ def run(crates, options):
     passed, wanted = 0, sum(len(wrong_bodies.files_of(it.folder)) for it in crates)
     with tempfile.TemporaryDirectory(prefix="refuse-") as room:
         make_copy(f"{room}/copy")
-        words = ["rt", "must-fail", *["--anew"] * options.get("--anew", False), *(it.name for it in crates)]
+        # Only a toolchain that keeps what passed has a word for trying all again.
+        keeps = "--anew" in subprocess.run(["rt", "help"], stdout=subprocess.PIPE, stderr=subprocess.STDOUT, text=True).stdout
+        words = ["rt", "must-fail", *["--anew"] * (keeps and options.get("--anew", False)), *(it.name for it in crates)]
         how = {"stdin": subprocess.DEVNULL, "stdout": subprocess.PIPE, "stderr": subprocess.STDOUT, "text": True, "errors": "replace"}
         with subprocess.Popen(words, cwd=f"{room}/copy", env={**os.environ, "RT_JOBS": options["--jobs"]}, **how) as ran:
             for line in ran.stdout:
