@@ -28,7 +28,7 @@ fn take_all(alloc: Global, core: &mut Core, events: Events)
     }
 }
 
-/// The core to which the commands of the script lead. The script's device passes its check, so only memory can lack.
+/// Returns the core to which the commands of the script lead. The script's device passes its check, so only memory can lack.
 pub fn last_core(alloc: Global, script: Script) -> Result<Core, AllocError>
     requires fits { spec_fault script.spec ≡ None }
     requires exist { AllNamesExist script.spec script.lines }
@@ -42,7 +42,7 @@ pub fn last_core(alloc: Global, script: Script) -> Result<Core, AllocError>
     Ok(core)
 }
 
-// The text of the journal of what the script did.
+// Returns the text of the journal of what the script did.
 fn journal_text(alloc: Global, script: Script) -> Result<Vec<u8>, AllocError>
     requires fits { spec_fault script.spec ≡ None }
     requires exist { AllNamesExist script.spec script.lines }
