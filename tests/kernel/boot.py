@@ -14,18 +14,21 @@ from machine import Stop
 PATIENCE = 30  # seconds without a new answer, after which the kernel hangs
 GROUP = 400  # scripts of a boot
 MEMORY = "mem=128M"
+TRACING = ["trace_clock=mono", "trace_buf_size=4M"]  # of which the second is for each script
 
 
 class Answers:
-    """What a kernel says: of each script its answers and its journal; scripts that ended it; its warnings."""
+    """What a kernel says: of each script its answers, its journal and its trace events; scripts that ended it; warnings."""
 
     def __init__(self):
-        self.answers, self.journals, self.ended, self.warnings, self.logs = {}, {}, [], Counter(), []
+        self.answers, self.journals, self.events = {}, {}, {}
+        self.ended, self.warnings, self.logs = [], Counter(), []
         self.release = None
 
     def add(self, other):
         self.answers.update(other.answers)
         self.journals.update(other.journals)
+        self.events.update(other.events)
         self.ended += other.ended
         self.warnings += other.warnings
         self.logs += other.logs
@@ -56,6 +59,7 @@ def boot(vmlinux, scripts, options):
             for name, text in scripts:
                 it.write(f"@ {name}\n{text}")
         words = ["setarch", "-R", vmlinux, MEMORY, "con=none", "con0=fd:0,fd:2"]
+        words += TRACING if "logs" in options else []
         words += [f"twin_in={room}/in", f"twin_out={room}/out", *(f"twin_{it}" for it in options)]
         with open(f"{room}/log", "wb") as log:
             process = subprocess.Popen(
@@ -78,9 +82,11 @@ def read_output(out):
             is_whole = True
         elif line.startswith("@ "):
             name = line[2:]
-            said.answers[name], said.journals[name] = [], []
+            said.answers[name], said.journals[name], said.events[name] = [], [], []
         elif line.startswith("version "):
             said.release = line[8:]
+        elif line.startswith("log "):
+            said.events[name].append(line[4:])
         elif line.startswith("journal "):
             said.journals[name].append(line[8:])
         else:
@@ -118,7 +124,7 @@ def run_group(vmlinux, scripts, options):
         said.warnings.update(re.findall(r"WARNING: CPU: \d+ PID: \d+ at (?!arch/um/)(\S+)", log))
         said.logs.append(log)
         if not is_whole:
-            del said.answers[last], said.journals[last]
+            del said.answers[last], said.journals[last], said.events[last]
             said.ended.append((last, why_ended(log, is_hung)))
         whole.add(said)
         left = left[[it[0] for it in left].index(last) + 1 :] if not is_whole else []

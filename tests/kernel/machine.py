@@ -244,18 +244,20 @@ class Edit:
 
 
 class Fault:
-    """A fault that is planted into the kernel or the twin: `faults/NAME.edit`."""
+    """A fault that is planted into the kernel or the twin: `faults/NAME.edit`, or one of `log_faults`."""
 
-    def __init__(self, name):
-        self.name, self.edits, self.says = name, [], ""
-        path = f"{HERE}/faults/{name}.edit"
+    def __init__(self, name, folder="faults"):
+        self.name, self.edits, self.says, self.tells = name, [], "", ""
+        path = f"{HERE}/{folder}/{name}.edit"
         if not os.path.exists(path):
-            raise Stop(f"there is no fault '{name}': {', '.join(fault_names())}")
+            raise Stop(f"there is no fault '{name}': {', '.join(fault_names(folder))}")
         file = old = None
         for line in read(path).decode().splitlines():
             word, _, rest = line.partition(" ")
             if word == "#":
                 self.says += rest + " "
+            elif word == "tells":
+                self.tells = rest
             elif word == "file":
                 file = rest
             elif word == "old":
@@ -264,5 +266,5 @@ class Fault:
                 self.edits.append(Edit(file, old, rest))
 
 
-def fault_names():
-    return sorted(it[: -len(".edit")] for it in os.listdir(f"{HERE}/faults") if it.endswith(".edit"))
+def fault_names(folder="faults"):
+    return sorted(it[: -len(".edit")] for it in os.listdir(f"{HERE}/{folder}") if it.endswith(".edit"))

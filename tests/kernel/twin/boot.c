@@ -36,6 +36,7 @@ TWIN_OPTION(push_killed);
 TWIN_OPTION(wait);
 TWIN_OPTION(free_running);
 TWIN_OPTION(misuse);
+TWIN_OPTION(logs);
 
 void write_out(const char *text, u32 length)
 {
@@ -88,6 +89,7 @@ static void twin_main(void)
 		submit_queue[i] = alloc_ordered_workqueue("twin-submit", 0);
 		timeout_queue[i] = alloc_ordered_workqueue("twin-timeout", 0);
 	}
+	open_logs();
 	put("version %s\n", init_utsname()->release);
 	for (at = 0; at < size; at++)
 		if (text[at] == '\n') {

@@ -9,6 +9,9 @@
 
 struct twin *twin;
 
+static const char *const ring_names[MAX_RINGS] = { "ring 0", "ring 1", "ring 2", "ring 3",
+						   "ring 4", "ring 5", "ring 6", "ring 7" };
+
 static void add_buffer(struct words *line, bool is_zero)
 {
 	struct buffer *buffer = &twin->buffer[twin->buffers++];
@@ -35,7 +38,7 @@ static void add_ring(struct words *line)
 		.credit_limit = limit,
 		.hang_limit = hangs,
 		.timeout = LONG_AGO,
-		.name = "twin",
+		.name = ring_names[twin->rings],
 		.dev = twin_device,
 	};
 
@@ -164,6 +167,7 @@ void close_device(void)
 	end_contexts();
 	end_rings();
 	free_memory();
+	put_log();
 }
 
 /* A line "@ NAME" is written before its script is read: it stands, should the script end the kernel. */
@@ -173,6 +177,7 @@ static void next_script(struct words *line)
 		close_device();
 	put("%.*s\n", (int)(line->end - line->at), line->at);
 	put_flush();
+	clear_log();
 	open_device();
 }
 

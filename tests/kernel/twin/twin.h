@@ -13,8 +13,9 @@
  * script's: the kernel's delayed work for timeouts is watched as it is armed and armed again, and
  * is fired when the script's moment says so.
  *
- * boot.c reads and writes files, text.c takes words and puts lines, device.c makes and ends a
- * device, commands.c calls for each command what jobs.c, rings.c and contexts.c have.
+ * boot.c reads and writes files, text.c takes words and puts lines, logs.c reads trace events,
+ * device.c makes and ends a device, commands.c calls for each command what jobs.c, rings.c and
+ * contexts.c have.
  */
 #ifndef DRMSIM_TWIN_H
 #define DRMSIM_TWIN_H
@@ -46,6 +47,7 @@ struct twin_options {
 	bool wait;		/* a try that sleeps goes on waiting behind its answer */
 	bool free_running;	/* rings pick as they like; a pick tells of the next that was taken */
 	bool misuse;		/* what misuses a lock is not refused */
+	bool logs;		/* the trace events of each script are told */
 };
 
 enum access { READS = 'r', WRITES = 'w', HOLDS = 'h', MOVES = 'm' };
@@ -183,6 +185,11 @@ void end_unheld(struct context *own);
 void plan(struct context *own, struct words *line);
 void arm(struct context *own);
 void read_buffer(struct context *own, u32 number);
+
+/* logs.c */
+void open_logs(void);
+void clear_log(void);
+void put_log(void);
 
 /* commands.c */
 void command(struct words *line);
