@@ -1,10 +1,11 @@
 -- Words that clap refuses nowhere name a command.
-use Rattle.std.proofs.Common.{◌≡◌, ◌≢◌, ◌⊎◌, inl, inr, ℕ, Bool, true, false, cond, List, [], ◌∷◌, Option, Some, None, refl, ap, ◌∙◌, sym, codes, option_map}
-use Rattle.std.specs.Prelude.{⊤, option_and_then, ◌&&◌, ◌||◌, not, is_some, if◌then◌else◌, fold, IfSome, unwrap_or}
+use Rattle.std.proofs.Common.{◌≡◌, ◌≢◌, ◌⊎◌, inl, inr, ℕ, Bool, true, false, cond, List, [], ◌∷◌, Option, Some, None, refl, ap, ◌∙◌, sym, codes, option_map, ap₂, subst, true≢false}
+use Rattle.std.specs.Prelude.{⊤, ◌&&◌, ◌||◌, not, is_some, if◌then◌else◌, fold, IfSome, unwrap_or}
 use Rattle.std.specs.Str.{bytes_eq}
 use Rattle.std.proofs.lemmas.Slice.Eq.{bytes_eq-Decides}
 use Rattle.clap.specs.declared.error.kind.ErrorKind.{ErrorKind}
-use Rattle.clap.specs.Kinds.{Kinds, or_else, check_kinds}
+use Rattle.clap.specs.declared.error.kind.ErrorKind.TheVariants.{OutOfMemory}
+use Rattle.clap.specs.Kinds.{IsAmong, Kinds, or_else, check_kinds}
 use Rattle.clap.specs.Takes.{is_given}
 use Rattle.clap.specs.Facts.{explicit_source}
 use Rattle.std.specs.List.{list_any}
@@ -17,16 +18,16 @@ use Rattle.clap.specs.declared.parser.matches.SubCommand.{SubCommand}
 use Rattle.std.specs.Prelude.{Box}
 use Rattle.std.specs.Box.{box_value}
 use Rattle.clap.specs.Simple.{App, HasMatchesOf, Shape, is_simple, subcommand_of, subcommand_rows, argument_words, built, entered, names_of, rows_at}
-use Rattle.drm_engine.specs.Engines.{word_of}
-use Rattle.drm_engine.specs.declared.engine.Engine.{Engine}
-use Rattle.drm_engine.specs.declared.engine.Engine.TheVariants as engine
 use Rattle.std.proofs.lemmas.Option.{same_Some}
-use Rattle.clap.specs.Walk.{first_of, one_of, rows_of}
-use Rattle.clap.specs.Matches.{ReadsOne, first_value, found_of, one_text}
-use Rattle.clap.proofs.WalkLemmas.{first_value-rows, one_text-rows}
+use Rattle.clap.specs.Matches.{ReadsOne, first_value}
+use Rattle.clap.specs.Walk.{rows_of}
+use Rattle.clap.specs.declared.parser.matches.Found.{Found}
+use Rattle.clap.proofs.WalkLemmas.{first_value-rows}
+use Rattle.std.specs.Borrow.{Bor}
 use Rattle.std.specs.Option.{option_map_or}
 use Rattle.std.specs.Str.Parse.{ParsesBool}
-use Rattle.drm_command_line.specs.CommandLine.{flag_entered, is_on, is_replay_with_words, number_entered, option_entered, program_app, wants_words, word_entered, word_given}
+use Rattle.drm_command_line.specs.CommandLine.{Gives, program_app}
+use Rattle.drm_command_line.specs.Known.{IsOneOf, commands}
 
 -- where the walk over the words has not stopped at `help`
 abbrev StopsElsewhere : Option (Text × List Text) → Type 0
@@ -121,30 +122,24 @@ wants_command true wants_help wants_argument passed = refl
 wants_command false true wants_argument passed = absurd (cc)
 wants_command false false wants_argument passed = absurd (cc)
 
--- what was entered is the command of an engine, or that which runs a script in threads, or that which explains, or that which draws, or
--- that which explores
-abbrev Named : {X : Type 0} → (X → Text) → Option X → Type 0
-Named name entered =
-    ((engine : Engine) × (option_map name entered ≡ Some (word_of engine)))
-    ⊎ ((option_map name entered ≡ Some (codes "run"))
-    ⊎ ((option_map name entered ≡ Some (codes "explain"))
-    ⊎ ((option_map name entered ≡ Some (codes "draw")) ⊎ (option_map name entered ≡ Some (codes "explore")))))
+-- the name of what was entered is one of these
+abbrev NamesOneOf : List Text → Option Text → Type 0
+NamesOneOf [] named = ⊥
+NamesOneOf (name ∷ names) named = (named ≡ Some name) ⊎ NamesOneOf names named
 
--- what was entered is one of the first seven of eight
-first_seven : {X Y : Type 0} (enter : X → Y) (name : Y → Text) (a b c r e w o d : X) (is_a is_b is_c is_r is_e is_w is_o is_d : Bool)
-    → name (enter a) ≡ word_of engine.Replay → name (enter b) ≡ word_of engine.Serial → name (enter c) ≡ word_of engine.Check → name (enter r) ≡ codes "run" → name (enter e) ≡ codes "explain"
-    → name (enter w) ≡ codes "draw" → name (enter o) ≡ codes "explore" → is_d ≡ false
-    → is_some (option_map enter (cond (is_a || false) (Some a) (cond (is_b || false) (Some b) (cond (is_c || false) (Some c) (cond (is_r || false) (Some r) (cond (is_e || false) (Some e) (cond (is_w || false) (Some w) (cond (is_o || false) (Some o) (cond (is_d || false) (Some d) None))))))))) ≡ true
-    → Named name (option_map enter (cond (is_a || false) (Some a) (cond (is_b || false) (Some b) (cond (is_c || false) (Some c) (cond (is_r || false) (Some r) (cond (is_e || false) (Some e) (cond (is_w || false) (Some w) (cond (is_o || false) (Some o) (cond (is_d || false) (Some d) None)))))))))
-first_seven enter name a b c r e w o d true is_b is_c is_r is_e is_w is_o is_d x y z u v t q other some = inl (engine.Replay, ap Some x)
-first_seven enter name a b c r e w o d false true is_c is_r is_e is_w is_o is_d x y z u v t q other some = inl (engine.Serial, ap Some y)
-first_seven enter name a b c r e w o d false false true is_r is_e is_w is_o is_d x y z u v t q other some = inl (engine.Check, ap Some z)
-first_seven enter name a b c r e w o d false false false true is_e is_w is_o is_d x y z u v t q other some = inr (inl (ap Some u))
-first_seven enter name a b c r e w o d false false false false true is_w is_o is_d x y z u v t q other some = inr (inr (inl (ap Some v)))
-first_seven enter name a b c r e w o d false false false false false true is_o is_d x y z u v t q other some = inr (inr (inr (inl (ap Some t))))
-first_seven enter name a b c r e w o d false false false false false false true is_d x y z u v t q other some = inr (inr (inr (inr (ap Some q))))
-first_seven enter name a b c r e w o d false false false false false false false true x y z u v t q other some = absurd (cc)
-first_seven enter name a b c r e w o d false false false false false false false false x y z u v t q other some = absurd (cc)
+-- what is found first is this, or what is found behind it
+one_more : {X Y : Type 0} (enter : X → Y) (name : Y → Text) (is_first : Bool) (first : Text) (others : List Text) (x : X) (rest : Option X) → name (enter x) ≡ first
+    → (is_some (option_map enter rest) ≡ true → NamesOneOf others (option_map name (option_map enter rest)))
+    → is_some (option_map enter (cond (is_first || false) (Some x) rest)) ≡ true
+    → NamesOneOf (first ∷ others) (option_map name (option_map enter (cond (is_first || false) (Some x) rest)))
+one_more enter name true first others x rest is behind some = inl (ap Some is)
+one_more enter name false first others x rest is behind some = inr (behind some)
+
+-- nothing is found behind the last
+no_more : {X Y : Type 0} (enter : X → Y) (name : Y → Text) (is_last : Bool) (x : X) → is_last ≡ false → is_some (option_map enter (cond (is_last || false) (Some x) None)) ≡ true
+    → NamesOneOf [] (option_map name (option_map enter (cond (is_last || false) (Some x) None)))
+no_more enter name true x other some = absurd (true≢false other)
+no_more enter name false x other some = absurd (true≢false (sym some))
 
 is_false : (b : Bool) → (b ≡ true → ⊥) → b ≡ false
 is_false true never = absurd (never refl)
@@ -154,12 +149,37 @@ not_equal : (a b : Text) → (a ≢ b) → bytes_eq a b ≡ false
 not_equal a b differ = is_false (bytes_eq a b) (λ same. differ ((bytes_eq-Decides a b).0 same))
 
 -- a command that was entered is one of the program's own, where the walk has not stopped at `help`
-entered_named : (stop : Option (Text × List Text)) → StopsElsewhere stop → is_some (entered (built program_app) stop) ≡ true → Named (λ p. p.0) (entered (built program_app) stop)
-entered_named None elsewhere some = absurd (cc)
+entered_named : (stop : Option (Text × List Text)) → StopsElsewhere stop → is_some (entered (built program_app) stop) ≡ true
+    → NamesOneOf commands (option_map (λ p. p.0) (entered (built program_app) stop))
+entered_named None elsewhere some = absurd (true≢false (sym some))
 entered_named (Some stop) elsewhere some =
+    let rows = λ (s : Shape). rows_at s stop.1 in
+    let name = λ (p : Text × List Row). p.0 in
+    let is = λ (word : Text). bytes_eq word stop.0 in
     let other : bytes_eq (codes "help") stop.0 ≡ false = not_equal _ _ (λ same. elsewhere (sym same)) in
-    first_seven (λ s. rows_at s stop.1) (λ p. p.0) _ _ _ _ _ _ _ _ (bytes_eq (codes "replay") stop.0) (bytes_eq (codes "serial") stop.0) (bytes_eq (codes "check") stop.0) (bytes_eq (codes "run") stop.0)
-    (bytes_eq (codes "explain") stop.0) (bytes_eq (codes "draw") stop.0) (bytes_eq (codes "explore") stop.0) (bytes_eq (codes "help") stop.0) refl refl refl refl refl refl refl other some
+    let from_trace : List Text = codes "trace" ∷ [] in
+    let from_conform : List Text = codes "conform" ∷ from_trace in
+    let from_test : List Text = codes "test" ∷ from_conform in
+    let from_why : List Text = codes "why" ∷ from_test in
+    let from_explore : List Text = codes "explore" ∷ from_why in
+    let from_draw : List Text = codes "draw" ∷ from_explore in
+    let from_explain : List Text = codes "explain" ∷ from_draw in
+    let from_run : List Text = codes "run" ∷ from_explain in
+    let from_check : List Text = codes "check" ∷ from_run in
+    let from_serial : List Text = codes "serial" ∷ from_check in
+    let from_replay : List Text = codes "replay" ∷ from_serial in
+    one_more rows name (is (codes "replay")) (codes "replay") from_serial _ _ refl
+    (one_more rows name (is (codes "serial")) (codes "serial") from_check _ _ refl
+    (one_more rows name (is (codes "check")) (codes "check") from_run _ _ refl
+    (one_more rows name (is (codes "run")) (codes "run") from_explain _ _ refl
+    (one_more rows name (is (codes "explain")) (codes "explain") from_draw _ _ refl
+    (one_more rows name (is (codes "draw")) (codes "draw") from_explore _ _ refl
+    (one_more rows name (is (codes "explore")) (codes "explore") from_why _ _ refl
+    (one_more rows name (is (codes "why")) (codes "why") from_test _ _ refl
+    (one_more rows name (is (codes "test")) (codes "test") from_conform _ _ refl
+    (one_more rows name (is (codes "conform")) (codes "conform") from_trace _ _ refl
+    (one_more rows name (is (codes "trace")) (codes "trace") [] _ _ refl
+    (no_more rows name (is (codes "help")) _ other))))))))))) some
 
 -- one level that clap refuses nowhere was walked to its end and has met the command that it wants
 level_passed : (s : Shape) (names : Names) (h : Held) (words : List Text) (has : Bool) (below : Kinds) → s.subcommand_required ≡ true
@@ -180,112 +200,79 @@ level_passed s names h words has below required passed =
           (rw required at checked),
     )
 
-pub command_entered : (words : List Text) → fault_of program_app words ≡ [] → Named (λ (p : Text × List Row). p.0) (subcommand_of program_app words)
+pub command_entered : (words : List Text) → fault_of program_app words ≡ [] → NamesOneOf commands (option_map (λ (p : Text × List Row). p.0) (subcommand_of program_app words))
 command_entered words passed =
     let all = built program_app in
     let stop = (walk all.top.rules (names_of all) nothing_held (argument_words program_app words)).stopped in
     let level = level_passed all.top (names_of all) nothing_held (argument_words program_app words) (is_some (entered all stop)) (entered_fault all stop) refl passed in
     entered_named stop (walk_stops all.top (names_of all) (walk_from nothing_held) (argument_words program_app words) refl tt level.0) level.1
 
-module _ {Z : Type 0} where
-  same_name : (o : Option (Box SubCommand Z)) (rows : Option (Text × List Row)) (name : Text) → subcommand_rows o ≡ rows
-      → Some name ≡ option_map (λ b. (out-SubCommand (box_value b)).name.now) o → option_map (λ p. p.0) rows ≡ Some name
-  same_name None rows name is found = absurd (cc)
-  same_name (Some b) rows name is found = ap (option_map (λ p. p.0)) (sym is) ∙ sym found
+never_none : (names : List Text) → NamesOneOf names None → ⊥
+never_none [] one = one
+never_none (name ∷ names) one = elim one [
+  | inl same ↦ cc
+  | inr later ↦ never_none names later
+]
 
-read_at : (read : List Row → Option Text) (entered : Option (Text × List Row)) (rows : List Row) → option_map (λ p. p.1) entered ≡ Some rows
-    → option_and_then (λ p. read p.1) entered ≡ read rows
-read_at read None rows is = absurd (cc)
-read_at read (Some p) rows is = ap read (same_Some _ _ is)
+listed : (names : List Text) (name : Text) → NamesOneOf names (Some name) → IsOneOf names name
+listed [] name one = one
+listed (first ∷ names) name one = elim one [
+  | inl same ↦ inl (same_Some _ _ same)
+  | inr later ↦ inr (listed names name later)
+]
+
+some_found : (names : List Text) (found : Option (Text × List Row)) → NamesOneOf names (option_map (λ p. p.0) found) → (p : Text × List Row) × (found ≡ Some p) × IsOneOf names p.0
+some_found names None one = absurd (never_none names one)
+some_found names (Some p) one = (p, refl, listed names p.0 one)
+
+-- words that clap refuses nowhere name a command
+pub command_found : (words : List Text) → fault_of program_app words ≡ [] → (p : Text × List Row) × (subcommand_of program_app words ≡ Some p) × IsOneOf commands p.0
+command_found words passed = some_found commands (subcommand_of program_app words) (command_entered words passed)
+
+module _ {Z : Type 0} where
+  found_at : (o : Option (Box SubCommand Z)) (name : Text) (rows : List Row) → Some name ≡ option_map (λ b. (out-SubCommand (box_value b)).name.now) o
+      → Some rows ≡ option_map (λ p. p.1) (subcommand_rows o) → subcommand_rows o ≡ Some (name, rows)
+  found_at None name rows named has = absurd (cc)
+  found_at (Some b) name rows named has = ap₂ (λ (n : Text) (rs : List Row). Some (n, rs)) (sym (same_Some _ _ named)) (sym (same_Some _ _ has))
+
+  none_at : (o : Option (Box SubCommand Z)) → None ≡ option_map (λ b. (out-SubCommand (box_value b)).name.now) o → subcommand_rows o ≡ None
+  none_at None none = refl
+  none_at (Some b) none = absurd (cc)
+
+-- the rows that a parse found are those of the words
+rows_are : (a : App) (words : List Text) (m : ArgMatches) → a ≡ program_app → HasMatchesOf a words m → subcommand_rows (out-ArgMatches m).subcommand ≡ subcommand_of program_app words
+rows_are a words m is matches = (matches (ap is_simple is ∙ refl)).1 ∙ ap (λ (b : App). subcommand_of b words) is
 
 -- the command that a parse found is the one that the words name
-pub word_found : (a : App) (words : List Text) (m : ArgMatches) (name : Text) → a ≡ program_app → HasMatchesOf a words m
-    → Some name ≡ subcommand_name_of m → word_entered words ≡ Some name
-word_found a words m name is matches found =
-    let rows = (matches (ap is_simple is ∙ refl)).1 in
-    same_name (out-ArgMatches m).subcommand (subcommand_of program_app words) name (rows ∙ ap (λ (b : App). subcommand_of b words) is) found
-
-module _ {Z : Type 0} where
-  no_rows : (o : Option (Box SubCommand Z)) (rows : Option (Text × List Row)) → subcommand_rows o ≡ rows → None ≡ option_map (λ b. (out-SubCommand (box_value b)).name.now) o
-      → (name : Text) → option_map (λ p. p.0) rows ≡ Some name → ⊥
-  no_rows None rows is none name named = absurd (cc)
-  no_rows (Some b) rows is none name named = absurd (cc)
+pub words_found : (a : App) (words : List Text) (m : ArgMatches) (name : Text) (rows : List Row) → a ≡ program_app → HasMatchesOf a words m
+    → Some name ≡ subcommand_name_of m → Some rows ≡ option_map (λ p. p.1) (subcommand_rows (out-ArgMatches m).subcommand) → subcommand_of program_app words ≡ Some (name, rows)
+words_found a words m name rows is matches named has =
+    sym (rows_are a words m is matches) ∙ found_at (out-ArgMatches m).subcommand name rows named has
 
 -- where clap refuses the words nowhere, a parse has found a command
 pub none_entered : (a : App) (words : List Text) (m : ArgMatches) → a ≡ program_app → HasMatchesOf a words m → None ≡ subcommand_name_of m → fault_of program_app words ≡ [] → ⊥
 none_entered a words m is matches none passed =
-    let rows = (matches (ap is_simple is ∙ refl)).1 ∙ ap (λ (b : App). subcommand_of b words) is in
-    elim (command_entered words passed) [
-      | inl named ↦ no_rows (out-ArgMatches m).subcommand (subcommand_of program_app words) rows none _ named.1
-      | inr (inl named) ↦ no_rows (out-ArgMatches m).subcommand (subcommand_of program_app words) rows none _ named
-      | inr (inr (inl named)) ↦ no_rows (out-ArgMatches m).subcommand (subcommand_of program_app words) rows none _ named
-      | inr (inr (inr (inl named))) ↦ no_rows (out-ArgMatches m).subcommand (subcommand_of program_app words) rows none _ named
-      | inr (inr (inr (inr named))) ↦ no_rows (out-ArgMatches m).subcommand (subcommand_of program_app words) rows none _ named
-    ]
-
--- the rows of a command that was entered are those that clap finds
-rows_found : (read : List Row → Option Text) (a : App) (words : List Text) (m own : ArgMatches) → a ≡ program_app → HasMatchesOf a words m
-    → option_map (λ p. p.1) (subcommand_rows (out-ArgMatches m).subcommand) ≡ Some (rows_of (found_of own)) → option_and_then (λ p. read p.1) (subcommand_of program_app words) ≡ read (rows_of (found_of own))
-rows_found read a words m own is matches rows =
-    let found = (matches (ap is_simple is ∙ refl)).1 ∙ ap (λ (b : App). subcommand_of b words) is in
-    read_at read (subcommand_of program_app words) (rows_of (found_of own)) (sym (ap (option_map (λ p. p.1)) found) ∙ rows)
-
--- so is the first value of its argument
-pub number_found : (a : App) (words : List Text) (m own : ArgMatches) → a ≡ program_app → HasMatchesOf a words m
-    → option_map (λ p. p.1) (subcommand_rows (out-ArgMatches m).subcommand) ≡ Some (rows_of (found_of own)) → number_entered words ≡ first_value (found_of own) (codes "number")
-number_found a words m own is matches rows = rows_found (first_of (codes "number")) a words m own is matches rows ∙ sym (first_value-rows (found_of own) (codes "number"))
-
--- and that of an option
-pub given_found : (name : Text) (a : App) (words : List Text) (m own : ArgMatches) → a ≡ program_app → HasMatchesOf a words m
-    → option_map (λ p. p.1) (subcommand_rows (out-ArgMatches m).subcommand) ≡ Some (rows_of (found_of own)) → word_given name words ≡ first_value (found_of own) name
-given_found name a words m own is matches rows = rows_found (first_of name) a words m own is matches rows ∙ sym (first_value-rows (found_of own) name)
-
--- and the text of an option
-pub option_found : (name : Text) (a : App) (words : List Text) (m own : ArgMatches) → a ≡ program_app → HasMatchesOf a words m
-    → option_map (λ p. p.1) (subcommand_rows (out-ArgMatches m).subcommand) ≡ Some (rows_of (found_of own)) → option_entered name words ≡ one_text (found_of own) name
-option_found name a words m own is matches rows = rows_found (one_of name) a words m own is matches rows ∙ sym (one_text-rows (found_of own) name)
+    let found = command_found words passed in
+    let nothing : subcommand_of program_app words ≡ None = sym (rows_are a words m is matches) ∙ none_at (out-ArgMatches m).subcommand none in
+    absurd (true≢false (sym (ap is_some found.1) ∙ ap is_some nothing))
 
 -- a parse that succeeds has no fault
 pub none_refused : (a : App) (words : List Text) → a ≡ program_app → (is_simple_and_free a ≡ true → fault_of a words ≡ []) → fault_of program_app words ≡ []
 none_refused a words is passed = sym (ap (λ (b : App). fault_of b words) is) ∙ passed (ap is_simple_and_free is ∙ refl)
 
--- ---- the flag for words
-
--- what a parse found says whether the words ask for words
-pub wants_found : (a : App) (words : List Text) (m : ArgMatches) → a ≡ program_app → HasMatchesOf a words m → is_replay_with_words (subcommand_rows (out-ArgMatches m).subcommand) ≡ wants_words words
-wants_found a words m is matches = ap is_replay_with_words ((matches (ap is_simple is ∙ refl)).1 ∙ ap (λ (b : App). subcommand_of b words) is)
-
--- so does what is read of it
-pub wants_are : (a : App) (words : List Text) (m : ArgMatches) (wants b : Bool) → a ≡ program_app → HasMatchesOf a words m → wants ≡ is_replay_with_words (subcommand_rows (out-ArgMatches m).subcommand)
-    → wants ≡ b → wants_words words ≡ b
-wants_are a words m wants b is matches reads read = sym (wants_found a words m is matches) ∙ sym reads ∙ read
+-- a parse that fails has a fault of the words, or memory was refused
+pub failed_by : (a : App) (words : List Text) (found : ErrorKind) → a ≡ program_app
+    → (is_simple_and_free a ≡ true → (found ≡ OutOfMemory) ⊎ IsAmong found (fault_of a words)) → (found ≡ OutOfMemory) ⊎ IsAmong found (fault_of program_app words)
+failed_by a words found is fails = subst (λ (b : App). (found ≡ OutOfMemory) ⊎ IsAmong found (fault_of b words)) is (fails (ap is_simple_and_free is ∙ refl))
 
 -- the truth that is read of a flag's text
 pub flag_read : (E : Type 0) (text : Option Text) (read : Option Bool) → (text ≡ None → read ≡ None) → ((t : Text) → text ≡ Some t → ReadsOne (ParsesBool {E = E}) t read)
-    → unwrap_or read false ≡ is_on text
+    → unwrap_or read false ≡ option_map_or (λ t. bytes_eq t (codes "true")) text false
 flag_read E None read none gives = ap (λ (r : Option Bool). unwrap_or r false) (none refl)
 flag_read E (Some t) (Some true) none gives = sym ((bytes_eq-Decides t (codes "true")).1 (gives t refl))
 flag_read E (Some t) (Some false) none gives = sym (ap (λ (u : Text). bytes_eq u (codes "true")) (gives t refl))
 flag_read E (Some t) None none gives = sym (not_equal t (codes "true") (λ same. (gives t refl).1.0 same))
 
-module _ {Z : Type 0} where
-  -- the command that answers scripts was entered
-  pub replay_entered : (o : Option (Box SubCommand Z)) (rows : List Row) → option_map (λ b. (out-SubCommand (box_value b)).name.now) o ≡ Some (codes "replay")
-      → option_map (λ p. p.1) (subcommand_rows o) ≡ Some rows → is_replay_with_words (subcommand_rows o) ≡ is_on (one_of (codes "words") rows)
-  replay_entered None rows name is = absurd (cc)
-  replay_entered (Some b) rows name is =
-      let named : bytes_eq (out-SubCommand (box_value b)).name.now (codes "replay") ≡ true = (bytes_eq-Decides (out-SubCommand (box_value b)).name.now (codes "replay")).1 (same_Some _ _ name) in
-      ap (λ (is_replay : Bool). is_replay && is_on (one_of (codes "words") (rows_of (found_of (out-SubCommand (box_value b)).matches)))) named
-      ∙ ap (λ (rs : List Row). is_on (one_of (codes "words") rs)) (same_Some _ _ is)
-
-  -- another was, or none
-  pub other_entered : (o : Option (Box SubCommand Z)) → (option_map (λ b. (out-SubCommand (box_value b)).name.now) o ≡ Some (codes "replay") → ⊥) → is_replay_with_words (subcommand_rows o) ≡ false
-  other_entered None never = refl
-  other_entered (Some b) never =
-      ap (λ (is_replay : Bool). is_replay && is_on (one_of (codes "words") (rows_of (found_of (out-SubCommand (box_value b)).matches))))
-      (not_equal (out-SubCommand (box_value b)).name.now (codes "replay") (λ same. never (ap Some same)))
-
--- whether a flag of the command is on
-pub flag_found : (name : Text) (a : App) (words : List Text) (m own : ArgMatches) → a ≡ program_app → HasMatchesOf a words m
-    → option_map (λ p. p.1) (subcommand_rows (out-ArgMatches m).subcommand) ≡ Some (rows_of (found_of own)) → flag_entered name words ≡ is_on (one_text (found_of own) name)
-flag_found name a words m own is matches rows = ap is_on (option_found name a words m own is matches rows)
+-- what is read of an argument stands in its row
+pub gives_first : (own : Found) (name : Text) (word : Option (Bor Text)) → option_map (λ w. w.now) word ≡ first_value own name → Gives name (rows_of own) word
+gives_first own name word is = sym (first_value-rows own name) ∙ sym is

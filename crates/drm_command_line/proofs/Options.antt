@@ -12,7 +12,7 @@ use Rattle.clap.specs.Facts.{explicit_source}
 use Rattle.clap.specs.Faults.{action_fault, bundle_step_fault, check_fault, defaults_fault, entered_fault, fault_of, flag_word_fault, flags_fault, level_fault, long_fault, option_fault, other_fault, positional_fault, react_fault, repeat_fault, settle_fault, short_fault, step_fault, turn_fault, use_fault, values_fault, walk_fault, word_fault}
 use Rattle.clap.specs.Kinds.{Kinds, check_kinds, or_else, range_kinds, value_kinds, values_kinds}
 use Rattle.clap.specs.Lexer.{long_of, short_of}
-use Rattle.clap.specs.Simple.{Shape, argument_words, built, built_leaf, entered, filled, inherited, label_of, names_of, rows_at, with_index}
+use Rattle.clap.specs.Simple.{Shape, argument_words, built, built_leaf, entered, filled, inherited, label_of, names_of, rows_at, subcommand_of, with_index}
 use Rattle.clap.specs.Takes.{is_given}
 use Rattle.clap.specs.Values.{IsUnsignedIn, read_as}
 use Rattle.clap.specs.ValueTests.{accepts}
@@ -21,7 +21,8 @@ use Rattle.std.proofs.lemmas.Option.{same_Some}
 use Rattle.std.proofs.lemmas.Slice.Eq.{bytes_eq-Decides}
 use Rattle.clap.proofs.ValueTestLemmas.{accepts-Accepts}
 use Rattle.drm_command_line.proofs.Entered.{first_is_none, second_is_none}
-use Rattle.drm_command_line.specs.CommandLine.{most_submitters, most_turns, number_rule, option_entered, program_app, run_app, word_entered}
+use Rattle.drm_command_line.specs.CommandLine.{most_submitters, most_turns, number_rule, program_app, run_app}
+use Rattle.drm_command_line.specs.Known.{HasNumbers}
 
 -- ---- lists of which each element is good
 
@@ -406,21 +407,21 @@ run_reads words passed =
 differs : (name wanted : Text) → bytes_eq name wanted ≡ false → Some name ≡ Some wanted → ⊥
 differs name wanted other same = true≢false (sym ((bytes_eq-Decides name wanted).1 (same_Some _ _ same)) ∙ other)
 
--- what is found by a name among eight of which only the fourth has it is the fourth
-fourth_found : {X : Type 0} (name : X → Text) (wanted : Text) (a b c d e f g h : X) (is_a is_b is_c is_d is_e is_f is_g is_h : Bool)
-    → bytes_eq (name a) wanted ≡ false → bytes_eq (name b) wanted ≡ false → bytes_eq (name c) wanted ≡ false → bytes_eq (name e) wanted ≡ false → bytes_eq (name f) wanted ≡ false → bytes_eq (name g) wanted ≡ false
-    → bytes_eq (name h) wanted ≡ false
-    → option_map name (cond is_a (Some a) (cond is_b (Some b) (cond is_c (Some c) (cond is_d (Some d) (cond is_e (Some e) (cond is_f (Some f) (cond is_g (Some g) (cond is_h (Some h) None)))))))) ≡ Some wanted
-    → cond is_a (Some a) (cond is_b (Some b) (cond is_c (Some c) (cond is_d (Some d) (cond is_e (Some e) (cond is_f (Some f) (cond is_g (Some g) (cond is_h (Some h) None))))))) ≡ Some d
-fourth_found name wanted a b c d e f g h true is_b is_c is_d is_e is_f is_g is_h no_a no_b no_c no_e no_f no_g no_h found = absurd (differs (name a) wanted no_a found)
-fourth_found name wanted a b c d e f g h false true is_c is_d is_e is_f is_g is_h no_a no_b no_c no_e no_f no_g no_h found = absurd (differs (name b) wanted no_b found)
-fourth_found name wanted a b c d e f g h false false true is_d is_e is_f is_g is_h no_a no_b no_c no_e no_f no_g no_h found = absurd (differs (name c) wanted no_c found)
-fourth_found name wanted a b c d e f g h false false false true is_e is_f is_g is_h no_a no_b no_c no_e no_f no_g no_h found = refl
-fourth_found name wanted a b c d e f g h false false false false true is_f is_g is_h no_a no_b no_c no_e no_f no_g no_h found = absurd (differs (name e) wanted no_e found)
-fourth_found name wanted a b c d e f g h false false false false false true is_g is_h no_a no_b no_c no_e no_f no_g no_h found = absurd (differs (name f) wanted no_f found)
-fourth_found name wanted a b c d e f g h false false false false false false true is_h no_a no_b no_c no_e no_f no_g no_h found = absurd (differs (name g) wanted no_g found)
-fourth_found name wanted a b c d e f g h false false false false false false false true no_a no_b no_c no_e no_f no_g no_h found = absurd (differs (name h) wanted no_h found)
-fourth_found name wanted a b c d e f g h false false false false false false false false no_a no_b no_c no_e no_f no_g no_h found = absurd (cc)
+-- what has the wanted name stands behind the first, which has another
+skipped : {X : Type 0} (name : X → Text) (wanted : Text) (x : X) (is_first : Bool) (rest found : Option X) → bytes_eq (name x) wanted ≡ false
+    → (option_map name rest ≡ Some wanted → rest ≡ found) → option_map name (cond is_first (Some x) rest) ≡ Some wanted → cond is_first (Some x) rest ≡ found
+skipped name wanted x true rest found other behind named = absurd (differs (name x) wanted other named)
+skipped name wanted x false rest found other behind named = behind named
+
+-- it is the first, where nothing behind has the name
+met : {X : Type 0} (name : X → Text) (wanted : Text) (x : X) (is_first : Bool) (rest : Option X) → (option_map name rest ≡ Some wanted → rest ≡ Some x)
+    → option_map name (cond is_first (Some x) rest) ≡ Some wanted → cond is_first (Some x) rest ≡ Some x
+met name wanted x true rest behind named = refl
+met name wanted x false rest behind named = behind named
+
+-- nothing has it
+unmet : {X : Type 0} (name : X → Text) (wanted : Text) (found : Option X) → option_map name None ≡ Some wanted → None ≡ found
+unmet name wanted found named = absurd (cc)
 
 -- a command that is found passes its level, where it is the command that runs
 found_reads : (found : Option Shape) (words : List Text) → found ≡ Some run_built
@@ -445,17 +446,39 @@ stopped_reads : (stop : Option (Text × List Text)) → entered_fault (built pro
 stopped_reads None passed named = absurd (cc)
 stopped_reads (Some stop) passed named =
     let found = find (λ s. answers_to stop.0 (label_of s)) (built program_app).subs in
+    let label = λ (s : Shape). s.name in
+    let is = λ (word : Text). bytes_eq word stop.0 || false in
     found_reads found stop.1
-    (fourth_found (λ (s : Shape). s.name) (codes "run") _ _ _ _ _ _ _ _ (bytes_eq (codes "replay") stop.0 || false) (bytes_eq (codes "serial") stop.0 || false) (bytes_eq (codes "check") stop.0 || false)
-    (bytes_eq (codes "run") stop.0 || false) (bytes_eq (codes "explain") stop.0 || false) (bytes_eq (codes "draw") stop.0 || false) (bytes_eq (codes "explore") stop.0 || false) (bytes_eq (codes "help") stop.0 || false) refl refl refl refl refl refl refl
+    (skipped label (codes "run") _ (is (codes "replay")) _ _ refl
+    (skipped label (codes "run") _ (is (codes "serial")) _ _ refl
+    (skipped label (codes "run") _ (is (codes "check")) _ _ refl
+    (met label (codes "run") _ (is (codes "run")) _
+    (skipped label (codes "run") _ (is (codes "explain")) _ _ refl
+    (skipped label (codes "run") _ (is (codes "draw")) _ _ refl
+    (skipped label (codes "run") _ (is (codes "explore")) _ _ refl
+    (skipped label (codes "run") _ (is (codes "why")) _ _ refl
+    (skipped label (codes "run") _ (is (codes "test")) _ _ refl
+    (skipped label (codes "run") _ (is (codes "conform")) _ _ refl
+    (skipped label (codes "run") _ (is (codes "trace")) _ _ refl
+    (skipped label (codes "run") _ (is (codes "help")) _ _ refl
+    (unmet label (codes "run") _))))))))))))
     (named_found found stop.1 (codes "run") named)) passed
 
 -- where clap refuses the words nowhere and finds `run`, both options are there with a text that their parser accepts
-pub options_are_read : (words : List Text) → fault_of program_app words ≡ [] → word_entered words ≡ Some (codes "run")
-    → ((t : Text) × (option_entered (codes "threads") words ≡ Some t) × IsUnsignedIn 1 most_submitters t)
-    × ((t : Text) × (option_entered (codes "turns") words ≡ Some t) × IsUnsignedIn 1 most_turns t)
+options_are_read : (words : List Text) → fault_of program_app words ≡ [] → option_map (λ p. p.0) (subcommand_of program_app words) ≡ Some (codes "run")
+    → ReadAs (IsUnsignedIn 1 most_submitters) (option_and_then (λ p. one_of (codes "threads") p.1) (subcommand_of program_app words))
+    × ReadAs (IsUnsignedIn 1 most_turns) (option_and_then (λ p. one_of (codes "turns") p.1) (subcommand_of program_app words))
 options_are_read words passed named =
     let all = built program_app in
     let end = walk all.top.rules (names_of all) nothing_held (argument_words program_app words) in
     let walked_all = walk_fault all.top (names_of all) (walk_from nothing_held) (argument_words program_app words) in
     stopped_reads end.stopped (first_is_none (entered_fault all end.stopped) _ (second_is_none walked_all _ passed)) named
+
+-- so both are in the rows of the command
+pub numbers_are_there : (words : List Text) (name : Text) (rows : List Row) → fault_of program_app words ≡ [] → subcommand_of program_app words ≡ Some (name, rows) → name ≡ codes "run"
+    → HasNumbers rows
+numbers_are_there words name rows passed found named =
+    let options = options_are_read words passed (ap (option_map (λ (p : Text × List Row). p.0)) found ∙ ap Some named) in
+    let threads = subst (λ (o : Option (Text × List Row)). ReadAs (IsUnsignedIn 1 most_submitters) (option_and_then (λ p. one_of (codes "threads") p.1) o)) found options.0 in
+    let turns = subst (λ (o : Option (Text × List Row)). ReadAs (IsUnsignedIn 1 most_turns) (option_and_then (λ p. one_of (codes "turns") p.1) o)) found options.1 in
+    (threads, turns)

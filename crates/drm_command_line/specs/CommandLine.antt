@@ -1,5 +1,6 @@
 -- The words of the command line.
-use Rattle.std.specs.Prelude.{◌≡◌, ◌<◌, ◌≤◌, ℕ, Bool, List, [], ◌∷◌, Option, Some, Result, MatchResult, codes, option_and_then, option_map, not, true, false, ◌&&◌}
+use Rattle.std.specs.Prelude.{◌≡◌, ◌<◌, ◌≤◌, ℕ, Bool, List, [], ◌∷◌, Option, Some, Result, MatchResult, codes, not, option_map, true, false}
+use Rattle.std.specs.Borrow.{Bor}
 use Rattle.std.specs.Option.{option_map_or}
 use Rattle.std.specs.Str.{bytes_eq}
 use Rattle.std.specs.Str.Parse.{digits_value, without_leading_plus}
@@ -10,10 +11,12 @@ use Rattle.clap.specs.declared.error.Error.{Error}
 use Rattle.clap.specs.declared.error.kind.ErrorKind.TheVariants.{OutOfMemory}
 use Rattle.drm_engine.specs.Engines.{word_of}
 use Rattle.drm_engine.specs.declared.engine.Engine.{Engine}
-use Rattle.drm_command_line.specs.declared.command_line.Request.{Request}
-use Rattle.drm_command_line.specs.declared.command_line.Request.TheVariants.{Run, ReplayWithWords, Work, Explain, Draw, Explore}
+use Rattle.drm_command_line.specs.declared.request.Request.{Request}
+use Rattle.drm_command_line.specs.declared.request.Request.TheVariants.{Run, ReplayWithWords, ReplayAsJournal, Work, Explain, Draw, Explore, Why, Test, Conform, Trace}
 
--- the program without its commands, as clap reads it
+-- ---- the program, as clap reads it
+
+-- the program without its commands
 abbrev pub top_app : App
 top_app = record {
   top = record (new_app (codes "drmsim")).top { has_version = true; subcommand_required = true };
@@ -24,13 +27,13 @@ top_app = record {
 abbrev pub flag_rule : Text → Rule
 flag_rule name = record (new_rule name) { long = Some name; action = Some SetTrue }
 
--- the command that answers a script, with words beside the answers or without
-abbrev pub replay_app : App
-replay_app = with_rule (new_app (codes "replay")) (flag_rule (codes "words"))
+-- an option that may be there, a text
+abbrev pub text_rule : Text → Rule
+text_rule name = record (new_rule name) { long = Some name; value_names = 1 }
 
--- the command that explains a number, which may follow it
-abbrev pub explain_app : App
-explain_app = with_rule (new_app (codes "explain")) (record (new_rule (codes "number")) { value_names = 1 })
+-- a word that may follow the command
+abbrev pub word_rule : Text → Rule
+word_rule name = record (new_rule name) { value_names = 1 }
 
 -- an option that has to be there, a whole number from 1 to the most
 abbrev pub number_rule : Text → ℕ → Rule
@@ -48,78 +51,89 @@ most_submitters = 16
 abbrev pub most_turns : ℕ
 most_turns = 1000000000
 
--- the command that runs a script by workers in threads
+-- answers a script, with words beside the answers or as the journal of what it did
+abbrev pub replay_app : App
+replay_app = with_rule (with_rule (new_app (codes "replay")) (flag_rule (codes "words"))) (flag_rule (codes "journal"))
+
+-- runs a script by workers in threads
 abbrev pub run_app : App
 run_app = with_rule (with_rule (new_app (codes "run")) (number_rule (codes "threads") most_submitters)) (number_rule (codes "turns") most_turns)
 
--- an option that may be there, a text
-abbrev pub text_rule : Text → Rule
-text_rule name = record (new_rule name) { long = Some name; value_names = 1 }
+-- explains a number, which may follow it
+abbrev pub explain_app : App
+explain_app = with_rule (new_app (codes "explain")) (word_rule (codes "number"))
 
--- the command that draws a part of a run
+-- draws a part of a run
 abbrev pub draw_app : App
 draw_app = with_rule (with_rule (new_app (codes "draw")) (text_rule (codes "from"))) (text_rule (codes "to"))
 
--- the command that explores all orders of a script
+-- explores all orders of a script
 abbrev pub explore_app : App
 explore_app = with_rule (with_rule (with_rule (new_app (codes "explore")) (flag_rule (codes "mutex"))) (flag_rule (codes "no-reap"))) (text_rule (codes "states"))
 
--- the program with its commands
+-- tells why the job of a fence waits, which may follow it, or all jobs, or the rings
+abbrev pub why_app : App
+why_app = with_rule (with_rule (with_rule (new_app (codes "why")) (word_rule (codes "fence"))) (flag_rule (codes "all"))) (flag_rule (codes "rings"))
+
+-- compares a script's answers with those that it expects, or writes it without these
+abbrev pub test_app : App
+test_app = with_rule (new_app (codes "test")) (flag_rule (codes "lower"))
+
+-- judges the log of a kernel
+abbrev pub conform_app : App
+conform_app =
+    with_rule
+    (with_rule (with_rule (with_rule (new_app (codes "conform")) (flag_rule (codes "jobs"))) (flag_rule (codes "in-order"))) (text_rule (codes "limit")))
+    (text_rule (codes "tolerance"))
+
+-- writes a trace of a run
+abbrev pub trace_app : App
+trace_app = with_rule (new_app (codes "trace")) (flag_rule (codes "commands"))
+
+-- the program with the commands that write answers and journals
+abbrev pub core_app : App
+core_app = with_subcommand (with_subcommand (with_subcommand (with_subcommand (with_subcommand top_app replay_app.top) (new_app (codes "serial")).top) (new_app (codes "check")).top) run_app.top) explain_app.top
+
+-- the program with all its commands
 abbrev pub program_app : App
-program_app = with_subcommand (with_subcommand (with_subcommand (with_subcommand (with_subcommand (with_subcommand (with_subcommand top_app replay_app.top) (new_app (codes "serial")).top) (new_app (codes "check")).top) run_app.top) explain_app.top) draw_app.top) explore_app.top
+program_app = with_subcommand (with_subcommand (with_subcommand (with_subcommand (with_subcommand (with_subcommand core_app draw_app.top) explore_app.top) why_app.top) test_app.top) conform_app.top) trace_app.top
 
--- the name of the command that clap finds in the words
-abbrev pub word_entered : List Text → Option Text
-word_entered words = option_map (λ p. p.0) (subcommand_of program_app words)
+-- ---- what is asked for
 
--- the word behind the command that clap finds, where one stands for a number
-abbrev pub number_entered : List Text → Option Text
-number_entered words = option_and_then (λ p. first_of (codes "number") p.1) (subcommand_of program_app words)
+-- whether a flag is on, in what clap finds of a command
+abbrev pub is_set : Text → List Row → Bool
+is_set name rows = option_map_or (λ t. bytes_eq t (codes "true")) (one_of name rows) false
 
--- the word behind an option of the command that clap finds, where one stands there
-abbrev pub word_given : Text → List Text → Option Text
-word_given name words = option_and_then (λ p. first_of name p.1) (subcommand_of program_app words)
-
--- the text of an option of the command that clap finds
-abbrev pub option_entered : Text → List Text → Option Text
-option_entered name words = option_and_then (λ p. one_of name p.1) (subcommand_of program_app words)
-
--- whether a flag is on whose text is this
-abbrev pub is_on : Option Text → Bool
-is_on text = option_map_or (λ t. bytes_eq t (codes "true")) text false
-
--- whether a flag of the command that clap finds is on
-abbrev pub flag_entered : Text → List Text → Bool
-flag_entered name words = is_on (option_entered name words)
-
--- what clap finds is the command that answers a script, and its flag for words is on
-abbrev pub is_replay_with_words : Option (Text × List Row) → Bool
-is_replay_with_words found =
-    option_map_or (λ p. bytes_eq p.0 (codes "replay") && is_on (one_of (codes "words") p.1)) found false
-
--- whether the words ask for answers with words beside them
-abbrev pub wants_words : List Text → Bool
-wants_words words = is_replay_with_words (subcommand_of program_app words)
+-- this word stands behind an option, or where an argument may follow the command, or none does
+abbrev pub Gives : Text → List Row → Option (Bor Text) → Type 0
+Gives name rows word = first_of name rows ≡ option_map (λ w. w.now) word
 
 -- the option of this name is the number n, which is from 1 to the most
-abbrev pub IsNumber : Text → ℕ → List Text → ℕ → Type 0
-IsNumber name most words n =
-    ((text : Text) × (option_entered name words ≡ Some text) × (digits_value 10 (without_leading_plus text) ≡ n)) × ((0 < n) × (n ≤ most))
+abbrev pub IsNumber : Text → ℕ → List Row → ℕ → Type 0
+IsNumber name most rows n =
+    ((text : Text) × (one_of name rows ≡ Some text) × (digits_value 10 (without_leading_plus text) ≡ n)) × ((0 < n) × (n ≤ most))
 
--- clap finds in the words what is asked for: the command of the engine, with no words beside what it writes, that which answers
--- with words, that which runs a script by workers, with both its numbers, that which explains, and the word behind it, that which
--- draws, and the words behind its options, or that which explores, with its flags and the word behind its option
+-- a command of this name, of whose arguments clap finds this, asks for it
+abbrev pub Asks : Text → List Row → Request → Type 0
+Asks name rows (Run engine) = (name ≡ word_of engine) × (name ≡ codes "replay" → (is_set (codes "words") rows ≡ false) × (is_set (codes "journal") rows ≡ false))
+Asks name rows ReplayWithWords = (name ≡ codes "replay") × (is_set (codes "words") rows ≡ true)
+Asks name rows ReplayAsJournal = (name ≡ codes "replay") × (is_set (codes "words") rows ≡ false) × (is_set (codes "journal") rows ≡ true)
+Asks name rows (Work submitters turns) =
+    (name ≡ codes "run") × IsNumber (codes "threads") most_submitters rows submitters × IsNumber (codes "turns") most_turns rows turns
+Asks name rows (Explain word) = (name ≡ codes "explain") × Gives (codes "number") rows word
+Asks name rows (Draw from to) = (name ≡ codes "draw") × Gives (codes "from") rows from × Gives (codes "to") rows to
+Asks name rows (Explore backs_off reaps most) =
+    (name ≡ codes "explore") × (backs_off ≡ not (is_set (codes "mutex") rows)) × (reaps ≡ not (is_set (codes "no-reap") rows)) × Gives (codes "states") rows most
+Asks name rows (Why fence all rings) =
+    (name ≡ codes "why") × Gives (codes "fence") rows fence × (all ≡ is_set (codes "all") rows) × (rings ≡ is_set (codes "rings") rows)
+Asks name rows (Test lowers) = (name ≡ codes "test") × (lowers ≡ is_set (codes "lower") rows)
+Asks name rows (Conform jobs in_order limits tolerance) =
+    (name ≡ codes "conform") × (jobs ≡ is_set (codes "jobs") rows) × (in_order ≡ is_set (codes "in-order") rows) × Gives (codes "limit") rows limits × Gives (codes "tolerance") rows tolerance
+Asks name rows (Trace by_command) = (name ≡ codes "trace") × (by_command ≡ is_set (codes "commands") rows)
+
+-- clap finds in the words what asks for it
 abbrev pub IsAsked : List Text → Request → Type 0
-IsAsked words (Run engine) = (word_entered words ≡ Some (word_of engine)) × (wants_words words ≡ false)
-IsAsked words ReplayWithWords = wants_words words ≡ true
-IsAsked words (Work submitters turns) =
-    (word_entered words ≡ Some (codes "run")) × (IsNumber (codes "threads") most_submitters words submitters × IsNumber (codes "turns") most_turns words turns)
-IsAsked words (Explain word) = (word_entered words ≡ Some (codes "explain")) × (number_entered words ≡ option_map (λ w. w.now) word)
-IsAsked words (Draw from to) =
-    (word_entered words ≡ Some (codes "draw")) × ((word_given (codes "from") words ≡ option_map (λ w. w.now) from) × (word_given (codes "to") words ≡ option_map (λ w. w.now) to))
-IsAsked words (Explore backs_off reaps most) =
-    (word_entered words ≡ Some (codes "explore"))
-    × ((backs_off ≡ not (flag_entered (codes "mutex") words)) × ((reaps ≡ not (flag_entered (codes "no-reap") words)) × (word_given (codes "states") words ≡ option_map (λ w. w.now) most)))
+IsAsked words request = (name : Text) × (rows : List Row) × (subcommand_of program_app words ≡ Some (name, rows)) × Asks name rows request
 
 -- something is asked for
 abbrev pub IsAnythingAsked : List Text → Type 0

@@ -8,51 +8,70 @@ use std::test::Fail;
 
 #[test]
 fn command_lines(rt: HostRuntime) -> Result<(), Fail> {
-    let taken = [
-        ("replay", Engine::Replay),
-        ("serial", Engine::Serial),
-        ("check", Engine::Check),
+    let asked: [(&[&str], Request); 14] = [
+        (&["drmsim", "replay"], Request::Run(Engine::Replay)),
+        (&["drmsim", "serial"], Request::Run(Engine::Serial)),
+        (&["drmsim", "check"], Request::Run(Engine::Check)),
+        (&["drmsim", "replay", "--words"], Request::ReplayWithWords),
+        (&["drmsim", "replay", "--journal"], Request::ReplayAsJournal),
+        (
+            &["drmsim", "run", "--turns=1000000000", "--threads", "16"],
+            Request::Work {
+                submitters: 16,
+                turns: 1_000_000_000,
+            },
+        ),
+        (&["drmsim", "explain", "46"], Request::Explain(Some("46"))),
+        (&["drmsim", "explain"], Request::Explain(None)),
+        (
+            &["drmsim", "draw", "--to", "7"],
+            Request::Draw {
+                from: None,
+                to: Some("7"),
+            },
+        ),
+        (
+            &["drmsim", "explore", "--mutex", "--states", "9"],
+            Request::Explore {
+                backs_off: false,
+                reaps: true,
+                most: Some("9"),
+            },
+        ),
+        (
+            &["drmsim", "why", "--rings", "3"],
+            Request::Why {
+                fence: Some("3"),
+                all: false,
+                rings: true,
+            },
+        ),
+        (&["drmsim", "test"], Request::Test { lowers: false }),
+        (
+            &[
+                "drmsim",
+                "conform",
+                "--jobs",
+                "--limit",
+                "gfx=3",
+                "--tolerance=500",
+            ],
+            Request::Conform {
+                jobs: true,
+                in_order: false,
+                limits: Some("gfx=3"),
+                tolerance: Some("500"),
+            },
+        ),
+        (
+            &["drmsim", "trace", "--commands"],
+            Request::Trace { by_command: true },
+        ),
     ];
-    for (name, engine) in taken {
-        let given = words_of(rt.alloc(), &["drmsim", name])?;
-        assert_eq!(rt; read_words(rt.alloc(), &given)?, Request::Run(engine));
+    for (words, request) in asked {
+        let given = words_of(rt.alloc(), words)?;
+        assert_eq!(rt; read_words(rt.alloc(), &given)?, request);
     }
-    let worded = words_of(rt.alloc(), &["drmsim", "replay", "--words"])?;
-    assert_eq!(rt; read_words(rt.alloc(), &worded)?, Request::ReplayWithWords);
-    let runs = words_of(
-        rt.alloc(),
-        &["drmsim", "run", "--turns=1000000000", "--threads", "16"],
-    )?;
-    let work = Request::Work {
-        submitters: 16,
-        turns: 1_000_000_000,
-    };
-    assert_eq!(rt; read_words(rt.alloc(), &runs)?, work);
-    let one = words_of(rt.alloc(), &["drmsim", "explain", "46"])?;
-    assert_eq!(rt; read_words(rt.alloc(), &one)?, Request::Explain(Some("46")));
-    let orders = words_of(
-        rt.alloc(),
-        &["drmsim", "explore", "--mutex", "--states", "9"],
-    )?;
-    let explore = Request::Explore {
-        backs_off: false,
-        reaps: true,
-        most: Some("9"),
-    };
-    assert_eq!(rt; read_words(rt.alloc(), &orders)?, explore);
-    let all = words_of(rt.alloc(), &["drmsim", "explain"])?;
-    assert_eq!(rt; read_words(rt.alloc(), &all)?, Request::Explain(None));
-    let log = words_of(
-        rt.alloc(),
-        &["drmsim", "conform", "--jobs", "--limit", "gfx=3", "--tolerance=500"],
-    )?;
-    let judged = Request::Conform {
-        jobs: true,
-        in_order: false,
-        limits: Some("gfx=3"),
-        tolerance: Some("500"),
-    };
-    assert_eq!(rt; read_words(rt.alloc(), &log)?, judged);
     Ok(())
 }
 

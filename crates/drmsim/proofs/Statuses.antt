@@ -1,5 +1,5 @@
 -- What is left where memory was refused, and what is asked of a request.
-use Rattle.std.proofs.Common.{◌≡◌, ◌⊎◌, inl, inr, ℕ, Bool, List, [], ◌∷◌, Option, Some, None, refl}
+use Rattle.std.proofs.Common.{◌≡◌, ◌⊎◌, inl, inr, ℕ, Bool, true, false, List, [], ◌∷◌, Option, Some, None, refl}
 use Rattle.std.specs.Io.KnownBytes.{Keeps}
 use Rattle.clap.specs.Words.{IsAmong, Kinds, Text}
 use Rattle.clap.specs.declared.error.kind.ErrorKind.{ErrorKind}
@@ -16,9 +16,12 @@ use Rattle.drm_explore.specs.Exploring.{ExploresBy}
 use Rattle.drm_explore.specs.declared.exploring.Exploring.{Exploring}
 use Rattle.drm_explore.specs.declared.exploring.Exploring.TheVariants as exploring
 use Rattle.drm_command_line.specs.CommandLine.{IsAsked}
-use Rattle.drm_command_line.specs.declared.command_line.Request.{Request}
-use Rattle.drm_command_line.specs.declared.command_line.Request.TheVariants as request
-use Rattle.drmsim.specs.Statuses.{Does, DrawsBetween, EndsAs, ExploresUpTo, MayHappen, ending_of_exploring}
+use Rattle.drm_command_line.specs.declared.request.Request.{Request}
+use Rattle.drm_command_line.specs.declared.request.Request.TheVariants as request
+use Rattle.drm_conform.specs.declared.options.Options.{Options}
+use Rattle.drm_why.specs.declared.why.Question.{Question}
+use Rattle.drmsim.specs.Statuses.{Does, DrawsBetween, EndsAs, ExploresUpTo, JudgesAsked, MayHappen, TestsScript, WhysAsked, ending_of_exploring}
+use Rattle.drmsim.specs.declared.outcome.Outcome.TheVariants as outcome
 
 pub untouched : (bytes : Option (List ℕ)) → Keeps bytes bytes
 untouched None = tt
@@ -49,17 +52,36 @@ explored_without_memory : (backs_off reaps : Bool) (most : Option ℕ) (source :
 explored_without_memory backs_off reaps (Some most) source sink = (exploring.Ended ending.NoMemory, untouched sink.contents, refl)
 explored_without_memory backs_off reaps None source sink = (refl, refl)
 
+-- so does what is asked of jobs, and the judging of a log
+why_without_memory : (asked : Option Question) (source : SourceState) (sink : SinkState) → WhysAsked asked source source sink sink (outcome.Ended ending.NoMemory)
+why_without_memory (Some asked) source sink = untouched sink.contents
+why_without_memory None source sink = (refl, refl)
+
+judged_without_memory : (asked : Option Options) (source : SourceState) (sink : SinkState) → JudgesAsked asked source source sink sink (outcome.Ended ending.NoMemory)
+judged_without_memory (Some options) source sink = (refl, refl)
+judged_without_memory None source sink = (refl, refl)
+
+-- and a test
+tested_without_memory : (lowers : Bool) (source : SourceState) (sink : SinkState) → TestsScript lowers source.remaining sink.contents sink.contents ending.NoMemory
+tested_without_memory true source sink = untouched sink.contents
+tested_without_memory false source sink = untouched sink.contents
+
 -- and whatever is asked for
-done_without_memory : (asked : Request) (source : SourceState) (sink : SinkState) → Does asked source source sink sink ending.NoMemory
+done_without_memory : (asked : Request) (source : SourceState) (sink : SinkState) → Does asked source source sink sink (outcome.Ended ending.NoMemory)
 done_without_memory (request.Run engine) source sink = runs_without_memory engine source.remaining sink.contents
 done_without_memory request.ReplayWithWords source sink = untouched sink.contents
+done_without_memory request.ReplayAsJournal source sink = untouched sink.contents
 done_without_memory (request.Work submitters turns) source sink = untouched sink.contents
 done_without_memory (request.Explain word) source sink = (refl, untouched sink.contents)
 done_without_memory (request.Draw from to) source sink = drawn_without_memory _ _ source sink
 done_without_memory (request.Explore backs_off reaps most) source sink = explored_without_memory backs_off reaps _ source sink
+done_without_memory (request.Why fence all rings) source sink = why_without_memory _ source sink
+done_without_memory (request.Test lowers) source sink = tested_without_memory lowers source sink
+done_without_memory (request.Conform jobs in_order limits tolerance) source sink = judged_without_memory _ source sink
+done_without_memory (request.Trace by_command) source sink = untouched sink.contents
 
 pub ends_without_memory : (asked : Request) (source : SourceState) (sink : SinkState) (status : ℕ) → status ≡ 3 → EndsAs asked source source sink sink status
-ends_without_memory asked source sink status is = (ending.NoMemory, done_without_memory asked source sink, (refl, refl), is)
+ends_without_memory asked source sink status is = (outcome.Ended ending.NoMemory, done_without_memory asked source sink, (refl, refl), is)
 
 -- an explanation reads nothing, so no read of it fails
 pub told_unread : (word : Option Text) (source : SourceState) (old new : SinkState) (ended : Ending) → Tells word old.contents new.contents ended → TellsWrites old new ended → EndsBy source source old new ended
@@ -82,10 +104,15 @@ told_unread word source old new ending.NoOutput tells wrote = ((refl, refl), wro
 pub may_happen : (words : List Text) (asked : Request) → IsAsked words asked → MayHappen asked
 may_happen words (request.Run engine) is = tt
 may_happen words request.ReplayWithWords is = tt
-may_happen words (request.Work submitters turns) is = is.1.0.1
+may_happen words request.ReplayAsJournal is = tt
+may_happen words (request.Work submitters turns) is = is.3.1.1
 may_happen words (request.Explain word) is = tt
 may_happen words (request.Draw from to) is = tt
 may_happen words (request.Explore backs_off reaps most) is = tt
+may_happen words (request.Why fence all rings) is = tt
+may_happen words (request.Test lowers) is = tt
+may_happen words (request.Conform jobs in_order limits tolerance) is = tt
+may_happen words (request.Trace by_command) is = tt
 
 -- of words without a fault only want of memory is an error
 pub memory_alone : (kinds : Kinds) (found : ErrorKind) → kinds ≡ [] → (found ≡ OutOfMemory) ⊎ IsAmong found kinds → found ≡ OutOfMemory

@@ -1,5 +1,5 @@
--- The exit status of the program.
-use Rattle.std.specs.Prelude.{◌≡◌, ◌⊎◌, ◌<◌, ◌≤◌, ℕ, Bool, List, Option, Some, None, option_map, if◌then◌else◌}
+-- What each request comes to, and the exit status of the program.
+use Rattle.std.specs.Prelude.{◌≡◌, ◌⊎◌, ◌<◌, ◌≤◌, ℕ, Bool, true, false, List, Option, Some, None, option_map, if◌then◌else◌}
 use Rattle.std.specs.Option.{option_map_or}
 use Rattle.clap.specs.Words.{IsAmong, Kinds, Text}
 use Rattle.clap.specs.declared.error.kind.ErrorKind.{ErrorKind}
@@ -8,19 +8,32 @@ use Rattle.drm_text.specs.Number.{number_up_to}
 use Rattle.drm_stream.specs.Streams.{SinkState, SourceState}
 use Rattle.drm_engine.specs.declared.ending.Ending.{Ending}
 use Rattle.drm_engine.specs.declared.ending.Ending.TheVariants as ending
-use Rattle.drm_engine.specs.Endings.{status_of}
 use Rattle.drm_engine.specs.Engines.{Runs}
-use Rattle.drm_engine.specs.Failures.{EndsBy}
 use Rattle.drm_words.specs.Replaying.{ReplaysWithWords}
+use Rattle.drm_record.specs.Recording.{Records}
 use Rattle.drm_run.specs.Runs as worked
 use Rattle.drm_explain.specs.Telling.{Tells}
 use Rattle.drm_draw.specs.Drawing.{Draws}
 use Rattle.drm_explore.specs.Exploring.{Explores}
 use Rattle.drm_explore.specs.declared.exploring.Exploring.{Exploring}
 use Rattle.drm_explore.specs.declared.exploring.Exploring.TheVariants as exploring
+use Rattle.drm_why.specs.Whys.{Whys}
+use Rattle.drm_why.specs.declared.why.Question.{Question}
+use Rattle.drm_why.specs.declared.why.Question.TheVariants as question
+use Rattle.drm_expect.specs.Testing.{Lowers, Tests}
+use Rattle.drm_conform.specs.declared.options.Options.{Options}
+use Rattle.drm_conform.specs.declared.verdict.Verdict.{Verdict}
+use Rattle.drm_conform.specs.Verdicts as judging
+use Rattle.drm_conform.specs.Asked.{options_asked}
+use Rattle.drm_perfetto.specs.Traces.{Traces}
+use Rattle.drm_perfetto.specs.declared.clock.Clock.{Clock}
+use Rattle.drm_perfetto.specs.declared.clock.Clock.TheVariants as clock
 use Rattle.drm_command_line.specs.CommandLine.{IsAsked, most_submitters}
-use Rattle.drm_command_line.specs.declared.command_line.Request.{Request}
-use Rattle.drm_command_line.specs.declared.command_line.Request.TheVariants as request
+use Rattle.drm_command_line.specs.declared.request.Request.{Request}
+use Rattle.drm_command_line.specs.declared.request.Request.TheVariants as request
+use Rattle.drmsim.specs.Outcomes.{Ends, EndsSo, status_of_outcome}
+use Rattle.drmsim.specs.declared.outcome.Outcome.{Outcome}
+use Rattle.drmsim.specs.declared.outcome.Outcome.TheVariants as outcome
 
 -- the number that a word spells, of 32 bits, or another where there is no word
 abbrev pub number_of_word : ℕ → Option Text → Option ℕ
@@ -61,22 +74,74 @@ ExploresUpTo backs_off reaps (Some most) before after old new ended =
     × (ended ≡ ending_of_exploring found)
 ExploresUpTo backs_off reaps None before after old new ended = ExploresNothing before after old new ended
 
--- what each ending says of what was asked for: an explanation reads nothing, a drawing goes from the first command where there is no
--- first word, and to the last where there is no second, and an exploration takes a million states where there is no word
-abbrev pub Does : Request → SourceState → SourceState → SinkState → SinkState → Ending → Type 0
-Does (request.Run engine) before after old new ended = Runs engine before.remaining old.contents new.contents ended
-Does request.ReplayWithWords before after old new ended = ReplaysWithWords before.remaining old.contents new.contents ended
-Does (request.Work submitters turns) before after old new ended = worked.Runs submitters turns before.remaining old.contents new.contents ended
-Does (request.Explain word) before after old new ended = (after ≡ before) × Tells (option_map (λ w. w.now) word) old.contents new.contents ended
-Does (request.Draw from to) before after old new ended =
-    DrawsBetween (number_of_word 0 (option_map (λ w. w.now) from)) (number_of_word 4294967295 (option_map (λ w. w.now) to)) before after old new ended
-Does (request.Explore backs_off reaps most) before after old new ended =
-    ExploresUpTo backs_off reaps (number_of_word 1000000 (option_map (λ w. w.now) most)) before after old new ended
+-- the question that a word and two flags ask: of all jobs, else of the rings, else of the job of a fence
+abbrev pub question_asked : Option Text → Bool → Bool → Option Question
+question_asked fence true rings = Some question.Jobs
+question_asked fence false true = Some question.Rings
+question_asked None false false = None
+question_asked (Some text) false false = option_map (λ number. question.Job number) (number_up_to 4294967295 text)
 
--- what was asked for was done to an ending, of which this is the exit status, by what became of its reads and writes
+-- what each outcome says for which no question is asked
+abbrev pub AsksNothing : SourceState → SourceState → SinkState → SinkState → Outcome → Type 0
+AsksNothing before after old new outcome.NoFence = IsUnused before after old new
+AsksNothing before after old new (outcome.Ended ending.NoMemory) = IsUnused before after old new
+AsksNothing before after old new other = ⊥
+
+-- what each outcome says of a question, if there is one
+abbrev pub WhysAsked : Option Question → SourceState → SourceState → SinkState → SinkState → Outcome → Type 0
+WhysAsked (Some asked) before after old new came = Ends (Whys asked before.remaining old.contents new.contents) came
+WhysAsked None before after old new came = AsksNothing before after old new came
+
+-- what each outcome says for which words spell no limits or no tolerance
+abbrev pub JudgesNothing : SourceState → SourceState → SinkState → SinkState → Outcome → Type 0
+JudgesNothing before after old new outcome.NoLimits = IsUnused before after old new
+JudgesNothing before after old new (outcome.Ended ending.NoMemory) = IsUnused before after old new
+JudgesNothing before after old new other = ⊥
+
+-- what each outcome says of a log that is judged
+abbrev pub JudgesBy : Options → SourceState → SourceState → SinkState → SinkState → Outcome → Type 0
+JudgesBy options before after old new (outcome.Judged told) = judging.Tells options before.remaining old.contents new.contents told
+JudgesBy options before after old new (outcome.Ended ending.NoMemory) = IsUnused before after old new
+JudgesBy options before after old new other = ⊥
+
+-- what each outcome says of the options that are asked for, if words spell them
+abbrev pub JudgesAsked : Option Options → SourceState → SourceState → SinkState → SinkState → Outcome → Type 0
+JudgesAsked (Some options) before after old new came = JudgesBy options before after old new came
+JudgesAsked None before after old new came = JudgesNothing before after old new came
+
+-- what each ending says of a script that is tested, or written without what it expects
+abbrev pub TestsScript : Bool → Option (List ℕ) → Option (List ℕ) → Option (List ℕ) → Ending → Type 0
+TestsScript true = Lowers
+TestsScript false = Tests
+
+-- what is taken for the time of a command
+abbrev pub clock_asked : Bool → Clock
+clock_asked true = clock.Command
+clock_asked false = clock.Moment
+
+-- what each outcome says of what was asked for: an explanation reads nothing, a drawing goes from the first command where there is no
+-- first word, and to the last where there is no second, and an exploration takes a million states where there is no word
+abbrev pub Does : Request → SourceState → SourceState → SinkState → SinkState → Outcome → Type 0
+Does (request.Run engine) before after old new came = Ends (Runs engine before.remaining old.contents new.contents) came
+Does request.ReplayWithWords before after old new came = Ends (ReplaysWithWords before.remaining old.contents new.contents) came
+Does request.ReplayAsJournal before after old new came = Ends (Records before.remaining old.contents new.contents) came
+Does (request.Work submitters turns) before after old new came = Ends (worked.Runs submitters turns before.remaining old.contents new.contents) came
+Does (request.Explain word) before after old new came = (after ≡ before) × Ends (Tells (option_map (λ w. w.now) word) old.contents new.contents) came
+Does (request.Draw from to) before after old new came =
+    Ends (DrawsBetween (number_of_word 0 (option_map (λ w. w.now) from)) (number_of_word 4294967295 (option_map (λ w. w.now) to)) before after old new) came
+Does (request.Explore backs_off reaps most) before after old new came =
+    Ends (ExploresUpTo backs_off reaps (number_of_word 1000000 (option_map (λ w. w.now) most)) before after old new) came
+Does (request.Why fence all rings) before after old new came = WhysAsked (question_asked (option_map (λ w. w.now) fence) all rings) before after old new came
+Does (request.Test lowers) before after old new came =
+    Ends (TestsScript lowers before.remaining old.contents new.contents) came
+Does (request.Conform jobs in_order limits tolerance) before after old new came =
+    JudgesAsked (options_asked jobs in_order (option_map (λ w. w.now) limits) (option_map (λ w. w.now) tolerance)) before after old new came
+Does (request.Trace by_command) before after old new came = Ends (Traces (clock_asked by_command) before.remaining old.contents new.contents) came
+
+-- what was asked for was done to an outcome, of which this is the exit status, by what became of its reads and writes
 abbrev pub EndsAs : Request → SourceState → SourceState → SinkState → SinkState → ℕ → Type 0
 EndsAs asked before after old new status =
-    (ended : Ending) × Does asked before after old new ended × EndsBy before after old new ended × (status ≡ status_of ended)
+    (came : Outcome) × Does asked before after old new came × EndsSo before after old new came × (status ≡ status_of_outcome came)
 
 -- the words ask for something, which ended as this exit status tells
 abbrev pub IsObeyed : List Text → SourceState → SourceState → SinkState → SinkState → ℕ → Type 0

@@ -1,37 +1,40 @@
 //! drmsim: the scheduler of a simulated GPU, driven by texts.
 //!
-//! Each command runs an engine of `drm_engine` from standard input to standard output, or that of `drm_run`, whose
-//! workers run in threads. This program only has the command line read (`drm_command_line`), runs the engine that it
-//! names, and tells how the engine ended: by the exit status, and by a line on standard error unless standard output
-//! has told it. `obey` does all that between any reader and any writer, and its clauses are what the program promises.
+//! Each command runs one engine from standard input to standard output. This program only has the command line read
+//! (`drm_command_line`), runs the engine that it names, and tells how the engine ended: by the exit status, and by a
+//! line on standard error unless standard output has told it. `obey` does all that between any reader and any writer, and its clauses are what the program promises.
 //! They say of each exit status whether a read or a write failed, and that refused words and explanations read nothing.
 #![tactic(auto)]
 
-ghost use Rattle.std.specs.Prelude.{◌<◌, ◌≡◌, ◌≢◌, ◌≤◌, ◌^◌, [], Bool, map, option_map, IfSome};
+ghost use Rattle.std.specs.Prelude.{◌<◌, ◌≡◌, ◌≢◌, ◌≤◌, [], Bool, map};
 ghost use Rattle.std.specs.IoError.{error_kind};
 ghost use Rattle.std.specs.Process.{exit_status};
 ghost use Rattle.std.specs.String.{string_bytes};
 ghost use Rattle.clap.specs.Words.{fault_of, kind_of};
 ghost use Rattle.drm_command_line.specs.CommandLine.{IsCommandLineForWords, IsCommandLineOf, program_app};
-ghost use Rattle.drm_command_line.specs.declared.command_line.Request.TheVariants.{ReplayWithWords, Run};
-ghost use Rattle.drm_engine.specs.Endings.{status_of};
+ghost use Rattle.drm_command_line.specs.declared.request.Request.TheVariants.{ReplayWithWords, Run};
 ghost use Rattle.drm_engine.specs.Failures.{EndsBy};
 ghost use Rattle.drm_engine.specs.declared.engine.Engine.{Engine as EngineOf};
 ghost use Rattle.drm_run.specs.Runs.{Runs};
-ghost use Rattle.drmsim.specs.Statuses.{Does, DrawsBetween, EndsAs, ExploresUpTo, IsObeyed, IsRefusal, MayHappen, ending_of_exploring, number_of_word, status_of_error};
+ghost use Rattle.drmsim.specs.Outcomes.{EndsSo, status_of_outcome};
+ghost use Rattle.drmsim.specs.Statuses.{Does, EndsAs, IsObeyed, IsRefusal, MayHappen, TestsScript, clock_asked, status_of_error};
 
+mod asking;
+mod outcome;
 mod progress;
 
+use asking::{draw_part, explore_orders, judge_log, tell_why};
 use clap::error::ErrorKind as WordsError;
 use drm_command_line::{Request, read_words};
-use drm_draw::draw;
 use drm_engine::Ending;
+use drm_expect::{lower, test};
 use drm_explain::tell_word;
-use drm_explore::{Exploring, Options, explore};
+use drm_perfetto::{Clock, trace};
+use drm_record::replay_journal;
 use drm_run::run;
 use drm_stream::{Sink, Source};
-use drm_text::read_number;
 use drm_words::replay_with_words;
+use outcome::Outcome;
 use progress::ProgressLine;
 use std::alloc::Global;
 use std::env;
@@ -45,14 +48,14 @@ fn words(rt: &HostRuntime) -> io::Result<Vec<String>> {
     Ok(env::args(rt)?.collect(rt.alloc())?)
 }
 
-/// Tells the ending on standard error, unless standard output has; nothing is left to do where that can't be written.
-fn tell(rt: &HostRuntime, ending: Ending) -> ExitCode
-    ensures { exit_status result ≡ status_of ending }
+/// Tells the outcome on standard error, unless standard output has; nothing is left to do where that can't be written.
+fn tell(rt: &HostRuntime, outcome: Outcome) -> ExitCode
+    ensures { exit_status result ≡ status_of_outcome outcome }
 {
-    if !ending.is_told() {
-        eprintln!(rt; "{ending}").ok();
+    if !outcome.is_told() {
+        eprintln!(rt; "{outcome}").ok();
     }
-    ExitCode::from(ending.status())
+    ExitCode::from(outcome.status())
 }
 
 /// Tells that the words of the command line could not be had.
@@ -61,7 +64,7 @@ fn tell_unread(rt: &HostRuntime, error: &io::Error) -> ExitCode
     ensures other { error_kind error.now ≢ ErrorKind.OutOfMemory → exit_status result ≡ 2 }
 {
     if error.kind() == ErrorKind::OutOfMemory {
-        return tell(rt, Ending::NoMemory);
+        return tell(rt, Outcome::Ended(Ending::NoMemory));
     }
     eprintln!(rt; "the command line: {error}").ok();
     ExitCode::from(2)
@@ -72,77 +75,13 @@ fn explain(rt: &HostRuntime, error: &clap::Error) -> ExitCode
     ensures { (is_printed : Bool) × (exit_status result ≡ status_of_error (kind_of error.now) is_printed) }
 {
     if error.kind() == WordsError::OutOfMemory {
-        return tell(rt, Ending::NoMemory);
+        return tell(rt, Outcome::Ended(Ending::NoMemory));
     }
     let printed = error.print(rt);
     if printed.is_err() && !error.use_stderr() {
-        return tell(rt, Ending::NoOutput);
+        return tell(rt, Outcome::Ended(Ending::NoOutput));
     }
     ExitCode::from(error.exit_code() as u8)
-}
-
-/// The number that a word spells, or another where there is no word.
-fn number_or(other: u32, word: Option<&str>) -> Option<u64>
-    ensures value { result ≡ number_of_word other (option_map (λ w. w.now) word.entry) }
-    ensures small { IfSome result (λ n. n < 2 ^ 32) }
-{
-    match word {
-        Some(word) => read_number(word.as_bytes(), u64::from(u32::MAX)),
-        None => Some(u64::from(other)),
-    }
-}
-
-/// Draws the part of a run between the numbers that two words spell.
-fn draw_part<R: Read, W: Write>(
-    alloc: Global,
-    from: Option<&str>,
-    to: Option<&str>,
-    reader: &mut Source<R>,
-    writer: &mut Sink<W>,
-) -> Ending
-    ensures ending { DrawsBetween (number_of_word 0 (option_map (λ w. w.now) from.entry)) (number_of_word 4294967295 (option_map (λ w. w.now) to.entry))
-        reader.old reader.new writer.old writer.new result }
-    ensures failures { EndsBy reader.old reader.new writer.old writer.new result }
-{
-    match (number_or(0, from), number_or(u32::MAX, to)) {
-        (Some(from), Some(to)) => draw(alloc, from as u32, to as u32, reader, writer),
-        _ => Ending::NoCount,
-    }
-}
-
-/// How an exploration ended, as the program tells it.
-fn ending_of(found: Exploring) -> Ending
-    ensures { result ≡ ending_of_exploring found }
-{
-    match found {
-        Exploring::Ended(ending) => ending,
-        Exploring::Stuck => Ending::Stuck,
-        Exploring::GaveUp => Ending::MoreStates,
-    }
-}
-
-/// Finds what all orders of a script lead to, as many states as a word spells at most.
-fn explore_orders<R: Read, W: Write>(
-    alloc: Global,
-    backs_off: bool,
-    reaps: bool,
-    most: Option<&str>,
-    reader: &mut Source<R>,
-    writer: &mut Sink<W>,
-) -> Ending
-    ensures ending { ExploresUpTo backs_off reaps (number_of_word 1000000 (option_map (λ w. w.now) most.entry)) reader.old reader.new writer.old writer.new result }
-    ensures failures { EndsBy reader.old reader.new writer.old writer.new result }
-{
-    let Some(most) = number_or(1_000_000, most) else {
-        return Ending::NoStates;
-    };
-    let options = Options {
-        backs_off,
-        reaps,
-        most: most as usize,
-    };
-    let found = explore(alloc, options, reader, writer);
-    ending_of(found)
 }
 
 /// Runs a script by workers in threads. Where standard error is a terminal, a line there tells how far they are.
@@ -172,6 +111,34 @@ fn work<H: Threads + Wait + Sync, R: Read, W: Write>(
     ending
 }
 
+/// Tests a script by the answers that it expects, or writes it without these.
+fn test_script<R: Read, W: Write>(
+    alloc: Global,
+    lowers: bool,
+    reader: &mut Source<R>,
+    writer: &mut Sink<W>,
+) -> Ending
+    ensures ending { TestsScript lowers reader.old.remaining writer.old.contents writer.new.contents result }
+    ensures failures { EndsBy reader.old reader.new writer.old writer.new result }
+{
+    if lowers {
+        lower(alloc, reader, writer)
+    } else {
+        test(alloc, reader, writer)
+    }
+}
+
+/// Returns what is taken for the time of a command.
+fn clock(by_command: bool) -> Clock
+    ensures { result ≡ clock_asked by_command }
+{
+    if by_command {
+        Clock::Command
+    } else {
+        Clock::Moment
+    }
+}
+
 /// Does what is asked for, between the reader and the writer; `threads` is what may start them.
 fn fulfil<H: Threads + Wait + Sync, R: Read, W: Write>(
     rt: &HostRuntime,
@@ -179,24 +146,40 @@ fn fulfil<H: Threads + Wait + Sync, R: Read, W: Write>(
     request: Request,
     reader: &mut Source<R>,
     writer: &mut Sink<W>,
-) -> Ending
+) -> Outcome
     requires { MayHappen request }
-    ensures ending { Does request.entry reader.old reader.new writer.old writer.new result }
-    ensures failures { EndsBy reader.old reader.new writer.old writer.new result }
+    ensures outcome { Does request.entry reader.old reader.new writer.old writer.new result }
+    ensures failures { EndsSo reader.old reader.new writer.old writer.new result }
 {
+    let alloc = rt.alloc();
     match request {
-        Request::Run(engine) => engine.run(rt.alloc(), reader, writer),
-        Request::ReplayWithWords => replay_with_words(rt.alloc(), reader, writer),
-        Request::Work { submitters, turns } => {
-            work(rt, threads, submitters, turns, reader, writer)
-        }
-        Request::Explain(word) => tell_word(rt.alloc(), word, writer),
-        Request::Draw { from, to } => draw_part(rt.alloc(), from, to, reader, writer),
+        Request::Run(engine) => Outcome::Ended(engine.run(alloc, reader, writer)),
+        Request::ReplayWithWords => Outcome::Ended(replay_with_words(alloc, reader, writer)),
+        Request::ReplayAsJournal => Outcome::Ended(replay_journal(alloc, reader, writer)),
+        Request::Work { submitters, turns } => Outcome::Ended(work(
+            rt, threads, submitters, turns, reader, writer,
+        )),
+        Request::Explain(word) => Outcome::Ended(tell_word(alloc, word, writer)),
+        Request::Draw { from, to } => Outcome::Ended(draw_part(alloc, from, to, reader, writer)),
         Request::Explore {
             backs_off,
             reaps,
             most,
-        } => explore_orders(rt.alloc(), backs_off, reaps, most, reader, writer),
+        } => { Outcome::Ended(explore_orders(alloc, backs_off, reaps, most, reader, writer)) }
+        Request::Why { fence, all, rings } => tell_why(alloc, fence, all, rings, reader, writer),
+        Request::Test { lowers } => Outcome::Ended(test_script(alloc, lowers, reader, writer)),
+        Request::Conform {
+            jobs,
+            in_order,
+            limits,
+            tolerance,
+        } => { judge_log(alloc, jobs, in_order, limits, tolerance, reader, writer) }
+        Request::Trace { by_command } => Outcome::Ended(trace(
+            alloc,
+            clock(by_command),
+            reader,
+            writer,
+        )),
     }
 }
 
@@ -223,8 +206,8 @@ fn obey<H: Threads + Wait + Sync, R: Read, W: Write>(
 {
     match read_words(rt.alloc(), words) {
         Ok(request) => {
-            let ending = fulfil(rt, threads, request, reader, writer);
-            tell(rt, ending)
+            let outcome = fulfil(rt, threads, request, reader, writer);
+            tell(rt, outcome)
         }
         Err(error) => explain(rt, &error),
     }

@@ -1,27 +1,27 @@
 use Rattle.std.proofs.Common.{◌∙◌, ap, map, rules, subst}
 use Rattle.std.specs.String.{string_bytes}
-use Rattle.drm_command_line.specs.declared.command_line.Request.{Request}
-use Rattle.drm_command_line.specs.declared.command_line.Request.TheVariants.{ReplayWithWords, Run}
+use Rattle.drm_command_line.specs.declared.request.Request.{Request}
+use Rattle.drm_command_line.specs.declared.request.Request.TheVariants.{ReplayWithWords, Run}
 use Rattle.drmsim.specs.Statuses.{EndsAs, status_of_error}
 use Rattle.drmsim.proofs.Statuses.{ends_without_memory, may_happen, memory_alone}
 use Rattle.drmsim.proofs.obey.Goals as goal
 
-pub fulfil-ending-requires : goal.fulfil-ending-requires
-fulfil-ending-requires g c = (search rules, may_happen (map string_bytes c.args.words.now) c.in-Ok.request c.in-Ok.ensures.named)
+pub fulfil-outcome-requires : goal.fulfil-outcome-requires
+fulfil-outcome-requires g c = (search rules, may_happen (map string_bytes c.args.words.now) c.in-Ok.request c.in-Ok.ensures.named)
 
 pub returns-in-Ok-clause-commands : goal.returns-in-Ok-clause-commands
 returns-in-Ok-clause-commands g c = λ engine line.
-    subst (λ (asked : Request). EndsAs asked c.args.reader.now c.fulfil-ending.new.reader c.args.writer.now c.fulfil-ending.new.writer c.tell.result.status) (c.in-Ok.ensures.command engine line)
-    (c.fulfil-ending.result, c.fulfil-ending.ensures.ending, c.fulfil-ending.ensures.failures, c.tell.ensures)
+    subst (λ (asked : Request). EndsAs asked c.args.reader.now c.fulfil-outcome.new.reader c.args.writer.now c.fulfil-outcome.new.writer c.tell.result.status) (c.in-Ok.ensures.command engine line)
+    (c.fulfil-outcome.result, c.fulfil-outcome.ensures.outcome, c.fulfil-outcome.ensures.failures, c.tell.ensures)
 
 pub returns-in-Ok-clause-worded : goal.returns-in-Ok-clause-worded
 returns-in-Ok-clause-worded g c = λ line.
-    subst (λ (asked : Request). EndsAs asked c.args.reader.now c.fulfil-ending.new.reader c.args.writer.now c.fulfil-ending.new.writer c.tell.result.status) (c.in-Ok.ensures.worded line)
-    (c.fulfil-ending.result, c.fulfil-ending.ensures.ending, c.fulfil-ending.ensures.failures, c.tell.ensures)
+    subst (λ (asked : Request). EndsAs asked c.args.reader.now c.fulfil-outcome.new.reader c.args.writer.now c.fulfil-outcome.new.writer c.tell.result.status) (c.in-Ok.ensures.worded line)
+    (c.fulfil-outcome.result, c.fulfil-outcome.ensures.outcome, c.fulfil-outcome.ensures.failures, c.tell.ensures)
 
 pub returns-in-Ok-clause-accepted : goal.returns-in-Ok-clause-accepted
 returns-in-Ok-clause-accepted g c = λ passed.
-    (c.in-Ok.request, c.in-Ok.ensures.named, (c.fulfil-ending.result, c.fulfil-ending.ensures.ending, c.fulfil-ending.ensures.failures, c.tell.ensures))
+    (c.in-Ok.request, c.in-Ok.ensures.named, (c.fulfil-outcome.result, c.fulfil-outcome.ensures.outcome, c.fulfil-outcome.ensures.failures, c.tell.ensures))
 
 pub returns-in-Err-clause-commands : goal.returns-in-Err-clause-commands
 returns-in-Err-clause-commands g c = λ engine line.
