@@ -175,16 +175,18 @@ class Device:
     def jobs_text(self):
         return "".join(self.line(it) for it in range(len(self.jobs)))
 
-    def rings_text(self):
-        return "".join(map(self.ring_line, range(len(self.spec.rings))))
-
-    def ring_line(self, ring):
-        running = [it for it in self.pending[ring] if not it.is_complete()] or self.pending[ring]
-        following = self.choice(ring)
-        waiting = [it for it in self.jobs if it.phase == "queued" and it.ring == ring]
-        told = running or ([following] if following else waiting)
-        what = self.line(told[0].fence) if told else "nothing is queued for it\n"
-        return f"ring {ring} is {'busy' if self.pending[ring] else 'idle'}: {what}"
+    def doing(self, ring):
+        """What the ring does, and the fence that holds up the first job that is queued for it."""
+        if self.pending[ring]:
+            return "busy", None
+        if self.choice(ring):
+            return "ready", None
+        queued = [it for it in self.jobs if it.phase == "queued" and it.ring == ring]
+        if not queued:
+            return "unused", None
+        if queued[0].entity in self.stopped:
+            return "stopped", None
+        return "held", self.reason(queued[0].fence)[1]
 
 
 def moment(command):
@@ -207,7 +209,7 @@ class Lives:
         commands = list(second_reader.rest_of(rest))
         answers = answers.decode().splitlines()
         assert len(answers) == len(commands)
-        self.count, self.clock, self.changes = len(commands), 0, {}
+        self.count, self.clock, self.changes, self.rows = len(commands), 0, {}, []
         for place, (command, answer) in enumerate(zip(commands, answers)):
             self.device.take(command, answer.split(" "))
             self.look(place, command)
@@ -215,6 +217,7 @@ class Lives:
     def look(self, place, command):
         now = moment(command)
         self.clock = self.clock if now is None else now
+        self.rows.append((self.clock, [self.device.doing(it) for it in range(len(self.device.spec.rings))]))
         for fence in range(len(self.device.jobs)):
             reason = self.device.reason(fence)[0]
             changes = self.changes.setdefault(fence, [])
@@ -237,3 +240,27 @@ class Lives:
             commands, moments = spans[place]
             told += [f"held up longest, for {commands} commands and {moments} moments, by\n", *changes[place][4]]
         return "".join(told)
+
+    # ---- rings
+
+    def total(self, ring, *does):
+        """For how many commands and moments the ring did this, and by which fence, where that is asked."""
+        ends = [clock for clock, _ in self.rows[1:]] + [self.clock]
+        held = [max(0, end - clock) for (clock, doings), end in zip(self.rows, ends) if doings[ring][: len(does)] == does]
+        return len(held), min(sum(held), 2**64 - 1)
+
+    def ring_line(self, ring):
+        commands, moments = self.total(ring, "busy")
+        told = f"ring {ring}: busy for {commands} commands and {moments} moments, idle"
+        for does, how in ("unused", " with nothing queued"), ("ready", ", with a job to take"), ("stopped", ", with a stopped job"), ("held", ", held up by fences"):
+            commands, moments = self.total(ring, does)
+            told += f"{how} for {commands} and {moments}"
+        fences = [doings[ring][1] for _, doings in self.rows if doings[ring][0] == "held"]
+        if fences:
+            longest = max(fences, key=lambda it: self.total(ring, "held", it)[0])
+            commands, moments = self.total(ring, "held", longest)
+            told += f", longest by fence {longest}, for {commands} and {moments}"
+        return told + "\n"
+
+    def rings_text(self):
+        return "".join(map(self.ring_line, range(len(self.device.spec.rings))))
