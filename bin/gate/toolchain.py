@@ -2,6 +2,7 @@
 
 bin/refuse and the scripts of bench/gate stand on it.
 """
+import functools
 import importlib.machinery
 import importlib.util
 import os
@@ -36,6 +37,8 @@ def command():
 gate = load("rt_command", command())
 library = gate.rtlib
 reader = load("rt_reader", f"{os.path.dirname(command())}/rt-plant-bodies")
+# Some toolchains take the sum of a crate once for each path to it. Nobody changes sources while a tool runs.
+library.Crate.stamp = functools.lru_cache(None)(library.Crate.stamp)
 
 
 def version():
