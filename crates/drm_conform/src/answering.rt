@@ -159,7 +159,7 @@ fn put_behind(
     put_jobs_asked(text, options.jobs, log, index, &releases)
 }
 
-/// The answer to a log.
+/// Makes the answer to a log.
 pub(crate) fn answer_log(alloc: Global, options: &Options, log: &Log) -> Result<Answer, AllocError>
     ensures text { IfOk result (λ answer. answer.text.items ≡ text_of_answer options.now log.now) }
     ensures broken { IfOk result (λ answer. answer.broken ≡ length (broken_in options.now log.now)) }

@@ -66,7 +66,7 @@ fn release(index: &Index, event: &Event) -> u64
     }
 }
 
-/// Of each job when it was released last.
+/// Finds of each job when it was released last.
 pub(crate) fn releases(alloc: Global, index: &Index) -> Result<Vec<u64>, AllocError>
     ensures { IfOk result (λ rows. AreReleases index.now rows.items) }
 {
@@ -98,7 +98,7 @@ fn times_told(
     })
 }
 
-/// The times of a job that is queued, runs and ends in the log.
+/// Returns the times of a job that is queued, runs and ends in the log.
 pub(crate) fn job_times(index: &Index, releases: &[u64], job: u32) -> Option<Times>
     requires { AreReleases index.now releases.now }
     ensures { result ≡ times_of index.now job }
@@ -111,7 +111,7 @@ pub(crate) fn job_times(index: &Index, releases: &[u64], job: u32) -> Option<Tim
     )
 }
 
-/// The ring that runs a job.
+/// Returns the ring that runs a job.
 pub(crate) fn job_ring(run: Option<Event>) -> Option<u32>
     ensures { result ≡ ring_of run }
 {
@@ -142,7 +142,7 @@ pub(crate) const NO_TIME: Total = Total {
     ran: 0,
 };
 
-/// Of each ring the times of its jobs together, of so many jobs.
+/// Adds up of each ring the times of its jobs, of so many jobs.
 pub(crate) fn totals(
     alloc: Global,
     index: &Index,
@@ -177,7 +177,7 @@ fn one_where(test: bool) -> u64
     if test { 1 } else { 0 }
 }
 
-/// Of so many jobs how many the log shows, how many of these began before it, and how many go on behind it.
+/// Counts of so many jobs those that the log shows, how many of these began before it, and how many go on behind it.
 pub(crate) fn count_jobs(index: &Index, jobs: u32) -> Counts
     ensures { result ≡ counts_of index.now jobs }
 {

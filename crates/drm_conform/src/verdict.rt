@@ -43,7 +43,7 @@ fn fault_words(fault: TextFault) -> &'static str
 }
 
 impl Verdict {
-    /// Where a log could not be read: what that is to its judge.
+    /// Returns how a judging ends whose log could not be read.
     pub fn of_input(error: InputError) -> Verdict
         ensures { result ≡ verdict_of_input error }
     {
@@ -54,7 +54,7 @@ impl Verdict {
         }
     }
 
-    /// The exit status of a program that ends so.
+    /// Returns the exit status of a program that ends so.
     pub fn status(&self) -> u8
         ensures { result ≡ status_of self.now }
     {

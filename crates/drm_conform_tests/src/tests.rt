@@ -10,7 +10,7 @@ use drm_types::Sequence;
 use std::alloc::Global;
 use std::process::Abort;
 
-/// Options without limits and without the times of jobs.
+/// Makes options without limits and without the times of jobs.
 fn options(alloc: Global, tolerance: u64, in_order: bool) -> Options {
     Options {
         tolerance,
@@ -20,7 +20,7 @@ fn options(alloc: Global, tolerance: u64, in_order: bool) -> Options {
     }
 }
 
-/// A log is judged with this status, and this is told of it.
+/// Asks that a log is judged with this status, and that this is told of it.
 fn judged(rt: &impl Abort, alloc: Global, options: &Options, log: &[u8], status: u8, told: &str) {
     let (verdict, writer) = judge_on(alloc, options, log, SlowWriter::new(alloc, 100, None));
     assert_eq!(rt; writer.taken.as_slice(), told.as_bytes());

@@ -21,14 +21,14 @@ fn is_near(tolerance: u64, a: &Event, b: &Event) -> bool
     distance(a.time, b.time) < tolerance
 }
 
-/// Whether a line stands before another, or may have happened before it.
+/// Returns whether a line stands before another, or may have happened before it.
 pub(crate) fn precedes(tolerance: u64, first: &Event, event: &Event) -> bool
     ensures { result ≡ precedes tolerance first.now event.now }
 {
     first.line < event.line || is_near(tolerance, first, event)
 }
 
-/// Whether a line that has to come first does, if it is told.
+/// Returns whether a line that has to come first does, if it is told.
 pub(crate) fn is_in_turn(tolerance: u64, first: Option<Event>, event: &Event) -> bool
     ensures { result ≡ in_turn tolerance first event.now }
 {
@@ -38,7 +38,7 @@ pub(crate) fn is_in_turn(tolerance: u64, first: Option<Event>, event: &Event) ->
     }
 }
 
-/// Whether a line tells no earlier job of its entity than the line before it.
+/// Returns whether a line tells no earlier job of its entity than the line before it.
 pub(crate) fn is_next(tolerance: u64, before: Option<Event>, event: &Event) -> bool
     ensures { result ≡ is_next tolerance before event.now }
 {
@@ -58,8 +58,8 @@ fn is_same_ring(ring: Option<u32>, other: Option<u32>) -> bool
     }
 }
 
-/// Whether a job that runs found another met: its end stands before, or its run on the same ring; or it never runs in the
-/// log.
+/// Returns whether a job that runs found another met: its end stands before, or its run on the same ring; or it never
+/// runs in the log.
 pub(crate) fn is_met(
     tolerance: u64,
     run: Option<Event>,
@@ -79,7 +79,7 @@ pub(crate) fn is_met(
     is_same_ring(run_ring(&awaited), run_ring(&run)) && precedes(tolerance, &awaited, &run)
 }
 
-/// Whether a ring has fewer jobs than its limit, if it has one.
+/// Returns whether a ring has fewer jobs than its limit, if it has one.
 pub(crate) fn has_room(limit: Option<u64>, count: u64) -> bool
     ensures { result ≡ has_room limit count }
 {
@@ -89,7 +89,7 @@ pub(crate) fn has_room(limit: Option<u64>, count: u64) -> bool
     }
 }
 
-/// Whether a job that ends ran behind the one that ended before it on the ring.
+/// Returns whether a job that ends ran behind the one that ended before it on the ring.
 pub(crate) fn is_next_end(
     tolerance: u64,
     index: &Index,

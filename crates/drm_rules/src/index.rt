@@ -64,7 +64,7 @@ fn firsts_of(alloc: Global, log: &[Event]) -> Result<Firsts, AllocError>
 }
 
 impl<'a> Index<'a> {
-    /// A log with the first lines of its jobs.
+    /// Takes a log and finds the first lines of its jobs.
     pub fn new(alloc: Global, log: &'a [Event]) -> Result<Index<'a>, AllocError>
         ensures { IfOk result (λ index. index ≡ log.now) }
     {
@@ -72,28 +72,28 @@ impl<'a> Index<'a> {
         Ok(Index { log, firsts })
     }
 
-    /// The lines of the log.
+    /// Returns the lines of the log.
     pub fn log(&self) -> &'a [Event]
         ensures { result.now ≡ self.now }
     {
         self.log
     }
 
-    /// The line that queues a job.
+    /// Returns the line that queues a job.
     pub fn queueing(&self, job: u32) -> Option<Event>
         ensures { result ≡ queueing self.now job }
     {
         row(&self.firsts.queued, job, None)
     }
 
-    /// The line that runs it.
+    /// Returns the line that runs it.
     pub fn running(&self, job: u32) -> Option<Event>
         ensures { result ≡ running self.now job }
     {
         row(&self.firsts.ran, job, None)
     }
 
-    /// The line that ends it.
+    /// Returns the line that ends it.
     pub fn ending(&self, job: u32) -> Option<Event>
         ensures { result ≡ ending self.now job }
     {

@@ -60,7 +60,8 @@ fn judge_queued(
     )
 }
 
-// Judges a line that runs a job, by the line that runs it first, that which queues it, and that before it in the entity.
+// Judges a line that runs a job, by the line that runs it first, that which queues it, and that before it in the
+// entity.
 fn judge_run(
     found: &mut Vec<Broken>,
     tolerance: u64,
@@ -223,7 +224,7 @@ fn judge_line(
     }
 }
 
-/// All that a log breaks, line by line.
+/// Returns all that a log breaks, line by line.
 pub fn judge(alloc: Global, demands: &Demands, index: &Index) -> Result<Vec<Broken>, AllocError>
     ensures { IfOk result (λ found. found.items ≡ broken demands.now index.now) }
 {

@@ -12,8 +12,8 @@ use crate::rows::{count_one, note_last, row};
 use drm_trace::Event;
 use std::alloc::{AllocError, Global};
 
-/// Of each entity the last lines that queued and ran a job of it; of each ring the last line that ended a job which it ran,
-/// how many jobs have begun there, and how many of them have ended.
+/// Of each entity the last lines that queued and ran a job of it; of each ring the last line that ended a job which it
+/// ran, how many jobs have begun there, and how many of them have ended.
 #[derive(Drop)]
 pub(crate) struct Lanes {
     queued: Vec<Option<Event>>,
@@ -23,7 +23,7 @@ pub(crate) struct Lanes {
     over: Vec<u64>,
 }
 
-/// The ring on which a line begins its job.
+/// Returns the ring on which a line begins its job.
 pub(crate) fn begun_ring(index: &Index, event: &Event) -> Option<u32>
     ensures { result ≡ begins_on index.now event.now }
 {
@@ -50,7 +50,7 @@ fn ring_of_run(run: Option<Event>, event: &Event) -> Option<u32>
     }
 }
 
-/// The ring on which a line ends its job.
+/// Returns the ring on which a line ends its job.
 pub(crate) fn ended_ring(index: &Index, event: &Event) -> Option<u32>
     ensures { result ≡ ends_on index.now event.now }
 {
@@ -62,7 +62,7 @@ pub(crate) fn ended_ring(index: &Index, event: &Event) -> Option<u32>
 }
 
 impl Lanes {
-    /// Those before any line.
+    /// Makes the lanes before any line.
     pub(crate) fn new(alloc: Global) -> Lanes
         ensures { (log : List Line) → AreLanes result log [] }
     {
@@ -75,21 +75,21 @@ impl Lanes {
         }
     }
 
-    /// The last line that queued a job of an entity.
+    /// Returns the last line that queued a job of an entity.
     pub(crate) fn queued(&self, entity: u32) -> Option<Event>
         ensures { (log seen : List Line) → AreLanes self.now log seen → result ≡ last_in queues_of seen entity }
     {
         row(&self.queued, entity, None)
     }
 
-    /// The last line that ran a job of an entity.
+    /// Returns the last line that ran a job of an entity.
     pub(crate) fn ran(&self, entity: u32) -> Option<Event>
         ensures { (log seen : List Line) → AreLanes self.now log seen → result ≡ last_in runs_of seen entity }
     {
         row(&self.ran, entity, None)
     }
 
-    /// The last line that ended a job of a ring, where there is a ring.
+    /// Returns the last line that ended a job of a ring, where there is a ring.
     pub(crate) fn ended(&self, ring: Option<u32>) -> Option<Event>
         ensures { (log seen : List Line) → AreLanes self.now log seen → result ≡ ended_before log seen ring }
     {
@@ -99,7 +99,7 @@ impl Lanes {
         }
     }
 
-    /// How many jobs have begun on a ring and have not ended.
+    /// Returns how many jobs have begun on a ring and have not ended.
     pub(crate) fn in_flight(&self, ring: u32) -> u64
         ensures { (log seen : List Line) → AreLanes self.now log seen → result ≡ in_flight log seen ring }
     {

@@ -2,8 +2,8 @@
 
 ghost use Rattle.drm_rules.specs.Conforms.{TellsBroken, TellsLeastFirst, TellsNoneWhereKept};
 
-/// What is told as broken is what is broken, and nothing is told exactly where a log keeps all rules. What is told first is of
-/// the least line that breaks a rule.
+/// Proves that what is told as broken is what is broken, and that nothing is told exactly where a log keeps all rules.
+/// What is told first is of the least line that breaks a rule.
 pub fn answers_are_exact()
     ensures broken { TellsBroken }
     ensures kept { TellsNoneWhereKept }

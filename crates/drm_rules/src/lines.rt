@@ -5,7 +5,7 @@ ghost use Rattle.drm_rules.specs.Lines.{ends, is_line, job_awaited, number_told,
 
 use drm_trace::{Event, What};
 
-/// The job that a line queues.
+/// Returns the job that a line queues.
 pub fn queued_job(event: &Event) -> Option<u32>
     ensures { result ≡ queues event.now }
 {
@@ -15,7 +15,7 @@ pub fn queued_job(event: &Event) -> Option<u32>
     }
 }
 
-/// The job that a line runs.
+/// Returns the job that a line runs.
 pub fn run_job(event: &Event) -> Option<u32>
     ensures { result ≡ runs event.now }
 {
@@ -25,7 +25,7 @@ pub fn run_job(event: &Event) -> Option<u32>
     }
 }
 
-/// The job that a line ends.
+/// Returns the job that a line ends.
 pub fn ended_job(event: &Event) -> Option<u32>
     ensures { result ≡ ends event.now }
 {
@@ -35,7 +35,7 @@ pub fn ended_job(event: &Event) -> Option<u32>
     }
 }
 
-/// The entity whose job is queued.
+/// Returns the entity whose job is queued.
 pub fn queued_entity(event: &Event) -> Option<u32>
     ensures { result ≡ queues_of event.now }
 {
@@ -45,7 +45,7 @@ pub fn queued_entity(event: &Event) -> Option<u32>
     }
 }
 
-/// The entity whose job runs.
+/// Returns the entity whose job runs.
 pub fn run_entity(event: &Event) -> Option<u32>
     ensures { result ≡ runs_of event.now }
 {
@@ -55,7 +55,7 @@ pub fn run_entity(event: &Event) -> Option<u32>
     }
 }
 
-/// The ring that runs the job.
+/// Returns the ring that runs the job.
 pub fn run_ring(event: &Event) -> Option<u32>
     ensures { result ≡ ring_run event.now.what }
 {
@@ -65,7 +65,7 @@ pub fn run_ring(event: &Event) -> Option<u32>
     }
 }
 
-/// The job that is waited for.
+/// Returns the job that is waited for.
 pub fn awaited_job(event: &Event) -> Option<u32>
     ensures { result ≡ job_awaited event.now.what }
 {
@@ -75,7 +75,7 @@ pub fn awaited_job(event: &Event) -> Option<u32>
     }
 }
 
-/// The number of the job among those of its entity, where the line tells it.
+/// Returns the number of the job among those of its entity, or 0 where the line tells none.
 pub fn number(event: &Event) -> u64
     ensures { result ≡ number_told event.now.what }
 {
@@ -86,7 +86,7 @@ pub fn number(event: &Event) -> u64
     }
 }
 
-/// Whether this is the line.
+/// Returns whether this is the line.
 pub fn is_line(told: Option<Event>, event: &Event) -> bool
     ensures { result ≡ is_line told event.now }
 {

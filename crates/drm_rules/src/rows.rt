@@ -26,7 +26,7 @@ pub fn put<T: Copy + Drop>(rows: &mut Vec<T>, at: u32, nothing: T, row: T) -> Re
     Ok(())
 }
 
-/// The row of a number.
+/// Returns the row of a number.
 pub fn row<T: Copy + Drop>(rows: &[T], at: u32, nothing: T) -> T
     ensures { result ≡ slice_index_or rows.now at nothing }
 {

@@ -24,7 +24,7 @@ fn unmet_job(tolerance: u64, index: &Index, event: &Event) -> Option<u32>
     }
 }
 
-/// Of each job the first line that tells a wait which was not met when the job ran.
+/// Finds of each job the first line that tells a wait which was not met when the job ran.
 pub(crate) fn unmet_waits(
     alloc: Global,
     tolerance: u64,
@@ -40,7 +40,7 @@ pub(crate) fn unmet_waits(
     Ok(waits)
 }
 
-/// The end of the job for which a line waits.
+/// Returns the end of the job for which a line waits.
 pub(crate) fn awaited_end(index: &Index, wait: Option<Event>) -> Option<Event>
     ensures { result ≡ end_awaited index.now wait }
 {

@@ -13,8 +13,8 @@ use crate::search::start_of_word;
 use drm_text::{Fault, MAX_TEXT, ReadError, TextFault};
 use std::alloc::Global;
 
-/// `drm_sched_job_queue`, `drm_sched_job_run`:
-/// `dev=%s, fence=%llu:%llu, ring=%s, job count:%u, hw job count:%d, client_id:%llu`
+/// Reads the fields of `drm_sched_job_queue` and `drm_sched_job_run`: `dev=%s, fence=%llu:%llu, ring=%s, job count:%u,
+/// hw job count:%d, client_id:%llu`
 #[tactic(auto, unfolding(crate::specs::Formats::numbered_job))]
 fn read_numbered_job<'a>(rest: &mut Rest<'a>) -> Result<(Task, &'a [u8]), Fault>
     ensures { Reads (λ job. (job.0, job.1.now)) result (numbered_job rest.old) }
@@ -31,7 +31,7 @@ fn read_numbered_job<'a>(rest: &mut Rest<'a>) -> Result<(Task, &'a [u8]), Fault>
     Ok((task, ring))
 }
 
-/// `drm_sched_job_done`: `fence=%llu:%llu signaled`
+/// Reads the fields of `drm_sched_job_done`: `fence=%llu:%llu signaled`
 #[tactic(auto, unfolding(crate::specs::Formats::numbered_end))]
 fn read_numbered_end(rest: &mut Rest) -> Result<(u64, u64), Fault>
     ensures { Reads (λ job. job) result (numbered_end rest.old) }
@@ -41,8 +41,8 @@ fn read_numbered_end(rest: &mut Rest) -> Result<(u64, u64), Fault>
     Ok(job)
 }
 
-/// `drm_sched_job_add_dep`: `fence=%llu:%llu depends on fence=%llu:%llu`, and `drm_sched_job_unschedulable`, where what
-/// stands between the two differs.
+/// Reads the fields of `drm_sched_job_add_dep`: `fence=%llu:%llu depends on fence=%llu:%llu`, and
+/// `drm_sched_job_unschedulable`, where what stands between the two differs.
 #[tactic(auto, unfolding(crate::specs::Formats::numbered_wait))]
 fn read_numbered_wait(rest: &mut Rest, between: &[u8]) -> Result<((u64, u64), (u64, u64)), Fault>
     ensures { Reads (λ wait. wait) result (numbered_wait between.now rest.old) }
@@ -52,7 +52,8 @@ fn read_numbered_wait(rest: &mut Rest, between: &[u8]) -> Result<((u64, u64), (u
     Ok((job, on))
 }
 
-/// `drm_sched_job`, `drm_run_job`: `entity=%p, id=%llu, fence=%p, ring=%s, job count:%u, hw job count:%d`
+/// Reads the fields of `drm_sched_job` and `drm_run_job`: `entity=%p, id=%llu, fence=%p, ring=%s, job count:%u, hw job
+/// count:%d`
 #[tactic(auto, unfolding(crate::specs::Formats::addressed_job))]
 fn read_addressed_job<'a>(rest: &mut Rest<'a>) -> Result<(Task, &'a [u8]), Fault>
     ensures { Reads (λ job. (job.0, job.1.now)) result (addressed_job rest.old) }
@@ -69,7 +70,7 @@ fn read_addressed_job<'a>(rest: &mut Rest<'a>) -> Result<(Task, &'a [u8]), Fault
     Ok((task, ring))
 }
 
-/// `drm_sched_process_job`: `fence=%p signaled`
+/// Reads the fields of `drm_sched_process_job`: `fence=%p signaled`
 #[tactic(auto, unfolding(crate::specs::Formats::addressed_end))]
 fn read_addressed_end(rest: &mut Rest) -> Result<u64, Fault>
     ensures { Reads (λ fence. fence) result (addressed_end rest.old) }
@@ -79,7 +80,7 @@ fn read_addressed_end(rest: &mut Rest) -> Result<u64, Fault>
     Ok(fence)
 }
 
-/// `drm_sched_job_wait_dep`: `job ring=%s, id=%llu, depends fence=%p, context=%llu, seq=%u`
+/// Reads the fields of `drm_sched_job_wait_dep`: `job ring=%s, id=%llu, depends fence=%p, context=%llu, seq=%u`
 #[tactic(auto, unfolding(crate::specs::Formats::addressed_wait))]
 fn read_addressed_wait<'a>(rest: &mut Rest<'a>) -> Result<(&'a [u8], u64, u64), Fault>
     ensures { Reads (λ wait. (wait.0.now, wait.1, wait.2)) result (addressed_wait rest.old) }
@@ -196,7 +197,7 @@ fn add_event(
     }
 }
 
-/// The time of a line, in nanoseconds.
+/// Reads the time of a line, in nanoseconds.
 #[tactic(auto, unfolding(crate::specs::Formats::time_at))]
 fn read_time(rest: &mut Rest) -> Result<u64, Fault>
     ensures { Reads (λ time. time) result (time_at rest.old) }
@@ -283,7 +284,7 @@ fn add_found(
     add_event(alloc, kind, Moment { line, time }, log, &mut rest)
 }
 
-/// The fault where the next line is one more than is read, or is too long.
+/// Returns the fault where the next line is one more than is read, or is too long.
 pub(crate) fn too_long_fault(log: &Log) -> Fault
     ensures { result ≡ too_long log.now }
 {

@@ -52,7 +52,7 @@ static KINDS: [Kind; 9] = [
 ];
 
 impl Kind {
-    /// The name as it stands in a line, between colons. The fields stand behind it and some spaces.
+    /// Returns the name as it stands in a line, between colons. The fields stand behind it and some spaces.
     pub(crate) fn mark(self) -> &'static [u8]
         ensures { result.now ≡ mark_of self }
     {
@@ -69,7 +69,7 @@ impl Kind {
         }
     }
 
-    /// How kernels with this event name fences.
+    /// Returns how kernels with this event name fences.
     pub(crate) fn format(self) -> Format
         ensures { result ≡ format_of self }
     {
@@ -97,7 +97,7 @@ fn find_kind(bytes: &[u8]) -> Option<Kind>
     None
 }
 
-/// Where the name of an event stands first in a line, and the event.
+/// Finds where the name of an event stands first in a line, and returns that place and the event.
 pub(crate) fn find_event(bytes: &[u8]) -> Option<(usize, Kind)>
     ensures value { result ≡ event_from 0 bytes.now }
     ensures within { IfSome result (λ found. found.0 + length (mark_of found.1) ≤ length bytes.now) }

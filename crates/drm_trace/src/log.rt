@@ -17,7 +17,8 @@ const MOST_LINES: u32 = 100_000_000;
 /// A log with so many rings is not read further.
 const MOST_RINGS: usize = 1024;
 
-/// What the lines of a log tell of jobs. Jobs, entities and rings are named by numbers, in the order in which they were met.
+/// What the lines of a log tell of jobs. Jobs, entities and rings are named by numbers, in the order in which they
+/// were met.
 #[derive(Drop)]
 pub struct Log {
     /// How many lines there are.
@@ -113,7 +114,7 @@ fn what(step: Step, place: Place) -> What
 }
 
 impl Log {
-    /// A log of which nothing was read.
+    /// Makes a log of which nothing was read.
     pub(crate) fn new(alloc: Global) -> Log
         ensures { result ≡ nothing_read }
     {
@@ -129,7 +130,7 @@ impl Log {
         }
     }
 
-    /// Whether it has as many lines or rings as are read.
+    /// Returns whether it has as many lines or rings as are read.
     pub(crate) fn is_full(&self) -> bool
         ensures value { result ≡ is_full self.now }
         ensures few { result ≡ false → self.now.lines < 100000000 }
@@ -160,7 +161,7 @@ impl Log {
         hold(alloc, &mut self.holders, number, job)
     }
 
-    /// The job that was queued or run last with the fence at this address.
+    /// Returns the job that was queued or run last with the fence at this address.
     pub(crate) fn holder(&self, fence: u64) -> Option<u32>
         ensures { result ≡ holder_of self.now fence }
     {
@@ -168,7 +169,7 @@ impl Log {
         self.holders.as_slice().get(number as usize).copied()
     }
 
-    /// A job is queued, or its ring runs it.
+    /// Adds that a job is queued, or that its ring runs it.
     pub(crate) fn add_job(
         &mut self,
         alloc: Global,
@@ -191,7 +192,7 @@ impl Log {
         self.add(at, job, what(step, place))
     }
 
-    /// A job waits for another.
+    /// Adds that a job waits for another.
     pub(crate) fn add_wait(
         &mut self,
         at: Moment,
@@ -205,7 +206,7 @@ impl Log {
         self.add(at, job, What::Waits { on })
     }
 
-    /// A job of a ring waits for that which holds a fence, if one does.
+    /// Adds that a job of a ring waits for the job that holds a fence, if one does.
     pub(crate) fn add_wait_for(
         &mut self,
         alloc: Global,
@@ -224,7 +225,7 @@ impl Log {
         self.add(at, job, What::Waits { on })
     }
 
-    /// A job ends.
+    /// Adds that a job ends.
     pub(crate) fn add_end(&mut self, at: Moment, job: (u64, u64)) -> Result<(), AllocError>
         ensures { OnOk result (self.new ≡ with_end at job self.old) }
     {
@@ -232,7 +233,7 @@ impl Log {
         self.add(at, job, What::Ended)
     }
 
-    /// The job that holds a fence ends, if one does.
+    /// Adds that the job ends which holds a fence, if one does.
     pub(crate) fn add_end_of(&mut self, at: Moment, job: Option<u32>) -> Result<(), AllocError>
         ensures { OnOk result (self.new ≡ with_end_of at job self.old) }
     {

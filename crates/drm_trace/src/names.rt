@@ -28,7 +28,7 @@ impl Model for Names {
 }
 
 impl Names {
-    /// No names.
+    /// Makes an empty list of names.
     pub(crate) fn new(alloc: Global) -> Names
         ensures { result ≡ [] }
     {
@@ -38,28 +38,28 @@ impl Names {
         }
     }
 
-    /// How many names there are.
+    /// Returns how many names there are.
     pub fn len(&self) -> u32
         ensures { result ≡ length self.now }
     {
         self.list.len() as u32
     }
 
-    /// The names, in the order of their numbers.
+    /// Lends the names, in the order of their numbers.
     pub fn as_slice(&self) -> &[(u64, u64)]
         ensures { result.now ≡ self.now }
     {
         &self.list
     }
 
-    /// The number of a name, if it was met.
+    /// Returns the number of a name, if it was met.
     pub(crate) fn find(&self, name: (u64, u64)) -> Option<u32>
         ensures { result ≡ placed_in self.now name }
     {
         self.numbers.get(&name).copied()
     }
 
-    /// The number of a name, which may be new. Where memory is refused the names stay as they were.
+    /// Returns the number of a name, which is added if it is new. The names stay as they were if memory is out.
     pub(crate) fn number(&mut self, name: (u64, u64)) -> Result<u32, AllocError>
         ensures number { IfOk result (λ n. n ≡ number_in self.old name) }
         ensures list { OnOk result (self.new ≡ with_name self.old name) }

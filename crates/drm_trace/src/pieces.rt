@@ -10,7 +10,7 @@ use crate::search::end_of_line;
 use drm_text::{MAX_TEXT, ReadError};
 use std::alloc::Global;
 
-/// Adds the lines of a text that have their ends, and answers where the line begins that has none yet.
+/// Adds the lines of a text that have their ends, and returns where the line begins that has none yet.
 fn add_lines(alloc: Global, text: &[u8], log: &mut Log) -> Result<usize, ReadError>
     ensures lines { TakesText log.old text.now log.new (λ at. drop at text.now) result }
     ensures within { IfOk result (λ at. at ≤ length text.now) }
@@ -29,8 +29,8 @@ fn add_lines(alloc: Global, text: &[u8], log: &mut Log) -> Result<usize, ReadErr
     }
 }
 
-/// Adds the lines that end in a piece of a text. What stands before the piece is the part of a line that has come already,
-/// and then that of the next one.
+/// Adds the lines that end in a piece of a text. What stands before the piece is the part of a line that has come
+/// already, and then that of the next one.
 pub(crate) fn add_piece(
     alloc: Global,
     before: &mut Vec<u8>,

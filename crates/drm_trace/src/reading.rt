@@ -10,7 +10,7 @@ use drm_text::MAX_TEXT;
 use std::alloc::Global;
 use std::io::Read;
 
-/// The log that all bytes of the reader spell. They are read in pieces, of which one is kept at a time.
+/// Reads the log that all bytes of the reader spell. It reads them in pieces, and keeps one piece at a time.
 pub fn read_log<R: Read>(alloc: Global, reader: &mut Source<R>) -> Result<Log, InputError>
     ensures value { IsReadOf log_of reader.old.remaining result }
     ensures failures { TellsFailure reader.old reader.new result }

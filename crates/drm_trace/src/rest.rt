@@ -42,7 +42,7 @@ fn fraction(digits: &[u8]) -> Option<u64>
 }
 
 impl<'a> Rest<'a> {
-    /// These bytes of a line, of which so many lie before.
+    /// Takes these bytes of a line, of which so many lie before.
     pub(crate) fn new(line: u32, at: usize, bytes: &'a [u8]) -> Rest<'a>
         requires { at + length bytes.now ≤ 1048576 }
         ensures { result ≡ record { line = line; at = at; bytes = bytes.now } }
@@ -103,7 +103,7 @@ impl<'a> Rest<'a> {
         Ok(())
     }
 
-    /// A number of at most `most`: all digits that stand next.
+    /// Reads a number of at most `most`: all digits that stand next.
     #[tactic(auto, unfolding(crate::specs::Rest::number_at))]
     pub(crate) fn number(&mut self, most: u64) -> Result<u64, Fault>
         ensures value { Reads (λ n. (n, self.new)) result (number_at most self.old) }
@@ -116,7 +116,7 @@ impl<'a> Rest<'a> {
         Ok(number)
     }
 
-    /// The nanoseconds behind the point of a time, told by six or nine digits.
+    /// Reads the nanoseconds behind the point of a time, which six or nine digits tell.
     #[tactic(auto, unfolding(crate::specs::Rest::fraction_at))]
     pub(crate) fn fraction(&mut self) -> Result<u64, Fault>
         ensures value { Reads (λ n. (n, self.new)) result (fraction_at self.old) }
@@ -162,7 +162,7 @@ impl<'a> Rest<'a> {
         Ok(text)
     }
 
-    /// That nothing is left.
+    /// Asks that nothing is left.
     #[tactic(auto, unfolding(crate::specs::Rest::end_at))]
     pub(crate) fn end(&self) -> Result<(), Fault>
         ensures { Reads (λ _. tt) result (end_at self.now) }
@@ -173,7 +173,7 @@ impl<'a> Rest<'a> {
         Err(self.fault(TextFault::Word))
     }
 
-    /// A number of 64 bits behind a mark.
+    /// Reads a number of 64 bits behind a mark.
     #[tactic(auto, unfolding(crate::specs::Rest::number_behind))]
     pub(crate) fn number_behind(&mut self, mark: &[u8]) -> Result<u64, Fault>
         ensures { Reads (λ n. (n, self.new)) result (number_behind mark.now self.old) }
@@ -183,7 +183,7 @@ impl<'a> Rest<'a> {
         Ok(number)
     }
 
-    /// An address behind a mark, with or without 0x.
+    /// Reads an address behind a mark, with or without 0x.
     #[tactic(auto, unfolding(crate::specs::Rest::address_behind))]
     pub(crate) fn address_behind(&mut self, mark: &[u8]) -> Result<u64, Fault>
         ensures { Reads (λ n. (n, self.new)) result (address_behind mark.now self.old) }
@@ -194,7 +194,7 @@ impl<'a> Rest<'a> {
         Ok(address)
     }
 
-    /// The bytes between two marks.
+    /// Reads the bytes between two marks.
     #[tactic(auto, unfolding(crate::specs::Rest::text_between))]
     pub(crate) fn text_between(&mut self, first: &[u8], second: &[u8]) -> Result<&'a [u8], Fault>
         ensures { Reads (λ text. (text.now, self.new)) result (text_between first.now second.now self.old) }
@@ -204,7 +204,7 @@ impl<'a> Rest<'a> {
         Ok(text)
     }
 
-    /// A context and a number behind a mark.
+    /// Reads a context and a number behind a mark.
     #[tactic(auto, unfolding(crate::specs::Rest::pair_behind))]
     pub(crate) fn pair_behind(&mut self, mark: &[u8]) -> Result<(u64, u64), Fault>
         ensures { Reads (λ pair. (pair, self.new)) result (pair_behind mark.now self.old) }

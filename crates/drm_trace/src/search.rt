@@ -9,7 +9,7 @@ ghost use Rattle.drm_trace.specs.Bytes.{begins_with, digits_in, hex_digits_in, h
 use drm_text::is_word;
 use memchr::memchr;
 
-/// Whether the bytes begin with the mark.
+/// Returns whether the bytes begin with the mark.
 pub(crate) fn begins_with(bytes: &[u8], mark: &[u8]) -> bool
     ensures value { result ≡ begins_with mark.now bytes.now }
     ensures fits { result ≡ true → length mark.now ≤ length bytes.now }
@@ -21,14 +21,14 @@ pub(crate) fn begins_with(bytes: &[u8], mark: &[u8]) -> bool
     is_word(front, mark)
 }
 
-/// The place of the first line end, or the length.
+/// Returns the place of the first line end, or the length.
 pub(crate) fn end_of_line(bytes: &[u8]) -> usize
     ensures { result ≡ position_or_len (λ b. b == 10) bytes.now }
 {
     memchr(b'\n', bytes).unwrap_or(bytes.len())
 }
 
-/// The place at which the mark stands first.
+/// Returns the place at which the mark stands first.
 pub(crate) fn place_of(bytes: &[u8], mark: &[u8]) -> Option<usize>
     ensures value { result ≡ place_from mark.now 0 bytes.now }
     ensures within { IfSome result (λ at. at + length mark.now ≤ length bytes.now) }
@@ -42,7 +42,7 @@ pub(crate) fn place_of(bytes: &[u8], mark: &[u8]) -> Option<usize>
     None
 }
 
-/// Where the word begins that ends before this place.
+/// Returns where the word begins that ends before this place.
 pub(crate) fn start_of_word(bytes: &[u8], at: usize) -> usize
     requires { at ≤ length bytes.now }
     ensures value { result ≡ word_start bytes.now at }
@@ -55,7 +55,7 @@ pub(crate) fn start_of_word(bytes: &[u8], at: usize) -> usize
     start
 }
 
-/// How many spaces stand first.
+/// Counts the spaces that stand first.
 pub(crate) fn count_spaces(bytes: &[u8]) -> usize
     ensures value { result ≡ spaces_in bytes.now }
     ensures within { result ≤ length bytes.now }
@@ -67,7 +67,7 @@ pub(crate) fn count_spaces(bytes: &[u8]) -> usize
     end
 }
 
-/// How many digits stand first.
+/// Counts the digits that stand first.
 pub(crate) fn count_digits(bytes: &[u8]) -> usize
     ensures value { result ≡ digits_in bytes.now }
     ensures within { result ≤ length bytes.now }
@@ -79,7 +79,7 @@ pub(crate) fn count_digits(bytes: &[u8]) -> usize
     end
 }
 
-/// The number with one more digit, if the byte is a digit and the number is at most `most`.
+/// Returns the number with one more digit, if the byte is a digit and the number is at most `most`.
 fn next_decimal(value: u64, byte: u8, most: u64) -> Option<u64>
     ensures value { result ≡ with_digit most value byte }
     ensures small { IfSome result (λ n. n ≤ most) }
@@ -91,7 +91,7 @@ fn next_decimal(value: u64, byte: u8, most: u64) -> Option<u64>
     (value <= most).then_some(value)
 }
 
-/// The value of the digits, of which some zeros may be first, if it is at most `most`.
+/// Returns the value of the digits, of which some zeros may be first, if it is at most `most`.
 pub(crate) fn digits_value(digits: &[u8], most: u64) -> Option<u64>
     ensures value { result ≡ digits_up_to most digits.now }
     ensures small { IfSome result (λ n. n ≤ most) }
@@ -103,7 +103,8 @@ pub(crate) fn digits_value(digits: &[u8], most: u64) -> Option<u64>
     Some(value)
 }
 
-/// The number with one more hexadecimal digit, if the byte is one in lower case and the number has 64 bits at most.
+/// Returns the number with one more hexadecimal digit, if the byte is one in lower case and the number has 64 bits at
+/// most.
 fn next_hex(value: u64, byte: u8) -> Option<u64>
     ensures { result ≡ with_hex_digit value byte }
 {
@@ -121,7 +122,7 @@ fn is_hex(byte: u8) -> bool
     (b'0' <= byte && byte <= b'9') || (b'a' <= byte && byte <= b'f')
 }
 
-/// How many hexadecimal digits in lower case stand first.
+/// Counts the hexadecimal digits in lower case that stand first.
 pub(crate) fn count_hex(bytes: &[u8]) -> usize
     ensures value { result ≡ hex_digits_in bytes.now }
     ensures within { result ≤ length bytes.now }
@@ -133,7 +134,7 @@ pub(crate) fn count_hex(bytes: &[u8]) -> usize
     end
 }
 
-/// The value of the hexadecimal digits, of which there is one at least, if it has 64 bits at most.
+/// Returns the value of the hexadecimal digits, of which there is one at least, if it has 64 bits at most.
 pub(crate) fn value_of_hex(digits: &[u8]) -> Option<u64>
     ensures { result ≡ hex_value digits.now }
 {
