@@ -1,7 +1,7 @@
 -- The lines of a test: the lines of a script, the answers that are expected of them, and remarks between them.
 use Rattle.std.specs.Prelude.{◌≡◌, ℕ, ◌+◌, ◌-◌, ◌<◌, ◌==◌, ◌⊎◌, Bool, true, false, IsTrue, IsFalse, List, [], ◌∷◌, ◌++◌, Option, Some, None, drop, flat_map, length, slice_get, take}
 use Rattle.std.specs.Option.{option_map_or}
-use Rattle.core.specs.Str.{IsTrimAsciiEnd, IsTrimAsciiStart}
+use Rattle.std.specs.Str.{IsTrimAsciiEnd, IsTrimAsciiStart}
 use Rattle.drm_expect.specs.declared.lines.Line.{Line}
 
 -- whether a line is for its reader alone: it is empty, or begins with '#'

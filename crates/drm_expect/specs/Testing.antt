@@ -23,7 +23,7 @@ use Rattle.drm_expect.specs.Matching.{AreExpectedBefore, DiffersAt}
 -- the lines of a text that is not too long
 pub record AreLinesOf (text : List ℕ) (lines : List Line) : Type 0 where
   pub short : nat_lt 1048576 (length text) ≡ false
-  pub lines : AreLines 1 (parts_of 10 text) lines
+  pub cut : AreLines 1 (parts_of 10 text) lines
 
 -- the number in the test of a line of its script, which are counted from 1. What comes behind the last line stands behind that
 abbrev pub number_in_test : List Line → ℕ → ℕ

@@ -19,7 +19,7 @@ pub struct Line {
     pub wanted: Option<Sequence<u8>>,
 }
 
-// Whether the line is for its reader alone: it is empty, or begins with '#'.
+// Returns whether the line is for its reader alone: it is empty, or begins with '#'.
 fn is_for_readers(line: &[u8]) -> bool
     ensures { result ≡ is_remark line.now }
 {
@@ -29,7 +29,7 @@ fn is_for_readers(line: &[u8]) -> bool
     }
 }
 
-// Whether an '=' stands at this place.
+// Returns whether an '=' stands at this place.
 fn is_equals(line: &[u8], place: usize) -> bool
     ensures { result ≡ is_equals_at line.now place }
 {
@@ -39,7 +39,7 @@ fn is_equals(line: &[u8], place: usize) -> bool
     }
 }
 
-// Where the first '=' stands, if there is one.
+// Returns where the first '=' stands, if there is one.
 fn equals(line: &[u8]) -> Option<usize>
     ensures found { IsFoundAt line.now result }
     ensures within { IfSome result (λ place. place < length line.now) }
@@ -52,7 +52,7 @@ fn equals(line: &[u8]) -> Option<usize>
     None
 }
 
-// A copy of these bytes.
+// Copies these bytes.
 fn copied(alloc: Global, bytes: &[u8]) -> Result<Sequence<u8>, AllocError>
     ensures { IfOk result (λ copy. copy ≡ bytes.now) }
 {
@@ -61,7 +61,7 @@ fn copied(alloc: Global, bytes: &[u8]) -> Result<Sequence<u8>, AllocError>
     Ok(Sequence::from_vec(copy))
 }
 
-// The line of these bytes.
+// Reads the line of these bytes.
 fn read_line(alloc: Global, number: u32, bytes: &[u8]) -> Result<Line, AllocError>
     ensures { IfOk result (λ line. IsLine number bytes.now line) }
 {
@@ -98,7 +98,7 @@ fn add_line(
     Ok(())
 }
 
-/// The lines of a text, without its remarks.
+/// Returns the lines of a text, without its remarks.
 pub(crate) fn lines_of(alloc: Global, text: &[u8]) -> Result<Vec<Line>, AllocError>
     requires { length text.now ≤ 1048576 }
     ensures lines { IfOk result (λ lines. AreLines 1 (parts_of 10 text.now) lines.items) }
@@ -122,7 +122,7 @@ fn put_bare(out: &mut Vec<u8>, line: &Line) -> Result<(), AllocError>
     out.extend_from_slice(b"\n")
 }
 
-/// The script of these lines.
+/// Returns the script of these lines.
 pub(crate) fn bare_text(alloc: Global, lines: &[Line]) -> Result<Vec<u8>, AllocError>
     ensures { IfOk result (λ text. text.items ≡ script_text lines.now) }
 {

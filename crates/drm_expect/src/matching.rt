@@ -5,7 +5,7 @@ ghost use Rattle.drm_expect.specs.Matching.{AnswersAs, Matches, is_open};
 
 use drm_types::Sequence;
 
-// Whether a '*' ends what is expected.
+// Returns whether a '*' ends what is expected.
 fn is_front(wanted: &[u8]) -> bool
     ensures { result ≡ is_open wanted.now }
 {
@@ -15,7 +15,7 @@ fn is_front(wanted: &[u8]) -> bool
     }
 }
 
-// Whether an answer begins as what stands before that '*'.
+// Returns whether an answer begins as what stands before that '*'.
 fn begins(wanted: &[u8], line: &[u8]) -> bool
     requires { is_open wanted.now ≡ true }
     ensures { IsTrue result ↔ Matches wanted.now line.now }
@@ -24,16 +24,21 @@ fn begins(wanted: &[u8], line: &[u8]) -> bool
     line.len() >= count && &line[..count] == &wanted[..count]
 }
 
-// Whether an answer is this one.
+// Returns whether an answer is this one.
 fn equals(wanted: &[u8], line: &[u8]) -> bool
     requires { is_open wanted.now ≡ false }
     ensures { IsTrue result ↔ Matches wanted.now line.now }
 {
-    let count = wanted.len();
-    line.len() == count + 1 && &line[..count] == wanted && line[count] == b'\n'
+    let Some((last, front)) = line.split_last() else {
+        return false;
+    };
+    if *last != b'\n' {
+        return false;
+    }
+    front == wanted
 }
 
-// Whether an answer is one that is expected.
+// Returns whether an answer is one that is expected.
 fn matches(wanted: &[u8], line: &[u8]) -> bool
     ensures { IsTrue result ↔ Matches wanted.now line.now }
 {
@@ -44,7 +49,7 @@ fn matches(wanted: &[u8], line: &[u8]) -> bool
     }
 }
 
-/// Whether a line is answered as it is expected, or nothing is expected of it.
+/// Returns whether a line is answered as it is expected, or nothing is expected of it.
 pub(crate) fn is_expected(wanted: &Option<Sequence<u8>>, given: &Option<Sequence<u8>>) -> bool
     ensures { IsTrue result ↔ AnswersAs wanted.now given.now }
 {

@@ -41,7 +41,7 @@ fn take_answers(alloc: Global, core: &mut Core, events: Events) -> Result<Vec<An
     Ok(answers)
 }
 
-// The answers to a script. Its device passes its check, so only memory can lack.
+// Returns the answers to a script. Its device passes its check, so only memory can lack.
 fn answers(alloc: Global, script: Script) -> Result<Vec<Answer>, AllocError>
     requires fits { spec_fault script.spec ≡ None }
     requires exist { AllNamesExist script.spec script.lines }
@@ -55,7 +55,7 @@ fn answers(alloc: Global, script: Script) -> Result<Vec<Answer>, AllocError>
     take_answers(alloc, &mut core, script.lines)
 }
 
-// What the line at this place, of so many, was answered: nothing, where it is one of the header.
+// Returns what the line at this place was answered: nothing, where it is one of the header.
 fn given(
     alloc: Global,
     lines: &[Line],
@@ -80,7 +80,7 @@ struct Difference {
     given: Option<Sequence<u8>>,
 }
 
-// The line at this place, if it is not answered as it is expected.
+// Returns the line at this place, if it is not answered as it is expected.
 fn difference_at(
     alloc: Global,
     lines: &[Line],
@@ -99,7 +99,7 @@ fn difference_at(
     Ok(Some(Difference { place, given }))
 }
 
-// The first line that is not answered as it is expected, if there is one.
+// Returns the first line that is not answered as it is expected, if there is one.
 fn first_difference(
     alloc: Global,
     lines: &[Line],
@@ -146,7 +146,7 @@ fn put_given(out: &mut Vec<u8>, given: &Option<Sequence<u8>>) -> Result<(), Allo
     }
 }
 
-// The text of a difference.
+// Returns the text of a difference.
 #[tactic(auto, unfolding(crate::specs::Testing::text_of_difference))]
 fn difference_text(
     alloc: Global,
@@ -169,7 +169,7 @@ fn difference_text(
 
 // ---- faults
 
-// The number of the last line.
+// Returns the number of the last line.
 fn last(lines: &[Line]) -> u32
     ensures { result ≡ last_number lines.now }
 {
@@ -179,7 +179,7 @@ fn last(lines: &[Line]) -> u32
     }
 }
 
-// The number in the test of a line of its script.
+// Returns the number in the test of a line of its script.
 fn number(lines: &[Line], line: u32) -> u32
     requires { last_number lines.now ≤ 1048577 }
     ensures { result ≡ number_in_test lines.now line }
@@ -193,7 +193,7 @@ fn number(lines: &[Line], line: u32) -> u32
     }
 }
 
-// A fault of the script, told of the test.
+// Returns a fault of the script, told of the test.
 fn told_fault(lines: &[Line], found: Fault) -> Fault
     requires { last_number lines.now ≤ 1048577 }
     ensures { result ≡ fault_in_test lines.now found }
@@ -208,7 +208,7 @@ fn told_fault(lines: &[Line], found: Fault) -> Fault
     }
 }
 
-// The fault of a text that is too long.
+// Returns the fault of a text that is too long.
 fn too_long() -> Fault
     ensures { result ≡ Text 0 0 TooLong }
 {
@@ -311,9 +311,10 @@ fn read<R: Read>(alloc: Global, reader: &mut Source<R>) -> Result<Vec<u8>, Input
     Ok(read_input(alloc, reader)?)
 }
 
-/// Reads a test to its end, and compares the answers to its script with those that are expected. It writes nothing where
-/// all are as expected, and else the first line that is not, with both. A `*` at the end of what is expected stands for
-/// any bytes.
+/// Reads a test to its end, and compares the answers to its script with those that are expected.
+///
+/// It writes nothing where all are as expected, and else the first line that is not, with both. A `*` at the end of what
+/// is expected stands for any bytes.
 pub fn test<R: Read, W: Write>(
     alloc: Global,
     reader: &mut Source<R>,

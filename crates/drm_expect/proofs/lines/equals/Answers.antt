@@ -10,4 +10,4 @@ pub returns-then-is_equals-clause-found : goal.returns-then-is_equals-clause-fou
 returns-then-is_equals-clause-found c = record { at = sym c.is_equals.ensures ∙ c.if-is_equals.true; before = c.loop-place.invariant }
 
 pub returns-clause-found : goal.returns-clause-found
-returns-clause-found c = no_equals c.args.line.now c.loop-place.place (omega (arith, c.loop-place-test.false, c.len.ensures)) c.loop-place.invariant
+returns-clause-found c = no_equals c.args.line.now c.loop-place.place (omega (arith, c.loop-place-test.false)) c.loop-place.invariant
