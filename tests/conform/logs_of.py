@@ -6,6 +6,7 @@ import program
 import random_script
 import reference
 
+LOSSES = ("CPU:1 [LOST 12 EVENTS]", "CPU:1 [LOST EVENTS]", "CPU:3 [7 EVENTS DROPPED]", "##### CPU 2 buffer started ####")
 RINGS = ("gfx", "sdma", "comp 1.0.1", "vcn_dec")
 
 
@@ -101,8 +102,11 @@ class Kernel:
             self.put("drm_sched_job_done", f"fence={job['entity']}:{job['number']} signaled")
 
     def other(self):
-        """A line of something else."""
-        self.put("sched_switch", "prev_comm=swapper/0 prev_pid=0 ==> next_comm=cat next_pid=7")
+        """A line of something else, which may be that events were lost."""
+        if self.it.random() < 0.1:
+            self.lines.append(self.it.choice(LOSSES))
+        else:
+            self.put("sched_switch", "prev_comm=swapper/0 prev_pid=0 ==> next_comm=cat next_pid=7")
 
 
 def log_of(seed, steps):

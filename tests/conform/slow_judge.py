@@ -21,6 +21,7 @@ ADDRESSED = {
 }
 NAMES = "|".join(sorted([*NUMBERED, *ADDRESSED], key=len, reverse=True))
 EVENT = re.compile(rf": ({NAMES}): *")
+LOSS = re.compile(r"\[(LOST )?([0-9]+ )?EVENTS( DROPPED)?\]|##### CPU [0-9]+ buffer started ####")
 TIME = re.compile(r"(0|[1-9][0-9]{0,9})\.([0-9]{6}|[0-9]{9})")
 
 
@@ -85,14 +86,16 @@ def addressed(line, time, what, fields, holders):
 
 
 def read(text):
-    """The lines of a log, the names of its rings in their order, those of its jobs, and how many lines it has."""
+    """The lines of a log, the names of its rings in their order, those of its jobs, how many lines it has, and the last one
+    that tells that events were lost."""
     lines = text.split("\n")
     if not lines[-1]:
         lines.pop()
-    log, rings, jobs, holders, kinds = [], [], [], {}, set()
+    log, rings, jobs, holders, kinds, lost = [], [], [], {}, set(), None
     for place, bytes_of in enumerate(lines, 1):
         found = EVENT.search(bytes_of)
         if not found:
+            lost = place if LOSS.search(bytes_of) else lost
             continue
         table = NUMBERED if found[1] in NUMBERED else ADDRESSED
         kinds.add(table is NUMBERED)
@@ -114,14 +117,14 @@ def read(text):
             rings.append(told.job[0])
         if told.ring is not None and told.ring not in rings:
             rings.append(told.ring)
-    return log, rings, jobs, len(lines)
+    return log, rings, jobs, len(lines), lost
 
 
 class Judge:
     """A log under demands, of which the tolerance is in microseconds. Times are in nanoseconds."""
 
     def __init__(self, text, tolerance=0, in_order=False, limits=()):
-        self.log, self.rings, self.jobs, self.count = read(text)
+        self.log, self.rings, self.jobs, self.count, self.lost = read(text)
         self.tolerance, self.in_order = tolerance * 1000, in_order
         self.limits = {}
         for ring, most in limits:
@@ -240,6 +243,8 @@ def answer(text, jobs=False, **demands):
     late = sum(1 for job in shown if not judge.first("end", job))
     said = [*broken, f"{count(len(shown), 'job', 'jobs')}, {count(len(broken), 'broken rule', 'broken rules')}"]
     said.append(f"passed over: {count(judge.count - len(judge.log), 'line', 'lines')}; queued before the log begins: {count(early, 'job', 'jobs')}; not ended where it ends: {count(late, 'job', 'jobs')}")
+    if judge.lost:
+        said.append(f"events were lost before line {judge.lost}: a rule may look broken for want of them")
     if judge.tolerance:
         said.append(f"lines less than {judge.tolerance // 1000} us apart may stand in either order")
     times = [(job, judge.times(job)) for job in judge.jobs]

@@ -8,7 +8,7 @@ use Rattle.drm_rules.specs.declared.rules.Broken.{Broken}
 use Rattle.drm_rules.specs.declared.rules.Demands.{Demands}
 use Rattle.drm_rules.specs.Rules.{broken}
 use Rattle.drm_conform.specs.Times.{counts_of}
-use Rattle.drm_conform.specs.Words.{text_of_broken, text_of_counts, text_of_jobs, text_of_rest, text_of_rings, text_of_tolerance}
+use Rattle.drm_conform.specs.Words.{text_of_broken, text_of_counts, text_of_jobs, text_of_loss, text_of_rest, text_of_rings, text_of_tolerance}
 
 -- the limit of a ring: the first that is given for its name
 abbrev pub limit_of : List Limit → List ℕ → Option ℕ
@@ -40,6 +40,7 @@ abbrev pub text_behind : Options → Log → ℕ → List ℕ
 text_behind options log count =
     text_of_counts (counts_of log.events (length log.jobs)) count
     ++ text_of_rest (counts_of log.events (length log.jobs)) (passed_over log)
+    ++ text_of_loss log.lost
     ++ text_of_tolerance options.tolerance
     ++ text_of_rings log (length log.rings)
     ++ jobs_asked options.jobs log

@@ -105,6 +105,11 @@ text_of_rest counts passed =
     ++ counted_text (codes "; queued before the log begins: ") counts.early (codes "job") (codes "jobs")
     ++ counted_text (codes "; not ended where it ends: ") counts.late (codes "job") (codes "jobs") ++ codes "\n"
 
+-- the last line that tells that events were lost, if one does
+abbrev pub text_of_loss : Option ℕ → List ℕ
+text_of_loss None = []
+text_of_loss (Some line) = codes "events were lost before line " ++ decimal line ++ codes ": a rule may look broken for want of them\n"
+
 -- how far lines may be out of order
 abbrev pub near_text : ℕ → List ℕ
 near_text tolerance = codes "lines less than " ++ decimal tolerance ++ codes " us apart may stand in either order\n"

@@ -8,7 +8,9 @@ ghost use Rattle.drm_conform.specs.Words.{text_of_broken, text_of_jobs, text_of_
 
 use crate::options::{Limit, Options};
 use crate::times::{NO_TIME, Total, count_jobs, job_ring, job_times, releases, totals};
-use crate::words::{put_broken, put_counts, put_rest, put_times, put_tolerance, put_total};
+use crate::words::{
+    put_broken, put_counts, put_loss, put_rest, put_times, put_tolerance, put_total,
+};
 use drm_rules::{Broken, Demands, Index, judge};
 use drm_text::is_word;
 use drm_trace::Log;
@@ -152,6 +154,7 @@ fn put_behind(
     let counts = count_jobs(index, jobs);
     put_counts(text, counts, broken)?;
     put_rest(text, counts, passed(log))?;
+    put_loss(text, log.lost)?;
     put_tolerance(text, options.tolerance)?;
     let releases = releases(alloc, index)?;
     let totals = totals(alloc, index, &releases, jobs)?;

@@ -2,7 +2,7 @@
 
 ghost use Rattle.std.specs.Prelude.{◌≡◌, ◌++◌, codes, OnOk};
 ghost use Rattle.std.specs.Fmt.{decimal};
-ghost use Rattle.drm_conform.specs.Words.{awaited_in, awaited_text, count_text, counted_text, end_text, job_name, job_text, line_text, micros, name_by, near_text, on_ring, ring_name, text_of_broken, text_of_counts, text_of_rest, text_of_times, text_of_tolerance, text_of_total, words_of};
+ghost use Rattle.drm_conform.specs.Words.{awaited_in, awaited_text, count_text, counted_text, end_text, job_name, job_text, line_text, micros, name_by, near_text, on_ring, ring_name, text_of_broken, text_of_counts, text_of_loss, text_of_rest, text_of_times, text_of_tolerance, text_of_total, words_of};
 
 use crate::times::{Counts, Times, Total};
 use drm_rules::{Broken, Rule, awaited_job, run_ring};
@@ -283,6 +283,21 @@ pub(crate) fn put_rest(text: &mut Vec<u8>, counts: Counts, passed: u64) -> Resul
         "jobs",
     )?;
     put(text, "\n")
+}
+
+/// Puts behind a text the last line that tells that events were lost, if one does.
+pub(crate) fn put_loss(text: &mut Vec<u8>, lost: Option<u32>) -> Result<(), AllocError>
+    ensures { OnOk result (text.new.items ≡ text.old.items ++ text_of_loss lost) }
+{
+    match lost {
+        Some(line) => put_in_line(
+            text,
+            "events were lost before line ",
+            line,
+            ": a rule may look broken for want of them\n",
+        ),
+        None => Ok(()),
+    }
 }
 
 // Puts behind a text how far lines may be out of order.

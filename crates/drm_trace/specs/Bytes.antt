@@ -1,5 +1,5 @@
 -- What stands first in bytes: marks, digits, words.
-use Rattle.std.specs.Prelude.{ℕ, suc, zero, Bool, ◌+◌, ◌*◌, ◌^◌, ◌==◌, ◌&&◌, not, nat_le, nat_lt, List, [], ◌∷◌, Option, Some, None, length, take, slice_index, if◌then◌else◌}
+use Rattle.std.specs.Prelude.{ℕ, suc, zero, Bool, ◌+◌, ◌*◌, ◌^◌, ◌==◌, ◌&&◌, ◌||◌, codes, is_some, not, nat_le, nat_lt, List, [], ◌∷◌, Option, Some, None, length, take, slice_index, if◌then◌else◌}
 use Rattle.std.specs.Char.{is_ascii_digit}
 use Rattle.std.specs.List.{position_or_len}
 use Rattle.std.specs.Str.{bytes_eq}
@@ -13,6 +13,14 @@ begins_with mark bytes = nat_le (length mark) (length bytes) && bytes_eq (take (
 abbrev pub place_from : List ℕ → ℕ → List ℕ → Option ℕ
 place_from mark at [] = None
 place_from mark at (byte ∷ bytes) = if begins_with mark (byte ∷ bytes) then Some at else place_from mark (at + 1) bytes
+
+-- the mark stands somewhere
+abbrev pub has_mark : List ℕ → List ℕ → Bool
+has_mark mark bytes = is_some (place_from mark 0 bytes)
+
+-- a line of the kernel or of trace-cmd that tells that events were lost: [LOST 12 EVENTS], [12 EVENTS DROPPED], CPU 1 buffer started
+abbrev pub tells_loss : List ℕ → Bool
+tells_loss bytes = has_mark (codes "EVENTS]") bytes || has_mark (codes "EVENTS DROPPED]") bytes || has_mark (codes " buffer started ####") bytes
 
 -- where the word begins that ends before a place: behind the last space there
 abbrev pub word_start : List ℕ → ℕ → ℕ

@@ -13,7 +13,7 @@ use Rattle.drm_trace.specs.declared.kinds.Format.TheVariants as formats
 use Rattle.drm_trace.specs.declared.kinds.Kind.{Kind}
 use Rattle.drm_trace.specs.declared.kinds.Kind.TheVariants as kind
 use Rattle.drm_trace.specs.declared.log.Log.{Log}
-use Rattle.drm_trace.specs.Bytes.{word_start}
+use Rattle.drm_trace.specs.Bytes.{tells_loss, word_start}
 use Rattle.drm_trace.specs.Kinds.{event_from, format_of, mark_of}
 use Rattle.drm_trace.specs.Log.{holder_of, is_full, with_end, with_end_of, with_job, with_wait, with_wait_for}
 use Rattle.drm_trace.specs.Rest.{Rest, address_behind, behind_spaces, end_at, fraction_at, mark_at, number_at, number_behind, pair_behind, text_between}
@@ -137,9 +137,13 @@ is_format one (Some other) = false
 unfoldable pub in_format : ℕ → Format → Log → Result Log Fault
 in_format line one log = if is_format one log.format then Ok (record log { format = Some one }) else Err (Text line 1 what.Order)
 
+-- a line that tells of no job may tell that events were lost
+abbrev pub with_loss : ℕ → List ℕ → Log → Log
+with_loss line bytes log = if tells_loss bytes then record log { lost = Some line } else log
+
 -- what an event at a place of a line adds, if one is there
 unfoldable pub line_told : ℕ → List ℕ → Option (ℕ × Kind) → Log → Result Log Fault
-line_told line bytes None log = Ok log
+line_told line bytes None log = Ok (with_loss line bytes log)
 line_told line bytes (Some found) log = do
   log ← in_format line (format_of found.1) log
   time ← time_at (word_before line found.0 bytes)

@@ -16,7 +16,7 @@ use Rattle.drm_trace.specs.Names.{number_in, placed_in, with_name}
 
 -- nothing was read yet
 abbrev pub nothing_read : Log
-nothing_read = record { lines = 0; events = []; jobs = []; entities = []; rings = []; fences = []; holders = []; format = None }
+nothing_read = record { lines = 0; events = []; jobs = []; entities = []; rings = []; fences = []; holders = []; format = None; lost = None }
 
 -- the number of a ring: the place of its name, or the next one where it is new
 abbrev pub ring_in : List (List ℕ) → List ℕ → ℕ

@@ -2,14 +2,14 @@
 
 ghost use Rattle.std.specs.Prelude.{◌≡◌, ◌+◌, ◌≤◌, codes, length, IfOk, IfSome};
 ghost use Rattle.drm_text.specs.Reading.{Gives, Reads};
-ghost use Rattle.drm_trace.specs.Formats.{addressed_end, addressed_end_told, addressed_job, addressed_job_told, addressed_wait, addressed_wait_told, event_told, fields_behind, in_format, is_format, line_told, numbered_end, numbered_end_told, numbered_job, numbered_job_told, numbered_wait, numbered_wait_told, time_at, too_long, with_line, word_before};
+ghost use Rattle.drm_trace.specs.Formats.{addressed_end, addressed_end_told, addressed_job, addressed_job_told, addressed_wait, addressed_wait_told, event_told, fields_behind, in_format, is_format, line_told, numbered_end, numbered_end_told, numbered_job, numbered_job_told, numbered_wait, numbered_wait_told, time_at, too_long, with_line, with_loss, word_before};
 ghost use Rattle.drm_trace.specs.Kinds.{mark_of};
 
 use crate::event::{Moment, Step, Task};
 use crate::kinds::{Format, Kind, find_event};
 use crate::log::Log;
 use crate::rest::Rest;
-use crate::search::start_of_word;
+use crate::search::{start_of_word, tells_loss};
 use drm_text::{Fault, MAX_TEXT, ReadError, TextFault};
 use std::alloc::Global;
 
@@ -260,6 +260,15 @@ fn agrees(format: Format, known: Option<Format>) -> bool
     }
 }
 
+// Notes a line that tells that events were lost.
+fn note_loss(line: u32, bytes: &[u8], log: &mut Log)
+    ensures { log.new ≡ with_loss line bytes.now log.old }
+{
+    if tells_loss(bytes) {
+        log.lost = Some(line);
+    }
+}
+
 // Adds what an event at a place of a line tells, if one is there.
 #[tactic(auto, unfolding(crate::specs::Formats::line_told))]
 fn add_found(
@@ -274,6 +283,7 @@ fn add_found(
     ensures { Gives (λ _. log.new) result (line_told line bytes.now found log.old) }
 {
     let Some((at, kind)) = found else {
+        note_loss(line, bytes, log);
         return Ok(());
     };
     check_format(line, kind.format(), log)?;

@@ -37,6 +37,8 @@ pub struct Log {
     pub holders: Sequence<u32>,
     /// How fences are named, once a line has told.
     pub format: Option<Format>,
+    /// The last line that tells that events were lost before it.
+    pub lost: Option<u32>,
 }
 
 // The number of a ring. Where it is new it is added.
@@ -127,6 +129,7 @@ impl Log {
             fences: Names::new(alloc),
             holders: Sequence::new(alloc),
             format: None,
+            lost: None,
         }
     }
 

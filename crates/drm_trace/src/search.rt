@@ -4,7 +4,7 @@ ghost use Rattle.std.specs.Prelude.{◌≡◌, ◌+◌, ◌≤◌, ◌==◌, tru
 ghost use Rattle.std.specs.List.{position_or_len};
 ghost use Rattle.drm_text.specs.Hexadecimal.{is_hex_digit};
 ghost use Rattle.drm_text.specs.Number.{digits_up_to, with_digit};
-ghost use Rattle.drm_trace.specs.Bytes.{begins_with, digits_in, hex_digits_in, hex_value, place_from, spaces_in, with_hex_digit, word_start};
+ghost use Rattle.drm_trace.specs.Bytes.{begins_with, digits_in, hex_digits_in, hex_value, place_from, spaces_in, tells_loss, with_hex_digit, word_start};
 
 use drm_text::is_word;
 use memchr::memchr;
@@ -40,6 +40,15 @@ pub(crate) fn place_of(bytes: &[u8], mark: &[u8]) -> Option<usize>
         }
     }
     None
+}
+
+/// Returns whether the line tells that events were lost before it.
+pub(crate) fn tells_loss(bytes: &[u8]) -> bool
+    ensures { result ≡ tells_loss bytes.now }
+{
+    place_of(bytes, b"EVENTS]").is_some()
+        || place_of(bytes, b"EVENTS DROPPED]").is_some()
+        || place_of(bytes, b" buffer started ####").is_some()
 }
 
 /// Returns where the word begins that ends before this place.
