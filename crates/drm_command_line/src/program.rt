@@ -3,7 +3,7 @@
 ghost use Rattle.std.specs.Prelude.{◌≡◌, IfOk, false};
 ghost use Rattle.clap.specs.Words.{app_of, new_app, rule_of};
 ghost use Rattle.clap.specs.declared.builder.command.Command.TheViews.{out-Command};
-ghost use Rattle.drm_command_line.specs.CommandLine.{conform_app, core_app, draw_app, explain_app, explore_app, flag_rule, number_rule, program_app, replay_app, run_app, test_app, text_rule, top_app, trace_app, why_app, word_rule};
+ghost use Rattle.drm_command_line.specs.CommandLine.{conform_app, core_app, draw_app, explain_app, explore_app, flag_rule, number_rule, orders_app, program_app, replay_app, run_app, test_app, text_rule, top_app, trace_app, why_app, word_rule};
 
 use crate::help::{
     CHECK_HELP, CONFORM_HELP, DRAW_HELP, EXPLAIN_HELP, EXPLORE_HELP, REPLAY_HELP, RUN_HELP,
@@ -169,9 +169,9 @@ fn draw_command<'a>(alloc: Global) -> Result<Command<'a>, AllocError>
     .arg(to)
 }
 
-/// Returns the command that explores all orders of a script.
-fn explore_command<'a>(alloc: Global) -> Result<Command<'a>, AllocError>
-    ensures app { IfOk result (λ command. app_of command ≡ explore_app) }
+/// Returns the command that explores all orders of a script, with the options that say how.
+fn orders_command<'a>(alloc: Global) -> Result<Command<'a>, AllocError>
+    ensures app { IfOk result (λ command. app_of command ≡ orders_app) }
     ensures local { IfOk result (λ command. (out-Command command).has_globals ≡ false) }
 {
     let mutex = flag(
@@ -195,6 +195,25 @@ fn explore_command<'a>(alloc: Global) -> Result<Command<'a>, AllocError>
     .arg(mutex)?
     .arg(no_reap)?
     .arg(states)
+}
+
+/// Returns the same command with the options that say what is written.
+fn explore_command<'a>(alloc: Global) -> Result<Command<'a>, AllocError>
+    ensures app { IfOk result (λ command. app_of command ≡ explore_app) }
+    ensures local { IfOk result (λ command. (out-Command command).has_globals ≡ false) }
+{
+    let stuck = flag(
+        alloc,
+        "stuck",
+        "Writes a shortest script that leads to a stuck state, or nothing",
+    );
+    let reached = text(
+        alloc,
+        "final",
+        "N",
+        "Writes a shortest script that leads to final N, or nothing",
+    );
+    orders_command(alloc)?.arg(stuck)?.arg(reached)
 }
 
 /// Returns the command that tells why jobs wait.

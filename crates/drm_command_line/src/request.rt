@@ -46,6 +46,10 @@ pub enum Request<'a> {
         reaps: bool,
         /// The word that spells how many states are explored at most.
         most: Option<&'a str>,
+        /// Whether a script that leads to a stuck state is written, in place of the table.
+        stuck: bool,
+        /// The word that spells the number of the final to which a script is written, in place of the table.
+        reached: Option<&'a str>,
     },
     /// To tell why jobs of a script wait.
     Why {
@@ -129,6 +133,8 @@ fn request_of<'a>(name: &str, command: &ArgMatches<'a>) -> Request<'a>
             backs_off: !is_on(command, "mutex"),
             reaps: !is_on(command, "no-reap"),
             most: command.get_str("states"),
+            stuck: is_on(command, "stuck"),
+            reached: command.get_str("final"),
         },
         "why" => Request::Why {
             fence: command.get_str("fence"),

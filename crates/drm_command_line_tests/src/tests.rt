@@ -36,6 +36,8 @@ fn command_lines(rt: HostRuntime) -> Result<(), Fail> {
                 backs_off: false,
                 reaps: true,
                 most: Some("9"),
+                stuck: false,
+                reached: None,
             },
         ),
         (

@@ -15,12 +15,13 @@ use Rattle.drm_explain.specs.Telling.{Tells}
 use Rattle.drm_explore.specs.Exploring.{ExploresBy}
 use Rattle.drm_explore.specs.declared.exploring.Exploring.{Exploring}
 use Rattle.drm_explore.specs.declared.exploring.Exploring.TheVariants as exploring
+use Rattle.drm_explore.specs.declared.exploring.Wanted.{Wanted}
 use Rattle.drm_command_line.specs.CommandLine.{IsAsked}
 use Rattle.drm_command_line.specs.declared.request.Request.{Request}
 use Rattle.drm_command_line.specs.declared.request.Request.TheVariants as request
 use Rattle.drm_conform.specs.declared.options.Options.{Options}
-use Rattle.drm_why.specs.declared.why.Question.{Question}
-use Rattle.drmsim.specs.Statuses.{Does, DrawsBetween, EndsAs, ExploresUpTo, JudgesAsked, MayHappen, TestsScript, WhysAsked, ending_of_exploring}
+use Rattle.drm_why.specs.declared.asking.Question.{Question}
+use Rattle.drmsim.specs.Statuses.{Does, DrawsBetween, EndsAs, ExploresAsked, JudgesAsked, MayHappen, TestsScript, WhysAsked, ending_of_exploring}
 use Rattle.drmsim.specs.declared.outcome.Outcome.TheVariants as outcome
 
 pub untouched : (bytes : Option (List ℕ)) → Keeps bytes bytes
@@ -47,10 +48,11 @@ explored_by before after old new exploring.Stuck by = by
 explored_by before after old new exploring.GaveUp by = by
 
 -- an exploration for which memory was refused leaves what the writer holds
-explored_without_memory : (backs_off reaps : Bool) (most : Option ℕ) (source : SourceState) (sink : SinkState)
-    → ExploresUpTo backs_off reaps most source source sink sink ending.NoMemory
-explored_without_memory backs_off reaps (Some most) source sink = (exploring.Ended ending.NoMemory, untouched sink.contents, refl)
-explored_without_memory backs_off reaps None source sink = (refl, refl)
+explored_without_memory : (backs_off reaps : Bool) (most : Option ℕ) (told : Option Wanted) (source : SourceState) (sink : SinkState)
+    → ExploresAsked backs_off reaps most told source source sink sink (outcome.Ended ending.NoMemory)
+explored_without_memory backs_off reaps (Some most) (Some told) source sink = (exploring.Ended ending.NoMemory, untouched sink.contents, refl)
+explored_without_memory backs_off reaps (Some most) None source sink = (refl, refl)
+explored_without_memory backs_off reaps None told source sink = (refl, refl)
 
 -- so does what is asked of jobs, and the judging of a log
 why_without_memory : (asked : Option Question) (source : SourceState) (sink : SinkState) → WhysAsked asked source source sink sink (outcome.Ended ending.NoMemory)
@@ -74,7 +76,7 @@ done_without_memory request.ReplayAsJournal source sink = untouched sink.content
 done_without_memory (request.Work submitters turns) source sink = untouched sink.contents
 done_without_memory (request.Explain word) source sink = (refl, untouched sink.contents)
 done_without_memory (request.Draw from to) source sink = drawn_without_memory _ _ source sink
-done_without_memory (request.Explore backs_off reaps most) source sink = explored_without_memory backs_off reaps _ source sink
+done_without_memory (request.Explore backs_off reaps most stuck reached) source sink = explored_without_memory backs_off reaps _ _ source sink
 done_without_memory (request.Why fence all rings) source sink = why_without_memory _ source sink
 done_without_memory (request.Test lowers) source sink = tested_without_memory lowers source sink
 done_without_memory (request.Conform jobs in_order limits tolerance) source sink = judged_without_memory _ source sink
@@ -108,7 +110,7 @@ may_happen words request.ReplayAsJournal is = tt
 may_happen words (request.Work submitters turns) is = is.3.1.1
 may_happen words (request.Explain word) is = tt
 may_happen words (request.Draw from to) is = tt
-may_happen words (request.Explore backs_off reaps most) is = tt
+may_happen words (request.Explore backs_off reaps most stuck reached) is = tt
 may_happen words (request.Why fence all rings) is = tt
 may_happen words (request.Test lowers) is = tt
 may_happen words (request.Conform jobs in_order limits tolerance) is = tt

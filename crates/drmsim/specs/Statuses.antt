@@ -17,11 +17,14 @@ use Rattle.drm_draw.specs.Drawing.{Draws}
 use Rattle.drm_explore.specs.Exploring.{Explores}
 use Rattle.drm_explore.specs.declared.exploring.Exploring.{Exploring}
 use Rattle.drm_explore.specs.declared.exploring.Exploring.TheVariants as exploring
+use Rattle.drm_explore.specs.declared.exploring.Options.{Options}
+use Rattle.drm_explore.specs.declared.exploring.Wanted.{Wanted}
+use Rattle.drm_explore.specs.declared.exploring.Wanted.TheVariants as wanted
 use Rattle.drm_why.specs.Whys.{Whys}
-use Rattle.drm_why.specs.declared.why.Question.{Question}
-use Rattle.drm_why.specs.declared.why.Question.TheVariants as question
+use Rattle.drm_why.specs.declared.asking.Question.{Question}
+use Rattle.drm_why.specs.declared.asking.Question.TheVariants as question
 use Rattle.drm_expect.specs.Testing.{Lowers, Tests}
-use Rattle.drm_conform.specs.declared.options.Options.{Options}
+use Rattle.drm_conform.specs.declared.options.Options as judge
 use Rattle.drm_conform.specs.declared.verdict.Verdict.{Verdict}
 use Rattle.drm_conform.specs.Verdicts as judging
 use Rattle.drm_conform.specs.Asked.{options_asked}
@@ -61,18 +64,30 @@ ending_of_exploring (exploring.Ended ended) = ended
 ending_of_exploring exploring.Stuck = ending.Stuck
 ending_of_exploring exploring.GaveUp = ending.MoreStates
 
--- what each ending of an exploration says for which a word spells no number
-abbrev pub ExploresNothing : SourceState → SourceState → SinkState → SinkState → Ending → Type 0
-ExploresNothing before after old new ending.NoStates = IsUnused before after old new
-ExploresNothing before after old new ending.NoMemory = IsUnused before after old new
+-- what is wanted of all orders: a script to a stuck state, else to the final that a word spells, else the table
+abbrev pub wanted_asked : Bool → Option Text → Option Wanted
+wanted_asked true reached = Some wanted.Stuck
+wanted_asked false None = Some wanted.Table
+wanted_asked false (Some text) = option_map (λ number. wanted.Final number) (number_up_to 4294967295 text)
+
+-- what each outcome of an exploration says for which a word spells no number
+abbrev pub ExploresNothing : SourceState → SourceState → SinkState → SinkState → Outcome → Type 0
+ExploresNothing before after old new (outcome.Ended ending.NoStates) = IsUnused before after old new
+ExploresNothing before after old new (outcome.Ended ending.NoMemory) = IsUnused before after old new
+ExploresNothing before after old new outcome.NoFinal = IsUnused before after old new
 ExploresNothing before after old new other = ⊥
 
--- what each ending of an exploration says of a number of states, if there is one
-abbrev pub ExploresUpTo : Bool → Bool → Option ℕ → SourceState → SourceState → SinkState → SinkState → Ending → Type 0
-ExploresUpTo backs_off reaps (Some most) before after old new ended =
-    (found : Exploring) × Explores (record { backs_off = backs_off; reaps = reaps; most = most }) before.remaining old.contents new.contents found
-    × (ended ≡ ending_of_exploring found)
-ExploresUpTo backs_off reaps None before after old new ended = ExploresNothing before after old new ended
+-- what each ending of an exploration says of so many states
+abbrev pub ExploresUpTo : Options → SourceState → SourceState → SinkState → SinkState → Ending → Type 0
+ExploresUpTo options before after old new ended =
+    (found : Exploring) × Explores options before.remaining old.contents new.contents found × (ended ≡ ending_of_exploring found)
+
+-- what each outcome of an exploration says of a number of states and of what is wanted, if words spell them
+abbrev pub ExploresAsked : Bool → Bool → Option ℕ → Option Wanted → SourceState → SourceState → SinkState → SinkState → Outcome → Type 0
+ExploresAsked backs_off reaps (Some most) (Some told) before after old new came =
+    Ends (ExploresUpTo (record { backs_off = backs_off; reaps = reaps; most = most; wanted = told }) before after old new) came
+ExploresAsked backs_off reaps (Some most) None before after old new came = ExploresNothing before after old new came
+ExploresAsked backs_off reaps None told before after old new came = ExploresNothing before after old new came
 
 -- the question that a word and two flags ask: of all jobs, else of the rings, else of the job of a fence
 abbrev pub question_asked : Option Text → Bool → Bool → Option Question
@@ -99,13 +114,13 @@ JudgesNothing before after old new (outcome.Ended ending.NoMemory) = IsUnused be
 JudgesNothing before after old new other = ⊥
 
 -- what each outcome says of a log that is judged
-abbrev pub JudgesBy : Options → SourceState → SourceState → SinkState → SinkState → Outcome → Type 0
+abbrev pub JudgesBy : judge.Options → SourceState → SourceState → SinkState → SinkState → Outcome → Type 0
 JudgesBy options before after old new (outcome.Judged told) = judging.Tells options before.remaining old.contents new.contents told
 JudgesBy options before after old new (outcome.Ended ending.NoMemory) = IsUnused before after old new
 JudgesBy options before after old new other = ⊥
 
 -- what each outcome says of the options that are asked for, if words spell them
-abbrev pub JudgesAsked : Option Options → SourceState → SourceState → SinkState → SinkState → Outcome → Type 0
+abbrev pub JudgesAsked : Option judge.Options → SourceState → SourceState → SinkState → SinkState → Outcome → Type 0
 JudgesAsked (Some options) before after old new came = JudgesBy options before after old new came
 JudgesAsked None before after old new came = JudgesNothing before after old new came
 
@@ -129,8 +144,8 @@ Does (request.Work submitters turns) before after old new came = Ends (worked.Ru
 Does (request.Explain word) before after old new came = (after ≡ before) × Ends (Tells (option_map (λ w. w.now) word) old.contents new.contents) came
 Does (request.Draw from to) before after old new came =
     Ends (DrawsBetween (number_of_word 0 (option_map (λ w. w.now) from)) (number_of_word 4294967295 (option_map (λ w. w.now) to)) before after old new) came
-Does (request.Explore backs_off reaps most) before after old new came =
-    Ends (ExploresUpTo backs_off reaps (number_of_word 1000000 (option_map (λ w. w.now) most)) before after old new) came
+Does (request.Explore backs_off reaps most stuck reached) before after old new came =
+    ExploresAsked backs_off reaps (number_of_word 1000000 (option_map (λ w. w.now) most)) (wanted_asked stuck (option_map (λ w. w.now) reached)) before after old new came
 Does (request.Why fence all rings) before after old new came = WhysAsked (question_asked (option_map (λ w. w.now) fence) all rings) before after old new came
 Does (request.Test lowers) before after old new came =
     Ends (TestsScript lowers before.remaining old.contents new.contents) came

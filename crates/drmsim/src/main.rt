@@ -23,7 +23,7 @@ mod asking;
 mod outcome;
 mod progress;
 
-use asking::{draw_part, explore_orders, judge_log, tell_why};
+use asking::{Exploration, draw_part, explore_orders, judge_log, tell_why};
 use clap::error::ErrorKind as WordsError;
 use drm_command_line::{Request, read_words};
 use drm_engine::Ending;
@@ -165,7 +165,18 @@ fn fulfil<H: Threads + Wait + Sync, R: Read, W: Write>(
             backs_off,
             reaps,
             most,
-        } => { Outcome::Ended(explore_orders(alloc, backs_off, reaps, most, reader, writer)) }
+            stuck,
+            reached,
+        } => {
+            let how = Exploration {
+                backs_off,
+                reaps,
+                most,
+                stuck,
+                reached,
+            };
+            explore_orders(alloc, how, reader, writer)
+        }
         Request::Why { fence, all, rings } => tell_why(alloc, fence, all, rings, reader, writer),
         Request::Test { lowers } => Outcome::Ended(test_script(alloc, lowers, reader, writer)),
         Request::Conform {

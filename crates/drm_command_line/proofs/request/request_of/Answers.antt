@@ -10,7 +10,14 @@ pub returns-in-draw : goal.returns-in-draw
 returns-in-draw c = (c.in-draw.is, gives_first (found_of c.args.command.now) _ _ c.get_str-in-draw.ensures, gives_first (found_of c.args.command.now) _ _ c.get_str-in-draw-2.ensures)
 
 pub returns-in-explore : goal.returns-in-explore
-returns-in-explore c = (c.in-explore.is, ap not c.is_on.ensures, ap not c.is_on-in-explore.ensures, gives_first (found_of c.args.command.now) _ _ c.get_str-in-explore.ensures)
+returns-in-explore c = (
+  c.in-explore.is,
+  ap not c.is_on.ensures,
+  ap not c.is_on-in-explore.ensures,
+  gives_first (found_of c.args.command.now) _ _ c.get_str-in-explore.ensures,
+  c.is_on-in-explore-2.ensures,
+  gives_first (found_of c.args.command.now) _ _ c.get_str-in-explore-2.ensures,
+)
 
 pub returns-in-why : goal.returns-in-why
 returns-in-why c = (c.in-why.is, gives_first (found_of c.args.command.now) _ _ c.get_str-in-why.ensures, c.is_on-in-why.ensures, c.is_on-in-why-2.ensures)
