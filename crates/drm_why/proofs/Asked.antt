@@ -6,7 +6,7 @@ use Rattle.drm_engine.specs.declared.ending.Ending.TheVariants as ending
 use Rattle.drm_script.specs.declared.script.Script.{Script}
 use Rattle.drm_script.specs.Script.{judge_script}
 use Rattle.drm_why.specs.Whys.{Tells, Whys}
-use Rattle.drm_why.specs.declared.why.Question.{Question}
+use Rattle.drm_why.specs.declared.asking.Question.{Question}
 
 pub asked_spelled : (asked : Question) (script : Script) (input old new : Option (List ℕ)) (ended : Ending) → IfSome input (λ text. judge_script text ≡ Ok script)
     → Tells asked script old new ended → Whys asked input old new ended
@@ -17,6 +17,9 @@ asked_spelled asked script input old new ending.NoThread spelled never = absurd 
 asked_spelled asked script input old new (ending.Fault fault) spelled never = absurd never
 asked_spelled asked script input old new ending.TooMany spelled never = absurd never
 asked_spelled asked script input old new ending.NoCount spelled never = absurd never
+asked_spelled asked script input old new ending.Stuck spelled never = absurd never
+asked_spelled asked script input old new ending.MoreStates spelled never = absurd never
+asked_spelled asked script input old new ending.NoStates spelled never = absurd never
 asked_spelled asked script input old new (ending.Unexplained word) spelled never = absurd never
 asked_spelled asked script input old new ending.NoMemory spelled kept = kept
 asked_spelled asked script input old new ending.NoInput spelled never = absurd never

@@ -11,7 +11,7 @@ pub longest_within : (changes : List Change) (place n i : ℕ) → LongestIs cha
 longest_within changes place n i is = slice_get_within changes i is.0 is.1.held.at
 
 -- what stands before a place and at it
-before_or_at : (n i : ℕ) → i < n + 1 → (i < n) ⊎ (i ≡ n)
+pub before_or_at : (n i : ℕ) → i < n + 1 → (i < n) ⊎ (i ≡ n)
 before_or_at n i less =
     elim (cases_eq i n) [
       | inl same ↦ inr same

@@ -1,9 +1,10 @@
 -- A line for each number, one more, and the first job that is queued for a ring.
-use Rattle.std.proofs.Common.{◌≡◌, ℕ, zero, suc, ◌+◌, ◌<◌, ◌≤◌, Bool, true, false, ◌&&◌, ◌==◌, List, [], ◌∷◌, ◌++◌, drop, length, Some, None, refl, sym, ap, subst, ◌∙◌, inl, inr, arith, slice_get}
+use Rattle.std.proofs.Common.{◌≡◌, ℕ, zero, suc, ◌+◌, ◌<◌, ◌≤◌, Bool, true, false, ◌&&◌, ◌==◌, List, [], ◌∷◌, ◌++◌, drop, length, Some, None, refl, sym, ap, subst, ◌∙◌, inl, inr, append_assoc, append-nil, map, arith, slice_get}
 use Rattle.std.specs.Prelude.{flat_map, option_map}
 use Rattle.std.specs.List.{enumerate_from}
 use Rattle.std.proofs.lemmas.Bool.{cases_eq}
 use Rattle.std.proofs.lemmas.Option.{slice_get_within}
+use Rattle.std.proofs.Math.ListN.{drop_of_length-le}
 use Rattle.drm_lists.proofs.Places.{get_numbered, stands_within}
 use Rattle.drm_fence.specs.Phases.{is_queued}
 use Rattle.drm_state.specs.declared.journal.JobRecord.{JobRecord}
@@ -12,6 +13,7 @@ use Rattle.drm_state.proofs.ChoiceIs.{numbered_get}
 use Rattle.drm_state.proofs.Found.{find_at, find_none}
 use Rattle.drm_core.proofs.Telling.{told_all, told_more}
 use Rattle.drm_why.specs.Rings.{first_queued_for}
+use Rattle.drm_why.proofs.Spans.{left_begins}
 
 -- numbers are as many as what is numbered
 length_numbered : {X : Type 0} (xs : List X) (n : ℕ) → length (enumerate_from n xs) ≡ length xs
@@ -73,3 +75,25 @@ none_queued_more js ring k x at fails none i r less there =
           let one : x ≡ r = cc (at, here) in subst (λ (q : JobRecord). waits_for_ring ring q ≡ false) one fails
       | inr apart ↦ none i r (omega (arith, less, apart)) there
     ]
+
+-- ---- what is kept of each number
+
+pub kept_more : {X Y : Type 0} (of : ℕ → Y) (xs : List X) (i : ℕ) (out more whole : List Y) (y : Y) → i < length xs → y ≡ of i → more ≡ out ++ y ∷ []
+    → out ++ map (λ (r : ℕ × X). of r.0) (drop i (enumerate_from 0 xs)) ≡ whole
+    → more ++ map (λ (r : ℕ × X). of r.0) (drop (i + 1) (enumerate_from 0 xs)) ≡ whole
+kept_more {X} {Y} of xs i out more whole y less is put so =
+    let r = stands_within xs i less in
+    let same : 0 + i ≡ i = omega arith in
+    let rest = map (λ (r : ℕ × X). of r.0) (drop (i + 1) (enumerate_from 0 xs)) in
+    let at : slice_get (enumerate_from 0 xs) i ≡ Some (i, r.0) = get_numbered xs 0 i r.0 r.1 ∙ ap (λ (m : ℕ). Some (m, r.0)) same in
+    ap (λ (ys : List Y). ys ++ rest) put
+    ∙ (append_assoc out (y ∷ []) rest
+    ∙ (ap (λ (z : Y). out ++ z ∷ rest) is
+    ∙ (ap (λ (ns : List (ℕ × X)). out ++ map (λ (r : ℕ × X). of r.0) ns) (sym (left_begins (enumerate_from 0 xs) i (i, r.0) at)) ∙ so)))
+
+pub kept_end : {X Y : Type 0} (of : ℕ → Y) (xs : List X) (i : ℕ) (out whole : List Y) → length xs ≤ i
+    → out ++ map (λ (r : ℕ × X). of r.0) (drop i (enumerate_from 0 xs)) ≡ whole → out ≡ whole
+kept_end {X} {Y} of xs i out whole all so =
+    sym (append-nil out)
+    ∙ (ap (λ (ns : List (ℕ × X)). out ++ map (λ (r : ℕ × X). of r.0) ns)
+    (sym (drop_of_length-le (enumerate_from 0 xs) (subst (λ (k : ℕ). k ≤ i) (sym (length_numbered xs 0)) all))) ∙ so)

@@ -16,13 +16,19 @@ holder_of (reason.Pending ring front) = Some front
 holder_of _ = None
 
 -- a job with its reason
-abbrev pub link_of : DeviceState → ℕ → Link
-link_of device number = record { fence = number; reason = reason_of device number }
+abbrev pub link_with : ℕ → Reason → Link
+link_with number reason = record { fence = number; reason = reason }
 
--- the jobs that hold up this one, which has this reason: the one that it names, then the one that this names, to one that
+abbrev pub link_of : DeviceState → ℕ → Link
+link_of device number = link_with number (reason_of device number)
+
+-- the jobs that hold up the one of this number, the next first: then the one that the reason of this names, to one whose reason
 -- names none. One that is no earlier job ends them: it comes first on a ring
+abbrev pub IsChainFrom : DeviceState → ℕ → Option ℕ → List Link → Type 0
+IsChainFrom device number next [] = next ≡ None
+IsChainFrom device number next (link ∷ rest) =
+    (next ≡ Some link.fence) × (link ≡ link_of device link.fence)
+    × (((link.fence < number) × IsChainFrom device link.fence (holder_of link.reason) rest) ⊎ ((number ≤ link.fence) × (rest ≡ [])))
+
 abbrev pub IsChain : DeviceState → ℕ → Reason → List Link → Type 0
-IsChain device number held [] = holder_of held ≡ None
-IsChain device number held (link ∷ rest) =
-    (holder_of held ≡ Some link.fence) × (link ≡ link_of device link.fence)
-    × (((link.fence < number) × IsChain device link.fence link.reason rest) ⊎ ((number ≤ link.fence) × (rest ≡ [])))
+IsChain device number held links = IsChainFrom device number (holder_of held) links

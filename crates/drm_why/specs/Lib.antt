@@ -1,8 +1,10 @@
 pub mod Chains
+pub mod Same
 pub mod Seeing
 pub mod Sentences
 pub mod Longest
 pub mod Lines
 pub mod Rings
+pub mod Totals
 pub mod Texts
 pub mod Whys

@@ -5,10 +5,13 @@ use Rattle.std.specs.Option.{option_map_or}
 use Rattle.drm_core.specs.declared.event.Event.{Event}
 use Rattle.drm_core.specs.declared.event.Event.TheVariants as event
 use Rattle.drm_picture.specs.Commands.{moment_of, word_of}
+use Rattle.drm_state.specs.Journal.{numbered}
+use Rattle.drm_state.specs.State.{DeviceState}
 use Rattle.drm_reason.specs.declared.reason.Reason.{Reason}
 use Rattle.drm_reason.specs.declared.reason.Reason.TheVariants as reason
 use Rattle.drm_why.specs.Sentences.{one_in, said_of, two_in}
 use Rattle.drm_why.specs.Longest.{clock_at_end, commands_of, end_of}
+use Rattle.drm_why.specs.Chains.{link_of}
 use Rattle.drm_why.specs.declared.chain.Link.{Link}
 use Rattle.drm_why.specs.declared.seeing.Change.{Change}
 
@@ -99,3 +102,7 @@ longest_text changes place clock (Some number) = option_map_or (held_by_text cha
 unfoldable pub text_of_life : ℕ → List Change → ℕ → ℕ → Option ℕ → List ℕ
 text_of_life fence changes place clock longest =
     head_text fence changes ++ flat_map line_of_change changes ++ spans_text place clock changes ++ longest_text changes place clock longest
+
+-- a line for each job that is armed
+abbrev pub text_of_jobs : DeviceState → List ℕ
+text_of_jobs device = flat_map (λ n. line_of_link (link_of device n.0)) (numbered device.journal)

@@ -1,44 +1,70 @@
--- What rings do.
-use Rattle.std.specs.Prelude.{ℕ, ◌&&◌, ◌==◌, List, [], ◌∷◌, ◌++◌, Option, Some, None, codes, find, flat_map, option_map}
+-- What each ring does, command by command.
+use Rattle.std.specs.Prelude.{◌≡◌, ℕ, ◌&&◌, ◌==◌, List, [], ◌∷◌, Option, Some, None, find, map, option_map}
 use Rattle.std.specs.List.{enumerate_from}
-use Rattle.std.specs.Option.{option_or}
 use Rattle.drm_fence.specs.Phases.{is_queued}
+use Rattle.drm_job.specs.declared.Draft.{Draft}
+use Rattle.drm_state.specs.declared.answer.Answer.{Answer}
 use Rattle.drm_state.specs.declared.journal.JobRecord.{JobRecord}
-use Rattle.drm_state.specs.State.{DeviceState}
 use Rattle.drm_state.specs.Choice.{choice}
+use Rattle.drm_state.specs.Grows.{Grows}
 use Rattle.drm_state.specs.Journal.{numbered}
-use Rattle.drm_state.specs.Ring.{current_of, head_of, pending_of}
-use Rattle.drm_why.specs.Chains.{link_of}
-use Rattle.drm_why.specs.Lines.{line_of_link}
-use Rattle.drm_why.specs.Sentences.{one_in}
+use Rattle.drm_state.specs.Ring.{pending_of}
+use Rattle.drm_state.specs.State.{DeviceState}
+use Rattle.drm_core.specs.declared.event.Event.{Event}
+use Rattle.drm_core.specs.Lawful.{IsLawful}
+use Rattle.drm_core.specs.State.{CoreState}
+use Rattle.drm_core.specs.Step.{Step}
+use Rattle.drm_reason.specs.declared.reason.Reason.{Reason}
+use Rattle.drm_reason.specs.declared.reason.Reason.TheVariants as reason
+use Rattle.drm_reason.specs.Reasons.{reason_of}
+use Rattle.drm_why.specs.declared.rings.Doing.{Doing}
+use Rattle.drm_why.specs.declared.rings.Doing.TheVariants as doing
+use Rattle.drm_why.specs.declared.rings.Row.{Row}
+use Rattle.drm_why.specs.Seeing.{clock_behind, command_of}
 
 -- the first job that is queued for the ring
 abbrev pub first_queued_for : List JobRecord → ℕ → Option ℕ
 first_queued_for journal ring = option_map (λ n. n.0) (find (λ n. (n.1.ring == ring) && is_queued n.1.phase) (numbered journal))
 
--- the job that tells what the ring does: the one that it runs, the first one that is pending, the next one that it takes, or the
--- first one that is queued for it
-abbrev pub job_of_ring : DeviceState → ℕ → Option ℕ
-job_of_ring device ring =
-    option_or (option_or (current_of device ring) (head_of device ring)) (option_or (choice device ring) (first_queued_for device.journal ring))
+-- an idle ring waits for the fence that its first job waits for, or for the reap of that job, or that job may begin
+abbrev pub doing_by : Reason → Doing
+doing_by (reason.Waits fence how ring queued) = doing.Held fence
+doing_by (reason.Stopped behind) = doing.Stopped
+doing_by other = doing.Ready
 
-abbrev pub said_of_pending : List ℕ → List ℕ
-said_of_pending [] = codes " is idle: "
-said_of_pending (front ∷ rest) = codes " is busy: "
+abbrev pub doing_queued : DeviceState → Option ℕ → Doing
+doing_queued device None = doing.Unused
+doing_queued device (Some number) = doing_by (reason_of device number)
 
-abbrev pub said_of_job : DeviceState → Option ℕ → List ℕ
-said_of_job device (Some number) = line_of_link (link_of device number)
-said_of_job device None = codes "nothing is queued for it\n"
+abbrev pub doing_idle : DeviceState → ℕ → Option ℕ → Doing
+doing_idle device ring (Some next) = doing.Ready
+doing_idle device ring None = doing_queued device (first_queued_for device.journal ring)
 
--- whether the ring is busy, and that job
-unfoldable pub line_of_ring : DeviceState → ℕ → List ℕ
-line_of_ring device ring =
-    one_in (codes "ring ") ring (said_of_pending (pending_of device ring)) ++ said_of_job device (job_of_ring device ring)
+abbrev pub doing_with : DeviceState → ℕ → List ℕ → Doing
+doing_with device ring (front ∷ rest) = doing.Busy
+doing_with device ring [] = doing_idle device ring (choice device ring)
 
--- a line for each ring
-abbrev pub text_of_rings : DeviceState → List ℕ
-text_of_rings device = flat_map (λ r. line_of_ring device r.0) (enumerate_from 0 device.spec.rings)
+-- what the ring does: it is busy with its pending jobs, or is idle. Then a pick takes a job, or the first one that is queued
+-- for it says why none can begin
+abbrev pub doing_of : DeviceState → ℕ → Doing
+doing_of device ring = doing_with device ring (pending_of device ring)
 
--- a line for each job that is armed
-abbrev pub text_of_jobs : DeviceState → List ℕ
-text_of_jobs device = flat_map (λ n. line_of_link (link_of device n.0)) (numbered device.journal)
+-- and all rings
+abbrev pub doings_of : DeviceState → List Doing
+doings_of device = map (λ r. doing_of device r.0) (enumerate_from 0 device.spec.rings)
+
+-- what is seen of the rings of a device, where this moment was told last
+pub record IsRow (device : DeviceState) (now : ℕ) (row : Row) : Type 0 where
+  pub clock : row.clock ≡ now
+  pub doings : row.doings ≡ doings_of device
+
+-- a lawful run of these events leads from the old core to the new one, and this is seen of the rings behind each of them,
+-- where this moment was told before
+abbrev pub SeesRows : ℕ → CoreState → List (Event Draft) → List Row → CoreState → Type 0
+SeesRows clock old [] [] new = IsLawful old × (new ≡ old)
+SeesRows clock old (event ∷ events) (row ∷ rows) new =
+    IsLawful old
+    × ((answer : Answer) × (mid : CoreState) × Step old event answer mid × Grows old.device mid.device
+    × IsRow mid.device (clock_behind clock (command_of event)) row × SeesRows (clock_behind clock (command_of event)) mid events rows new)
+SeesRows clock old [] (row ∷ rows) new = ⊥
+SeesRows clock old (event ∷ events) [] new = ⊥

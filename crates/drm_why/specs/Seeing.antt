@@ -1,5 +1,6 @@
 -- What is seen of a job in a run, and where its reason changes.
-use Rattle.std.specs.Prelude.{◌≡◌, ℕ, ◌+◌, ◌⊎◌, List, [], ◌∷◌, ◌++◌, fold, unwrap_or}
+use Rattle.std.specs.Prelude.{◌≡◌, ℕ, ◌+◌, ◌-◌, ◌⊎◌, List, [], ◌∷◌, ◌++◌, fold, length, slice_get, unwrap_or}
+use Rattle.std.specs.Option.{option_map_or}
 use Rattle.drm_job.specs.declared.Draft.{Draft}
 use Rattle.drm_state.specs.declared.answer.Answer.{Answer}
 use Rattle.drm_state.specs.Grows.{Grows}
@@ -11,6 +12,7 @@ use Rattle.drm_core.specs.State.{CoreState}
 use Rattle.drm_core.specs.Step.{Step}
 use Rattle.drm_picture.specs.Commands.{moment_of}
 use Rattle.drm_reason.specs.declared.reason.Reason.{Reason}
+use Rattle.drm_reason.specs.declared.reason.Reason.TheVariants as reason
 use Rattle.drm_reason.specs.Reasons.{reason_of}
 use Rattle.drm_why.specs.declared.chain.Link.{Link}
 use Rattle.drm_why.specs.declared.seeing.Change.{Change}
@@ -25,6 +27,21 @@ command_of event = with_job (λ draft. draft.entity) event
 abbrev pub AreLinks : DeviceState → ℕ → Reason → Reason → List Link → Type 0
 AreLinks device fence before now links =
     ((now ≡ before) × (links ≡ [])) ⊎ ((now ≡ before → ⊥) × IsChain device fence now links)
+
+-- what is seen of a job that has this reason behind this command, where it had another one before
+pub record IsLook (device : DeviceState) (fence : ℕ) (before now : Reason) (happened : Event ℕ) (seen : Seen) : Type 0 where
+  pub command : seen.command ≡ happened
+  pub reason : seen.reason ≡ now
+  pub links : AreLinks device fence before now seen.links
+
+-- the reason that was seen last: before the first command the job is not armed
+abbrev pub reason_behind : List Seen → Reason
+reason_behind seens = option_map_or (λ seen. seen.reason) (slice_get seens (length seens - 1)) reason.NotArmed
+
+-- what is seen of the job behind this command is added to what was seen before
+abbrev pub AddsLook : DeviceState → ℕ → Event ℕ → List Seen → List Seen → Type 0
+AddsLook device fence command old new =
+    (seen : Seen) × IsLook device fence (reason_behind old) (reason_of device fence) command seen × (new ≡ old ++ seen ∷ [])
 
 -- what is seen of a job behind an event: what that does, the reason that the job has in the core that it leads to, where it
 -- had this one before, and the jobs that hold it up

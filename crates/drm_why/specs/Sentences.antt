@@ -38,7 +38,8 @@ said_of_place true = codes ", and is queued for ring "
 said_of_place false = codes ", and is pending on ring "
 
 unfoldable pub said_of_wait : ℕ → How → ℕ → Bool → List ℕ
-said_of_wait fence how ring queued = one_in (codes "waits for fence ") fence (said_of_how how) ++ said_of_place queued ++ decimal ring
+said_of_wait fence how ring queued =
+    one_in (codes "waits for fence ") fence (codes "") ++ said_of_how how ++ one_in (said_of_place queued) ring (codes "")
 
 -- the job of a stopped entity
 abbrev pub said_of_stopped : Option ℕ → List ℕ

@@ -185,8 +185,8 @@ fn put_head(out: &mut Vec<u8>, fence: FenceId, changes: &[Change]) -> Result<(),
 
 /// Puts a job and what is said of it.
 #[tactic(auto, unfolding(crate::specs::Lines::line_of_link))]
-pub(crate) fn put_link(out: &mut Vec<u8>, link: Link) -> Result<(), AllocError>
-    ensures { OnOk result (out.new.items ≡ out.old.items ++ line_of_link link) }
+pub(crate) fn put_link(out: &mut Vec<u8>, link: &Link) -> Result<(), AllocError>
+    ensures { OnOk result (out.new.items ≡ out.old.items ++ line_of_link link.now) }
 {
     put_one(out, "fence ", u64::from(link.fence), " ")?;
     put_said(out, link.reason)?;
@@ -198,7 +198,7 @@ fn put_links(out: &mut Vec<u8>, links: &[Link]) -> Result<(), AllocError>
     ensures { OnOk result (out.new.items ≡ out.old.items ++ flat_map line_of_link links.now) }
 {
     for link in links {
-        put_link(out, *link)?;
+        put_link(out, link)?;
     }
     Ok(())
 }
@@ -273,8 +273,8 @@ fn put_longest(
     }
 }
 
-/// The text of the life of a job, of so many commands, behind which this moment was told last. The change of this number
-/// held it up longest.
+/// Returns the text of the life of a job in so many commands, the last of which leave this moment. The change of this
+/// number held the job up longest.
 #[tactic(auto, unfolding(crate::specs::Lines::text_of_life))]
 pub(crate) fn life_text(
     alloc: Global,

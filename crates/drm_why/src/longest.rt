@@ -6,7 +6,7 @@ ghost use Rattle.drm_why.specs.Longest.{IsHeld, LongestIs, clock_at_end, command
 use crate::seeing::Change;
 use drm_types::Moment;
 
-/// Where what began with the change of this number ends.
+/// Returns where what began with the change of this number ends.
 pub(crate) fn end(changes: &[Change], place: usize, number: usize) -> usize
     requires { number < length changes.now }
     ensures { result ≡ end_of (drop (number + 1) changes.now) place }
@@ -17,7 +17,7 @@ pub(crate) fn end(changes: &[Change], place: usize, number: usize) -> usize
     }
 }
 
-/// The moment that was told last there.
+/// Returns the moment that was told last there.
 pub(crate) fn clock_there(changes: &[Change], clock: Moment, number: usize) -> Moment
     requires { number < length changes.now }
     ensures { result ≡ clock_at_end (drop (number + 1) changes.now) clock }
@@ -28,7 +28,7 @@ pub(crate) fn clock_there(changes: &[Change], clock: Moment, number: usize) -> M
     }
 }
 
-/// For how many commands the reason held that began with the change of this number.
+/// Returns for how many commands the reason held that began with the change of this number.
 pub(crate) fn commands(changes: &[Change], place: usize, number: usize) -> usize
     requires { number < length changes.now }
     ensures { result ≡ commands_of changes.now place number }
@@ -36,7 +36,7 @@ pub(crate) fn commands(changes: &[Change], place: usize, number: usize) -> usize
     end(changes, place, number).saturating_sub(changes[number].place)
 }
 
-// Whether the change of one number held for more commands than that of another.
+// Returns whether the change of one number held for more commands than that of another.
 fn is_longer(changes: &[Change], place: usize, number: usize, other: usize) -> bool
     requires number { number < length changes.now }
     requires other { other < length changes.now }
@@ -45,7 +45,7 @@ fn is_longer(changes: &[Change], place: usize, number: usize, other: usize) -> b
     commands(changes, place, other) < commands(changes, place, number)
 }
 
-// Of the longest so far and the change of this number the one that held for more commands.
+// Returns of the longest so far and the change of this number the one that held for more commands.
 fn longer_of(changes: &[Change], place: usize, other: usize, number: usize) -> Option<usize>
     requires longest { LongestIs changes.now place number (Some other) }
     requires held { (change : _) × IsHeld changes.now number change }
@@ -57,7 +57,7 @@ fn longer_of(changes: &[Change], place: usize, other: usize, number: usize) -> O
     Some(other)
 }
 
-// The longest so far, or the change of this number, where that held the job up for more commands.
+// Returns the longest so far, or the change of this number, where that held the job up for more commands.
 fn longer(changes: &[Change], place: usize, longest: Option<usize>, number: usize) -> Option<usize>
     requires there { number < length changes.now }
     requires longest { LongestIs changes.now place number longest }
@@ -72,7 +72,7 @@ fn longer(changes: &[Change], place: usize, longest: Option<usize>, number: usiz
     }
 }
 
-/// Of the changes with which a job began to hold this one up, the first of those that did for the most commands.
+/// Returns of the changes with which a job began to hold this one up the first of those that did for the most commands.
 pub(crate) fn longest(changes: &[Change], place: usize) -> Option<usize>
     ensures { LongestIs changes.now place (length changes.now) result }
 {

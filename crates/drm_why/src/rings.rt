@@ -1,29 +1,55 @@
-//! What the jobs and the rings of a device do.
+//! What each ring does, command by command.
 
-ghost use Rattle.std.specs.Prelude.{◌≡◌, ◌<◌, ◌&&◌, ◌++◌, ◌==◌, IfOk, OnOk, length};
+ghost use Rattle.std.specs.Prelude.{◌≡◌, ◌<◌, ◌&&◌, ◌==◌, IfOk, length};
+ghost use Rattle.drm_core.specs.Lawful.{IsLawful};
+ghost use Rattle.drm_core.specs.Run.{AllNamesExist};
 ghost use Rattle.drm_fence.specs.Phases.{is_queued};
-ghost use Rattle.drm_state.specs.Ring.{pending_of};
-ghost use Rattle.drm_why.specs.Rings.{first_queued_for, job_of_ring, line_of_ring, said_of_job, said_of_pending, text_of_jobs, text_of_rings};
+ghost use Rattle.drm_why.specs.Rings.{IsRow, SeesRows, doing_by as doing_by_reason, doing_of, doing_queued, doings_of, first_queued_for};
 
-use crate::chain::linked;
-use crate::lines::put_link;
-use crate::text::{put_one, put_text};
+use crate::seeing::{clock_after, command};
+use drm_core::Core;
+use drm_reason::{Reason, reason_of};
 use drm_sched::{Device, JobRecord, Phase};
-use drm_types::{FenceId, RingId};
+use drm_script::Events;
+use drm_types::{FenceId, Moment, RingId, Sequence};
 use std::alloc::{AllocError, Global};
 
-// Whether the job is queued for the ring.
-fn is_queued_for(record: &JobRecord, ring: RingId) -> bool
-    ensures { result ≡ (record.now.ring == ring) && is_queued record.now.phase }
+/// What a ring does behind a command.
+#[derive(Clone, Copy)]
+pub enum Doing {
+    /// A job is pending on it.
+    Busy,
+    /// It is idle, and no job is queued for it.
+    Unused,
+    /// It is idle, and a pick takes a job.
+    Ready,
+    /// It is idle, and the first job that is queued for it waits for this fence.
+    Held(FenceId),
+    /// It is idle, and the first job that is queued for it is of a stopped entity.
+    Stopped,
+}
+
+/// What is seen of the rings behind one command.
+#[derive(Drop)]
+pub struct Row {
+    /// The moment that was told last, by this command or before it.
+    pub clock: Moment,
+    /// What each ring does.
+    pub doings: Sequence<Doing>,
+}
+
+// Returns whether the job is queued for the ring.
+fn is_queued_for(job: &JobRecord, ring: RingId) -> bool
+    ensures { result ≡ (job.now.ring == ring) && is_queued job.now.phase }
 {
-    match record.phase {
-        Phase::Queued => record.ring == ring,
+    match job.phase {
+        Phase::Queued => job.ring == ring,
         Phase::Scheduled => false,
         Phase::Ended(_) => false,
     }
 }
 
-// The first job that is queued for the ring.
+// Returns the first job that is queued for the ring.
 fn first_queued(device: &Device, ring: RingId) -> Option<FenceId>
     ensures { result ≡ first_queued_for device.now.state.journal ring }
 {
@@ -36,69 +62,82 @@ fn first_queued(device: &Device, ring: RingId) -> Option<FenceId>
     None
 }
 
-// The job that tells what the ring does.
-fn job(device: &Device, ring: RingId) -> Option<FenceId>
-    requires { ring < length device.now.state.spec.rings }
-    ensures { result ≡ job_of_ring device.now.state ring }
+// Returns what an idle ring does, by the reason of the first job that is queued for it.
+fn doing_by(reason: Reason) -> Doing
+    ensures { result ≡ doing_by_reason reason }
 {
-    let pending = device
-        .current(ring)
-        .or(device.pending(ring).front().copied());
-    pending.or(device.choice(ring).or(first_queued(device, ring)))
-}
-
-// Whether the ring is busy, in words.
-fn said_of(device: &Device, ring: RingId) -> &'static str
-    requires { ring < length device.now.state.spec.rings }
-    ensures { result.now ≡ said_of_pending (pending_of device.now.state ring) }
-{
-    if device.pending(ring).is_empty() {
-        " is idle: "
-    } else {
-        " is busy: "
+    match reason {
+        Reason::Waits { fence, .. } => Doing::Held(fence),
+        Reason::Stopped { .. } => Doing::Stopped,
+        _ => Doing::Ready,
     }
 }
 
-// Puts that job, if there is one.
-fn put_job(out: &mut Vec<u8>, device: &Device, job: Option<FenceId>) -> Result<(), AllocError>
-    ensures { OnOk result (out.new.items ≡ out.old.items ++ said_of_job device.now.state job) }
+// Returns what an idle ring does for which this job is the first that is queued.
+fn queued(device: &Device, first: Option<FenceId>) -> Doing
+    ensures { result ≡ doing_queued device.now.state first }
 {
-    match job {
-        Some(number) => put_link(out, linked(device, number)),
-        None => put_text(out, "nothing is queued for it\n"),
+    match first {
+        Some(number) => doing_by(reason_of(device, number)),
+        None => Doing::Unused,
     }
 }
 
-// Puts the line of a ring.
-#[tactic(auto, unfolding(crate::specs::Rings::line_of_ring))]
-fn put_ring(out: &mut Vec<u8>, device: &Device, ring: RingId) -> Result<(), AllocError>
+// Returns what the ring does.
+fn doing_at(device: &Device, ring: RingId) -> Doing
     requires { ring < length device.now.state.spec.rings }
-    ensures { OnOk result (out.new.items ≡ out.old.items ++ line_of_ring device.now.state ring) }
+    ensures { result ≡ doing_of device.now.state ring }
 {
-    put_one(out, "ring ", u64::from(ring), said_of(device, ring))?;
-    put_job(out, device, job(device, ring))
+    if !device.pending(ring).is_empty() {
+        return Doing::Busy;
+    }
+    match device.choice(ring) {
+        Some(_) => Doing::Ready,
+        None => queued(device, first_queued(device, ring)),
+    }
 }
 
-/// The text of what each ring does.
-pub(crate) fn rings_text(alloc: Global, device: &Device) -> Result<Vec<u8>, AllocError>
-    ensures { IfOk result (λ text. text.items ≡ text_of_rings device.now.state) }
+// Returns what each ring does.
+fn doings(alloc: Global, device: &Device) -> Result<Sequence<Doing>, AllocError>
+    ensures { IfOk result (λ doings. doings ≡ doings_of device.now.state) }
 {
     device.facts();
-    let mut out = Vec::new(alloc);
+    let mut doings = Vec::new(alloc);
     let rings = device.spec().rings.len() as RingId;
     for ring in 0..rings {
-        put_ring(&mut out, device, ring)?;
+        doings.push(doing_at(device, ring))?;
     }
-    Ok(out)
+    Ok(Sequence::from_vec(doings))
 }
 
-/// The text of the reasons of all jobs.
-pub(crate) fn jobs_text(alloc: Global, device: &Device) -> Result<Vec<u8>, AllocError>
-    ensures { IfOk result (λ text. text.items ≡ text_of_jobs device.now.state) }
+// Returns what is seen of the rings, where this moment was told last.
+fn row_of(alloc: Global, device: &Device, clock: Moment) -> Result<Row, AllocError>
+    ensures { IfOk result (λ row. IsRow device.now.state clock row) }
 {
-    let mut out = Vec::new(alloc);
-    for number in 0..device.armed() {
-        put_link(&mut out, linked(device, number))?;
+    Ok(Row {
+        clock,
+        doings: doings(alloc, device)?,
+    })
+}
+
+/// Gives the core all events, and returns what is seen of the rings behind each.
+pub(crate) fn take_rows(
+    alloc: Global,
+    core: &mut Core,
+    events: Events,
+) -> Result<Vec<Row>, AllocError>
+    requires names { AllNamesExist core.old.device.spec events }
+    requires lawful { IsLawful core.old }
+    ensures { IfOk result (λ rows. SeesRows 0 core.old events rows.items core.new) }
+{
+    let mut rows = Vec::new(alloc);
+    let mut clock = 0;
+    let mut rest = events.into_left();
+    while let Some(event) = rest.next() {
+        clock = clock_after(clock, command(&event));
+        core.apply(alloc, event);
+        let row = row_of(alloc, core.device(), clock)?;
+        rows.push(row)?;
     }
-    Ok(out)
+    Ok(rows)
 }

@@ -1,16 +1,19 @@
 //! What is seen of a job while commands happen, and where its reason changes.
 
-ghost use Rattle.std.specs.Prelude.{◌≡◌, ◌↔◌, IfOk, IsTrue};
+ghost use Rattle.std.specs.Prelude.{◌≡◌, ◌∷◌, ◌++◌, [], IfOk, OnOk};
 ghost use Rattle.drm_core.specs.Lawful.{IsLawful};
 ghost use Rattle.drm_core.specs.Run.{AllNamesExist};
+ghost use Rattle.drm_reason.specs.Watching.{Knows};
 ghost use Rattle.drm_reason.specs.declared.reason.Reason.TheVariants as reason;
-ghost use Rattle.drm_why.specs.Seeing.{AreChanges, AreLinks, IsChanged, Sees, clock_behind, clock_of, command_of};
+ghost use Rattle.drm_why.specs.Chains.{IsChainFrom, holder_of, link_of, link_with};
+ghost use Rattle.drm_why.specs.Seeing.{AddsLook, AreChanges, AreLinks, IsChanged, IsLook, Sees, clock_behind, clock_of, command_of, reason_behind};
 
-use crate::chain::{Link, chain};
+use crate::chain::{Link, holder};
+use crate::same::are_same;
 use drm_core::{Core, Event};
 use drm_job::Draft;
 use drm_picture::moment;
-use drm_reason::{Reason, Watch, knowledge_stays};
+use drm_reason::{Reason, Watch, knowledge_stays, reason_of};
 use drm_sched::Device;
 use drm_script::Events;
 use drm_types::{EntityId, FenceId, Moment, Sequence};
@@ -42,28 +45,73 @@ pub struct Change {
     pub links: Sequence<Link>,
 }
 
-// What a command does: the event with the entity of the job that it brings.
-fn command(event: &Event<Draft>) -> Event<EntityId>
+/// Returns what a command does: the event with the entity of the job that it brings.
+pub(crate) fn command(event: &Event<Draft>) -> Event<EntityId>
     ensures { result ≡ command_of event.now }
 {
     event.map_job(|draft| draft.entity)
 }
 
-// Whether the reasons are the same.
-fn are_same(one: Reason, other: Reason) -> bool
-    ensures { IsTrue result ↔ (one ≡ other) }
-{
-    one == other
-}
-
-// The moment that was told last behind this command.
-fn clock_after(clock: Moment, command: Event<EntityId>) -> Moment
+/// Returns the moment that was told last behind this command.
+pub(crate) fn clock_after(clock: Moment, command: Event<EntityId>) -> Moment
     ensures { result ≡ clock_behind clock command }
 {
     moment(&command).unwrap_or(clock)
 }
 
-// The jobs that hold the job up, where its reason is another than before.
+// Adds the job of this number with this reason, and returns the job by which that holds it up.
+fn add_reason(
+    links: &mut Vec<Link>,
+    fence: FenceId,
+    reason: &Reason,
+) -> Result<Option<FenceId>, AllocError>
+    ensures next { IfOk result (λ next. next ≡ holder_of reason.now) }
+    ensures links { OnOk result (links.new.items ≡ links.old.items ++ link_with fence reason.now ∷ []) }
+{
+    links.push(Link {
+        fence,
+        reason: *reason,
+    })?;
+    Ok(holder(*reason))
+}
+
+// Adds the job of this number with its reason, and returns the job by which that holds it up.
+fn add_link(
+    device: &Device,
+    links: &mut Vec<Link>,
+    fence: FenceId,
+) -> Result<Option<FenceId>, AllocError>
+    ensures next { IfOk result (λ next. next ≡ holder_of (link_of device.now.state fence).reason) }
+    ensures links { OnOk result (links.new.items ≡ links.old.items ++ link_of device.now.state fence ∷ []) }
+{
+    let reason = reason_of(device, fence);
+    add_reason(links, fence, &reason)
+}
+
+// Returns the jobs that hold up the job of this number, one the other. The first of them is this one, if there is one.
+fn chain(
+    alloc: Global,
+    device: &Device,
+    fence: FenceId,
+    first: Option<FenceId>,
+) -> Result<Vec<Link>, AllocError>
+    ensures { IfOk result (λ links. IsChainFrom device.now.state fence first links.items) }
+{
+    let mut links = Vec::new(alloc);
+    let mut number = fence;
+    let mut next = first;
+    while let Some(by) = next {
+        let following = add_link(device, &mut links, by)?;
+        if number <= by {
+            return Ok(links);
+        }
+        number = by;
+        next = following;
+    }
+    Ok(links)
+}
+
+// Returns the jobs that hold the job up, where its reason is another than before.
 fn links(
     alloc: Global,
     device: &Device,
@@ -76,16 +124,73 @@ fn links(
     if are_same(reason, before) {
         return Ok(Sequence::new(alloc));
     }
-    Ok(Sequence::from_vec(chain(alloc, device, fence, reason)?))
+    let first = holder(reason);
+    Ok(Sequence::from_vec(chain(alloc, device, fence, first)?))
 }
 
-// A copy of these.
+// Copies these.
 fn copied(alloc: Global, links: &[Link]) -> Result<Sequence<Link>, AllocError>
     ensures { IfOk result (λ copy. copy ≡ links.now) }
 {
     let mut copy = Vec::new(alloc);
-    copy.extend_from_slice(links)?;
+    for number in 0..links.len() {
+        let link = &links[number];
+        copy.push(Link {
+            fence: link.fence,
+            reason: link.reason,
+        })?;
+    }
     Ok(Sequence::from_vec(copy))
+}
+
+// Returns what is seen of the job behind this command, where it has this reason and had another one before.
+fn seen_of(
+    alloc: Global,
+    device: &Device,
+    fence: FenceId,
+    before: Reason,
+    reason: &Reason,
+    command: &Event<EntityId>,
+) -> Result<Seen, AllocError>
+    ensures { IfOk result (λ seen. IsLook device.now.state fence before reason.now command.now seen) }
+{
+    let links = links(alloc, device, fence, before, *reason)?;
+    Ok(Seen {
+        command: *command,
+        reason: *reason,
+        links,
+    })
+}
+
+// Returns the reason that is seen last. Before the first command the job is not armed.
+fn last_reason(seens: &[Seen]) -> Reason
+    ensures { result ≡ reason_behind seens.now }
+{
+    match seens.last() {
+        Some(seen) => seen.reason,
+        None => Reason::NotArmed,
+    }
+}
+
+// Looks at the job behind this command, and adds what is seen.
+fn add_seen(
+    alloc: Global,
+    device: &Device,
+    watch: &mut Watch,
+    seens: &mut Vec<Seen>,
+    command: &Event<EntityId>,
+) -> Result<(), AllocError>
+    requires { Knows device.now.state watch.old }
+    ensures seen { OnOk result (AddsLook device.now.state watch.old.fence command.now seens.old.items seens.new.items) }
+    ensures known { Knows device.now.state watch.new }
+    ensures fence { watch.new.fence ≡ watch.old.fence }
+{
+    let before = last_reason(seens);
+    let fence = watch.fence;
+    let reason = watch.look(device);
+    let seen = seen_of(alloc, device, fence, before, &reason, command)?;
+    seens.push(seen)?;
+    Ok(())
 }
 
 /// Gives the core all events, and keeps each command with what is seen of the job behind it. Before the first one it was
@@ -103,19 +208,11 @@ pub(crate) fn take_seen(
     knowledge_stays();
     let mut seens = Vec::new(alloc);
     let mut watch = Watch::of(fence);
-    let mut before = Reason::NotArmed;
     let mut rest = events.into_left();
     while let Some(event) = rest.next() {
         let command = command(&event);
         core.apply(alloc, event);
-        let reason = watch.look(core.device());
-        let links = links(alloc, core.device(), fence, before, reason)?;
-        seens.push(Seen {
-            command,
-            reason,
-            links,
-        })?;
-        before = reason;
+        add_seen(alloc, core.device(), &mut watch, &mut seens, &command)?;
     }
     Ok(seens)
 }
@@ -146,7 +243,7 @@ fn add_change(
     Ok(())
 }
 
-/// The changes of what was seen, from a core on which no job was armed.
+/// Returns the changes of what was seen, from a core on which no job was armed.
 pub(crate) fn changes(alloc: Global, seens: &[Seen]) -> Result<Vec<Change>, AllocError>
     ensures { IfOk result (λ changes. AreChanges reason.NotArmed 0 0 seens.now changes.items) }
 {
@@ -162,7 +259,7 @@ pub(crate) fn changes(alloc: Global, seens: &[Seen]) -> Result<Vec<Change>, Allo
     Ok(changes)
 }
 
-/// The moment that was told last of all.
+/// Returns the moment that was told last of all.
 pub(crate) fn last_clock(seens: &[Seen]) -> Moment
     ensures { result ≡ clock_of seens.now }
 {

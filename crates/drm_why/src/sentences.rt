@@ -8,7 +8,7 @@ use drm_reason::{How, Reason};
 use drm_types::{Access, BufferId, FenceId, Outcome, RingId};
 use std::alloc::AllocError;
 
-// What a job does with a buffer.
+// Returns what a job does with a buffer.
 fn verb(access: Access) -> &'static str
     ensures { result.now ≡ does access }
 {
@@ -55,7 +55,7 @@ fn put_how(out: &mut Vec<u8>, how: How) -> Result<(), AllocError>
     }
 }
 
-// Where a fence is.
+// Returns where a fence is.
 fn place(is_queued: bool) -> &'static str
     ensures { result.now ≡ said_of_place is_queued }
 {
@@ -66,7 +66,7 @@ fn place(is_queued: bool) -> &'static str
     }
 }
 
-#[tactic(auto, unfolding(crate::specs::Sentences::said_of_wait, crate::specs::Sentences::one_in))]
+#[tactic(auto, unfolding(crate::specs::Sentences::said_of_wait))]
 fn put_wait(
     out: &mut Vec<u8>,
     fence: FenceId,
@@ -76,11 +76,9 @@ fn put_wait(
 ) -> Result<(), AllocError>
     ensures { OnOk result (out.new.items ≡ out.old.items ++ said_of_wait fence how ring is_queued) }
 {
-    put_text(out, "waits for fence ")?;
-    put_number(out, u64::from(fence))?;
+    put_one(out, "waits for fence ", u64::from(fence), "")?;
     put_how(out, how)?;
-    put_text(out, place(is_queued))?;
-    put_number(out, u64::from(ring))
+    put_one(out, place(is_queued), u64::from(ring), "")
 }
 
 // Puts what is said of the job of a stopped entity.
@@ -112,7 +110,7 @@ fn put_credits(out: &mut Vec<u8>, ring: RingId, need: u32, free: u32) -> Result<
     put_one(out, " has ", u64::from(free), " left")
 }
 
-// How a job has ended.
+// Returns how a job has ended.
 fn end(outcome: Outcome) -> &'static str
     ensures { result.now ≡ said_of_end outcome }
 {

@@ -97,9 +97,13 @@ const JOBS: &[u8] = b"fence 0 runs packet 1 on ring 0\n\
 fence 1 waits for fence 0, which writes buffer 0 that this job reads, and is pending on ring 0\n\
 fence 2 waits behind fence 1, the first in the queue of its entity\n";
 
-const RINGS: &[u8] = b"ring 0 is busy: fence 0 runs packet 1 on ring 0\n\
-ring 1 is idle: fence 1 waits for fence 0, which writes buffer 0 that this job reads, and is pending on ring 0\n\
-ring 2 is idle: nothing is queued for it\n";
+const RINGS: &[u8] =
+    b"ring 0: busy for 2 commands and 0 moments, idle with nothing queued for 0 and 0, with a job to take for 3 and 3, \
+with a stopped job for 0 and 0, held up by fences for 0 and 0\n\
+ring 1: busy for 0 commands and 0 moments, idle with nothing queued for 1 and 0, with a job to take for 0 and 0, \
+with a stopped job for 0 and 0, held up by fences for 4 and 3, longest by fence 0, for 4 and 3\n\
+ring 2: busy for 0 commands and 0 moments, idle with nothing queued for 5 and 3, with a job to take for 0 and 0, \
+with a stopped job for 0 and 0, held up by fences for 0 and 0\n";
 
 // The life of the job of this fence is this text.
 fn tells<R: Abort>(text: &[u8], fence: u32, told: &[u8], rt: &R, alloc: Global) {

@@ -3,7 +3,7 @@ use Rattle.std.specs.Prelude.{flat_map}
 use Rattle.drm_state.specs.Journal.{numbered}
 use Rattle.drm_why.specs.Chains.{link_of}
 use Rattle.drm_why.specs.Lines.{line_of_link}
-use Rattle.drm_why.proofs.rings.jobs_text.Given as goal
+use Rattle.drm_why.proofs.jobs.jobs_text.Given as goal
 
 abbrev pub invariant-loop-number : goal.invariant-loop-number
 invariant-loop-number l =

@@ -9,7 +9,7 @@ loop-number-preserved c =
     let changes = c.args.changes.now in
     let number = c.loop-number.number in
     let change = c.index-changes-number.result in
-    let at = at_index changes number change c.index-changes-number.is (omega (arith, c.loop-number-test.true, c.len.ensures)) in
+    let at = at_index changes number change c.index-changes-number.is (omega (arith, c.loop-number-test.true)) in
     span_more changes c.args.place c.args.clock number change (c.args.out.now.items ++ spans_text c.args.place c.args.clock changes) c.loop-number.out.items
     c.put_span_at.new.out.items at c.in_ok-put_span_at.ensures c.loop-number.invariant
 
@@ -17,4 +17,4 @@ pub returns : goal.returns
 returns c =
     let changes = c.args.changes.now in
     spans_end changes c.args.place c.args.clock c.loop-number.number (c.args.out.now.items ++ spans_text c.args.place c.args.clock changes) c.loop-number.out.items
-    (omega (arith, c.loop-number-test.false, c.len.ensures)) c.loop-number.invariant
+    (omega (arith, c.loop-number-test.false)) c.loop-number.invariant
