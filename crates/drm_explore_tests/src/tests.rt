@@ -1,6 +1,6 @@
 use crate::explore_on;
 use drm_engine_tests::SlowWriter;
-use drm_explore::Options;
+use drm_explore::{Options, Wanted};
 use std::alloc::Global;
 use std::process::Abort;
 use std::test::Fail;
@@ -38,6 +38,7 @@ const AS_DRIVERS_DO: Options = Options {
     backs_off: true,
     reaps: true,
     most: 1_000_000,
+    wanted: Wanted::Table,
 };
 
 // The exploration ends with this status, and has written this.
@@ -70,6 +71,54 @@ fn tells_that_a_job_which_nobody_reaps_is_stuck(rt: HostRuntime) -> Result<(), F
     let text = b"buffer 07\nring 4 10 0\nentity 0 normal\njobs 8\ngo\nsubmit 0 1\ncancel 0\n";
     let told = b"states 9\nmoves 9\nlongest 4\nstuck 1\nfinal 0 07 none\nfinal 1 07 1\n";
     tells(text, stays, 1, told, &rt, rt.alloc());
+    Ok(())
+}
+
+const PLAIN_MUTEXES: Options = Options {
+    backs_off: false,
+    ..AS_DRIVERS_DO
+};
+
+#[test]
+fn writes_how_two_contexts_come_to_wait_for_each_other(rt: HostRuntime) -> Result<(), Fail> {
+    let stuck = Options {
+        wanted: Wanted::Stuck,
+        ..PLAIN_MUTEXES
+    };
+    let told =
+        b"buffer 00000000\nbuffer 00000000\nring 4 10 0\nentity 0 normal\nentity 0 normal\njobs 8\ngo\n\
+begin 0\ntry 0 0\nbegin 1\ntry 1 1\n";
+    tells(ABBA, stuck, 1, told, &rt, rt.alloc());
+    Ok(())
+}
+
+#[test]
+fn writes_nothing_where_nothing_is_stuck(rt: HostRuntime) -> Result<(), Fail> {
+    let stuck = Options {
+        wanted: Wanted::Stuck,
+        ..AS_DRIVERS_DO
+    };
+    tells(ABBA, stuck, 0, b"", &rt, rt.alloc());
+    Ok(())
+}
+
+const ONE_JOB: &[u8] =
+    b"buffer 07\nring 4 10 0\nentity 0 normal\njobs 8\ngo\nsubmit 0 1 w0 fill:0:0:1:08\n";
+
+#[test]
+fn writes_how_a_final_is_come_to(rt: HostRuntime) -> Result<(), Fail> {
+    let first = Options {
+        wanted: Wanted::Final(0),
+        ..AS_DRIVERS_DO
+    };
+    let told = b"buffer 07\nring 4 10 0\nentity 0 normal\njobs 8\ngo\n\
+submit 0 1 w0 fill:0:0:1:08\npick 0 0\nstep 0\nfinish 0 0\n";
+    tells(ONE_JOB, first, 0, told, &rt, rt.alloc());
+    let second = Options {
+        wanted: Wanted::Final(1),
+        ..AS_DRIVERS_DO
+    };
+    tells(ONE_JOB, second, 0, b"", &rt, rt.alloc());
     Ok(())
 }
 

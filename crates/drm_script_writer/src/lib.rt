@@ -1,7 +1,7 @@
 //! Scripts as text, written: what `drm_script` reads.
 //!
-//! `write_script` writes the header of a device and a line for each event. If the text is no longer than texts may be, it
-//! spells the script, and `read_script` gives back the same device and the same events.
+//! `write_script` writes the header of a device and a line for each event. If the text is no longer than texts may be,
+//! it spells the script, and `read_script` gives back the same device and the same events.
 #![tactic(auto)]
 
 mod command;

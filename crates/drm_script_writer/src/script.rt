@@ -12,8 +12,8 @@ use drm_job::Draft;
 use drm_types::DeviceSpec;
 use std::alloc::{AllocError, Global};
 
-/// Returns the text of the script with this device and these events. If it is no longer than texts may be, it spells the
-/// script and is read as it.
+/// Returns the text of the script with this device and these events. If it is no longer than texts may be, it spells
+/// the script and is read as it.
 ///
 /// # Errors
 ///
