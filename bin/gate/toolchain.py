@@ -36,6 +36,8 @@ def command():
 # The toolchain's readers: of a wrong body's file, of a crate's files and libraries, of the functions of a file.
 gate = load("rt_command", command())
 library = gate.rtlib
+# What a check says that met a limit, as the toolchain's own gate knows it where it does.
+LIMITS = getattr(gate, "LIMITS", re.compile("could not tell|limit"))
 reader = load("rt_reader", f"{os.path.dirname(command())}/rt-plant-bodies")
 # Some toolchains take the sum of a crate once for each path to it. Nobody changes sources while a tool runs.
 library.Crate.stamp = functools.lru_cache(None)(library.Crate.stamp)

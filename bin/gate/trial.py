@@ -115,7 +115,7 @@ class Trial:
             return Result(BAD if status == 1 else UNTRIED, next((it for it in lines if "error" in it), lines[-1]))
         if status == 1 and said:
             return judge(said)
-        limit = next(filter(toolchain.gate.LIMITS.search, lines), None)
+        limit = next(filter(toolchain.LIMITS.search, lines), None)
         if status == 3 and limit:
             return Result(LIMIT, limit)
         return Result(MISSED if status == 0 else UNTRIED, lines[-1])
