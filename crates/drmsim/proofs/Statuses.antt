@@ -65,8 +65,8 @@ judged_without_memory None source sink = (refl, refl)
 
 -- and a test
 tested_without_memory : (lowers : Bool) (source : SourceState) (sink : SinkState) → TestsScript lowers source.remaining sink.contents sink.contents ending.NoMemory
-tested_without_memory true source sink = untouched sink.contents
-tested_without_memory false source sink = untouched sink.contents
+tested_without_memory true source sink = inr (inr refl, untouched sink.contents)
+tested_without_memory false source sink = inr (inr refl, untouched sink.contents)
 
 -- and whatever is asked for
 done_without_memory : (asked : Request) (source : SourceState) (sink : SinkState) → Does asked source source sink sink (outcome.Ended ending.NoMemory)

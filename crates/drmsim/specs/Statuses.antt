@@ -126,8 +126,8 @@ JudgesAsked None before after old new came = JudgesNothing before after old new 
 
 -- what each ending says of a script that is tested, or written without what it expects
 abbrev pub TestsScript : Bool → Option (List ℕ) → Option (List ℕ) → Option (List ℕ) → Ending → Type 0
-TestsScript true = Lowers
-TestsScript false = Tests
+TestsScript true input old new ended = Lowers input old new ended
+TestsScript false input old new ended = Tests input old new ended
 
 -- what is taken for the time of a command
 abbrev pub clock_asked : Bool → Clock

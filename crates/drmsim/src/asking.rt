@@ -95,8 +95,8 @@ pub(crate) fn explore_orders<R: Read, W: Write>(
     reader: &mut Source<R>,
     writer: &mut Sink<W>,
 ) -> Outcome
-    ensures outcome { ExploresAsked how.backs_off how.reaps (number_of_word 1000000 (option_map (λ w. w.now) how.most.entry))
-        (wanted_asked how.stuck (option_map (λ w. w.now) how.reached.entry)) reader.old reader.new writer.old writer.new result }
+    ensures outcome { ExploresAsked how.entry.backs_off how.entry.reaps (number_of_word 1000000 (option_map (λ w. w.now) how.entry.most))
+        (wanted_asked how.entry.stuck (option_map (λ w. w.now) how.entry.reached)) reader.old reader.new writer.old writer.new result }
     ensures failures { EndsSo reader.old reader.new writer.old writer.new result }
 {
     let Some(most) = number_or(1_000_000, how.most) else {
