@@ -71,9 +71,9 @@ draw_app = with_rule (with_rule (new_app (codes "draw")) (text_rule (codes "from
 abbrev pub orders_app : App
 orders_app = with_rule (with_rule (with_rule (new_app (codes "explore")) (flag_rule (codes "mutex"))) (flag_rule (codes "no-reap"))) (text_rule (codes "states"))
 
--- and writes a script that leads to a stuck state, or to a final
+-- and writes a script that leads to a stuck state, or to a final, or scripts that together make each move
 abbrev pub explore_app : App
-explore_app = with_rule (with_rule orders_app (flag_rule (codes "stuck"))) (text_rule (codes "final"))
+explore_app = with_rule (with_rule (with_rule orders_app (flag_rule (codes "stuck"))) (text_rule (codes "final"))) (flag_rule (codes "cover"))
 
 -- tells why the job of a fence waits, which may follow it, or all jobs, or the rings
 abbrev pub why_app : App
@@ -126,9 +126,9 @@ Asks name rows (Work submitters turns) =
     (name ≡ codes "run") × IsNumber (codes "threads") most_submitters rows submitters × IsNumber (codes "turns") most_turns rows turns
 Asks name rows (Explain word) = (name ≡ codes "explain") × Gives (codes "number") rows word
 Asks name rows (Draw from to) = (name ≡ codes "draw") × Gives (codes "from") rows from × Gives (codes "to") rows to
-Asks name rows (Explore backs_off reaps most stuck reached) =
+Asks name rows (Explore backs_off reaps most stuck reached cover) =
     (name ≡ codes "explore") × (backs_off ≡ not (is_set (codes "mutex") rows)) × (reaps ≡ not (is_set (codes "no-reap") rows)) × Gives (codes "states") rows most
-    × (stuck ≡ is_set (codes "stuck") rows) × Gives (codes "final") rows reached
+    × (stuck ≡ is_set (codes "stuck") rows) × Gives (codes "final") rows reached × (cover ≡ is_set (codes "cover") rows)
 Asks name rows (Why fence all rings) =
     (name ≡ codes "why") × Gives (codes "fence") rows fence × (all ≡ is_set (codes "all") rows) × (rings ≡ is_set (codes "rings") rows)
 Asks name rows (Test lowers) = (name ≡ codes "test") × (lowers ≡ is_set (codes "lower") rows)

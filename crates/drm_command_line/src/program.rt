@@ -213,7 +213,12 @@ fn explore_command<'a>(alloc: Global) -> Result<Command<'a>, AllocError>
         "N",
         "Writes a shortest script that leads to final N, or nothing",
     );
-    orders_command(alloc)?.arg(stuck)?.arg(reached)
+    let cover = flag(
+        alloc,
+        "cover",
+        "Writes scripts that together make each move, each with its answers",
+    );
+    orders_command(alloc)?.arg(stuck)?.arg(reached)?.arg(cover)
 }
 
 /// Returns the command that tells why jobs wait.

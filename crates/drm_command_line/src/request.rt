@@ -50,6 +50,8 @@ pub enum Request<'a> {
         stuck: bool,
         /// The word that spells the number of the final to which a script is written, in place of the table.
         reached: Option<&'a str>,
+        /// Whether scripts that together make each move are written, in place of the table.
+        cover: bool,
     },
     /// To tell why jobs of a script wait.
     Why {
@@ -135,6 +137,7 @@ fn request_of<'a>(name: &str, command: &ArgMatches<'a>) -> Request<'a>
             most: command.get_str("states"),
             stuck: is_on(command, "stuck"),
             reached: command.get_str("final"),
+            cover: is_on(command, "cover"),
         },
         "why" => Request::Why {
             fence: command.get_str("fence"),

@@ -38,6 +38,18 @@ fn command_lines(rt: HostRuntime) -> Result<(), Fail> {
                 most: Some("9"),
                 stuck: false,
                 reached: None,
+                cover: false,
+            },
+        ),
+        (
+            &["drmsim", "explore", "--cover"],
+            Request::Explore {
+                backs_off: true,
+                reaps: true,
+                most: None,
+                stuck: false,
+                reached: None,
+                cover: true,
             },
         ),
         (

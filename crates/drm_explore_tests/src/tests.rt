@@ -122,6 +122,42 @@ submit 0 1 w0 fill:0:0:1:08\npick 0 0\nstep 0\nfinish 0 0\n";
     Ok(())
 }
 
+const COVER: Options = Options {
+    wanted: Wanted::Cover,
+    ..AS_DRIVERS_DO
+};
+
+const TWO_LINES: &[u8] =
+    b"buffer 07\nring 4 10 0\nentity 0 normal\njobs 8\ngo\nbegin 0\ncancel 0\n";
+
+const TWO_SCRIPTS: &[u8] =
+    b"# script 0\nbuffer 07\nring 4 10 0\nentity 0 normal\njobs 8\ngo\ncancel 0 = ok\nbegin 0 = ticket 1\n\
+# script 1\nbuffer 07\nring 4 10 0\nentity 0 normal\njobs 8\ngo\nbegin 0 = ticket 1\ncancel 0 = ok\n";
+
+#[test]
+fn writes_scripts_that_make_each_move(rt: HostRuntime) -> Result<(), Fail> {
+    tells(TWO_LINES, COVER, 0, TWO_SCRIPTS, &rt, rt.alloc());
+    Ok(())
+}
+
+#[test]
+fn writes_no_script_where_there_is_no_move(rt: HostRuntime) -> Result<(), Fail> {
+    let text = b"buffer 07\nring 4 10 0\nentity 0 normal\njobs 8\ngo\n";
+    tells(text, COVER, 0, b"", &rt, rt.alloc());
+    Ok(())
+}
+
+#[test]
+fn tells_of_a_write_of_scripts_that_fails(rt: HostRuntime) -> Result<(), Fail> {
+    for cut in 0..TWO_SCRIPTS.len() {
+        let writer = SlowWriter::new(rt.alloc(), 1, Some(cut));
+        let (ending, out) = explore_on(rt.alloc(), COVER, TWO_LINES, None, writer);
+        assert_eq!(rt; ending.status(), 4);
+        assert!(rt; out.taken.as_slice() == &TWO_SCRIPTS[..cut]);
+    }
+    Ok(())
+}
+
 #[test]
 fn refuses_a_job_that_names_a_fence(rt: HostRuntime) -> Result<(), Fail> {
     let text =

@@ -44,13 +44,15 @@ fn count_told(
         stuck: 0,
         over: 0,
     };
-    for (way, moves) in found.ways.iter().zip(found.moves.as_slice()) {
-        counted.moves = counted.moves.saturating_add(*moves);
+    for place in 0..found.ways.len() {
+        let way = found.ways.way(alloc, place)?;
+        let moves = found.moves.get(place).copied().unwrap_or(0);
+        counted.moves = counted.moves.saturating_add(moves);
         counted.longest = counted.longest.max(way.len());
         let stage = orders.scene().stage_at(alloc, way.as_slice())?;
         if orders.scene().is_over(&stage.play) {
             counted.over = counted.over.saturating_add(1);
-        } else if *moves == 0 {
+        } else if moves == 0 {
             counted.stuck = counted.stuck.saturating_add(1);
         }
     }

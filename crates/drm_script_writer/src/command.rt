@@ -58,8 +58,12 @@ fn put_buffer_line(
     put_line(out, word, &[u64::from(ctx), u64::from(buffer.number())])
 }
 
-// Adds the line of a command.
-fn put_command(out: &mut Vec<u8>, event: &Event<Draft>) -> Result<(), AllocError>
+/// Adds the line of a command.
+///
+/// # Errors
+///
+/// It fails if there is no memory.
+pub fn put_command(out: &mut Vec<u8>, event: &Event<Draft>) -> Result<(), AllocError>
     ensures value { OnOk result (out.new.items ≡ out.old.items ++ line_of_command event.now) }
     ensures fits { OnOk result (NumbersFit event.now) }
 {

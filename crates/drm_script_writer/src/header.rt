@@ -111,8 +111,12 @@ fn put_entities(out: &mut Vec<u8>, entities: &[EntitySpec]) -> Result<(), AllocE
 }
 
 /// Adds the lines that describe a device, up to `go`.
+///
+/// # Errors
+///
+/// It fails if there is no memory.
 #[tactic(auto, unfolding(crate::specs::Texts::text_of_header))]
-pub(crate) fn put_header(out: &mut Vec<u8>, spec: &DeviceSpec) -> Result<(), AllocError>
+pub fn put_header(out: &mut Vec<u8>, spec: &DeviceSpec) -> Result<(), AllocError>
     ensures value { OnOk result (out.new.items ≡ out.old.items ++ text_of_header spec.now) }
     ensures fits { OnOk result (DeviceFits spec.now) }
 {

@@ -64,11 +64,12 @@ ending_of_exploring (exploring.Ended ended) = ended
 ending_of_exploring exploring.Stuck = ending.Stuck
 ending_of_exploring exploring.GaveUp = ending.MoreStates
 
--- what is wanted of all orders: a script to a stuck state, else to the final that a word spells, else the table
-abbrev pub wanted_asked : Bool → Option Text → Option Wanted
-wanted_asked true reached = Some wanted.Stuck
-wanted_asked false None = Some wanted.Table
-wanted_asked false (Some text) = option_map (λ number. wanted.Final number) (number_up_to 4294967295 text)
+-- what is wanted of all orders: a script to a stuck state, else a cover, else a script to the final that a word spells, else the table
+abbrev pub wanted_asked : Bool → Bool → Option Text → Option Wanted
+wanted_asked true cover reached = Some wanted.Stuck
+wanted_asked false true reached = Some wanted.Cover
+wanted_asked false false None = Some wanted.Table
+wanted_asked false false (Some text) = option_map (λ number. wanted.Final number) (number_up_to 4294967295 text)
 
 -- what each outcome of an exploration says for which a word spells no number
 abbrev pub ExploresNothing : SourceState → SourceState → SinkState → SinkState → Outcome → Type 0
@@ -144,8 +145,8 @@ Does (request.Work submitters turns) before after old new came = Ends (worked.Ru
 Does (request.Explain word) before after old new came = (after ≡ before) × Ends (Tells (option_map (λ w. w.now) word) old.contents new.contents) came
 Does (request.Draw from to) before after old new came =
     Ends (DrawsBetween (number_of_word 0 (option_map (λ w. w.now) from)) (number_of_word 4294967295 (option_map (λ w. w.now) to)) before after old new) came
-Does (request.Explore backs_off reaps most stuck reached) before after old new came =
-    ExploresAsked backs_off reaps (number_of_word 1000000 (option_map (λ w. w.now) most)) (wanted_asked stuck (option_map (λ w. w.now) reached)) before after old new came
+Does (request.Explore backs_off reaps most stuck reached cover) before after old new came =
+    ExploresAsked backs_off reaps (number_of_word 1000000 (option_map (λ w. w.now) most)) (wanted_asked stuck cover (option_map (λ w. w.now) reached)) before after old new came
 Does (request.Why fence all rings) before after old new came = WhysAsked (question_asked (option_map (λ w. w.now) fence) all rings) before after old new came
 Does (request.Test lowers) before after old new came =
     Ends (TestsScript lowers before.remaining old.contents new.contents) came

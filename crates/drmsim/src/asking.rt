@@ -70,14 +70,20 @@ pub(crate) struct Exploration<'a> {
     pub(crate) stuck: bool,
     /// The word that spells the number of the final to which a script is wanted.
     pub(crate) reached: Option<&'a str>,
+    /// Whether scripts that together make each move are wanted.
+    pub(crate) cover: bool,
 }
 
-/// Returns what is wanted of all orders: a script to a stuck state, else to the final that a word spells, else the table.
-fn wanted(stuck: bool, reached: Option<&str>) -> Option<Wanted>
-    ensures { result ≡ wanted_asked stuck (option_map (λ w. w.now) reached.entry) }
+/// Returns what is wanted of all orders: a script to a stuck state, else a cover, else a script to the final that a word
+/// spells, else the table.
+fn wanted(stuck: bool, cover: bool, reached: Option<&str>) -> Option<Wanted>
+    ensures { result ≡ wanted_asked stuck cover (option_map (λ w. w.now) reached.entry) }
 {
     if stuck {
         return Some(Wanted::Stuck);
+    }
+    if cover {
+        return Some(Wanted::Cover);
     }
     match reached {
         Some(word) => {
@@ -96,13 +102,13 @@ pub(crate) fn explore_orders<R: Read, W: Write>(
     writer: &mut Sink<W>,
 ) -> Outcome
     ensures outcome { ExploresAsked how.entry.backs_off how.entry.reaps (number_of_word 1000000 (option_map (λ w. w.now) how.entry.most))
-        (wanted_asked how.entry.stuck (option_map (λ w. w.now) how.entry.reached)) reader.old reader.new writer.old writer.new result }
+        (wanted_asked how.entry.stuck how.entry.cover (option_map (λ w. w.now) how.entry.reached)) reader.old reader.new writer.old writer.new result }
     ensures failures { EndsSo reader.old reader.new writer.old writer.new result }
 {
     let Some(most) = number_or(1_000_000, how.most) else {
         return Outcome::Ended(Ending::NoStates);
     };
-    let Some(wanted) = wanted(how.stuck, how.reached) else {
+    let Some(wanted) = wanted(how.stuck, how.cover, how.reached) else {
         return Outcome::NoFinal;
     };
     let options = Options {

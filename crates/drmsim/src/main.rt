@@ -167,6 +167,7 @@ fn fulfil<H: Threads + Wait + Sync, R: Read, W: Write>(
             most,
             stuck,
             reached,
+            cover,
         } => {
             let how = Exploration {
                 backs_off,
@@ -174,6 +175,7 @@ fn fulfil<H: Threads + Wait + Sync, R: Read, W: Write>(
                 most,
                 stuck,
                 reached,
+                cover,
             };
             explore_orders(alloc, how, reader, writer)
         }

@@ -17,6 +17,7 @@ returns-in-explore c = (
   gives_first (found_of c.args.command.now) _ _ c.get_str-in-explore.ensures,
   c.is_on-in-explore-2.ensures,
   gives_first (found_of c.args.command.now) _ _ c.get_str-in-explore-2.ensures,
+  c.is_on-in-explore-3.ensures,
 )
 
 pub returns-in-why : goal.returns-in-why
