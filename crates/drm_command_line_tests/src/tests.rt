@@ -8,7 +8,7 @@ use std::test::Fail;
 
 #[test]
 fn command_lines(rt: HostRuntime) -> Result<(), Fail> {
-    let asked: [(&[&str], Request); 14] = [
+    let asked: [(&[&str], Request); 15] = [
         (&["drmsim", "replay"], Request::Run(Engine::Replay)),
         (&["drmsim", "serial"], Request::Run(Engine::Serial)),
         (&["drmsim", "check"], Request::Run(Engine::Check)),
