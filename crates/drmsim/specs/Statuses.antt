@@ -10,7 +10,7 @@ use Rattle.drm_engine.specs.declared.ending.Ending.{Ending}
 use Rattle.drm_engine.specs.declared.ending.Ending.TheVariants as ending
 use Rattle.drm_engine.specs.Engines.{Runs}
 use Rattle.drm_words.specs.Replaying.{ReplaysWithWords}
-use Rattle.drm_record.specs.Recording.{Records}
+use Rattle.drm_script_writer.specs.Recording.{Records}
 use Rattle.drm_run.specs.Runs as worked
 use Rattle.drm_explain.specs.Telling.{Tells}
 use Rattle.drm_draw.specs.Drawing.{Draws}
