@@ -25,8 +25,7 @@ use Rattle.drm_why.specs.declared.asking.Question.{Question}
 use Rattle.drm_why.specs.declared.asking.Question.TheVariants as question
 use Rattle.drm_expect.specs.Testing.{Lowers, Tests}
 use Rattle.drm_conform.specs.declared.options.Options as judge
-use Rattle.drm_conform.specs.declared.verdict.Verdict.{Verdict}
-use Rattle.drm_conform.specs.Verdicts as judging
+use Rattle.drm_conform.specs.Judging as judging
 use Rattle.drm_conform.specs.Asked.{options_asked}
 use Rattle.drm_perfetto.specs.Traces.{Traces}
 use Rattle.drm_perfetto.specs.declared.clock.Clock.{Clock}
@@ -115,7 +114,7 @@ JudgesNothing before after old new other = ⊥
 
 -- what each outcome says of a log that is judged
 abbrev pub JudgesBy : judge.Options → SourceState → SourceState → SinkState → SinkState → Outcome → Type 0
-JudgesBy options before after old new (outcome.Judged told) = judging.Tells options before.remaining old.contents new.contents told
+JudgesBy options before after old new (outcome.Judged judged) = judging.Tells options before.remaining old.contents new.contents judged.ending
 JudgesBy options before after old new (outcome.Ended ending.NoMemory) = IsUnused before after old new
 JudgesBy options before after old new other = ⊥
 
