@@ -20,16 +20,6 @@ led script core final lawful is names answered =
 pub recorded : (script : Script) (input old new : Option (List ℕ)) (ended : Ending) → IfSome input (λ text. judge_script text ≡ Ok script)
     → RecordsScript script old new ended → Records input old new ended
 recorded script input old new ending.Done spelled told = (script, spelled, told)
-recorded script input old new ending.Differs spelled never = absurd never
-recorded script input old new (ending.GaveUp worker turns) spelled never = absurd never
-recorded script input old new ending.NoThread spelled never = absurd never
-recorded script input old new (ending.Fault fault) spelled never = absurd never
-recorded script input old new ending.TooMany spelled never = absurd never
-recorded script input old new ending.NoCount spelled never = absurd never
-recorded script input old new ending.Stuck spelled never = absurd never
-recorded script input old new ending.MoreStates spelled never = absurd never
-recorded script input old new ending.NoStates spelled never = absurd never
-recorded script input old new (ending.Unexplained word) spelled never = absurd never
 recorded script input old new ending.NoMemory spelled kept = kept
-recorded script input old new ending.NoInput spelled never = absurd never
 recorded script input old new ending.NoOutput spelled told = (script, spelled, told)
+recorded script input old new other spelled never = absurd never
