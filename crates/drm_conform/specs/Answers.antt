@@ -1,5 +1,5 @@
 -- What is answered of a log.
-use Rattle.std.specs.Prelude.{◌≡◌, ℕ, Bool, true, false, ◌-◌, ◌*◌, ◌^◌, min, List, [], ◌∷◌, ◌++◌, flat_map, find, length, map, option_map, Option, Some, None, if◌then◌else◌}
+use Rattle.std.specs.Prelude.{ℕ, Bool, true, false, ◌-◌, ◌*◌, ◌^◌, min, List, [], ◌++◌, flat_map, find, length, map, option_map, Option}
 use Rattle.std.specs.Str.{bytes_eq}
 use Rattle.drm_trace.specs.declared.log.Log.{Log}
 use Rattle.drm_conform.specs.declared.options.Limit.{Limit}

@@ -1,5 +1,5 @@
 -- What the words of a command line ask of a log.
-use Rattle.std.specs.Prelude.{ℕ, Bool, ◌+◌, ◌==◌, nat_lt, List, [], ◌∷◌, ◌++◌, drop, length, option_map, take, Option, Some, None, if◌then◌else◌}
+use Rattle.std.specs.Prelude.{ℕ, Bool, ◌==◌, nat_lt, List, [], ◌∷◌, ◌++◌, drop, length, option_map, take, Option, Some, None, if◌then◌else◌}
 use Rattle.std.specs.List.{position_or_len}
 use Rattle.drm_text.specs.Cut.{parts_of}
 use Rattle.drm_text.specs.Number.{number_up_to}

@@ -1,6 +1,6 @@
 pub mod Answers
 pub mod Asked
+pub mod Judging
 pub mod Tables
 pub mod Times
-pub mod Verdicts
 pub mod Words

@@ -1,5 +1,5 @@
 -- How long jobs waited and ran, in nanoseconds.
-use Rattle.std.specs.Prelude.{ℕ, zero, suc, Bool, ◌+◌, ◌-◌, ◌^◌, ◌||◌, ◌&&◌, not, nat_lt, max, min, List, [], ◌∷◌, Option, Some, None, is_none, is_some, if◌then◌else◌}
+use Rattle.std.specs.Prelude.{ℕ, zero, suc, Bool, ◌+◌, ◌-◌, ◌^◌, ◌||◌, ◌&&◌, nat_lt, max, min, List, [], ◌∷◌, Option, Some, None, is_none, is_some, if◌then◌else◌}
 use Rattle.drm_trace.specs.declared.event.Event.{Event}
 use Rattle.drm_conform.specs.declared.times.Counts.{Counts}
 use Rattle.drm_conform.specs.declared.times.Times.{Times}

@@ -1,5 +1,5 @@
 -- What is told of a log, in words.
-use Rattle.std.specs.Prelude.{ℕ, zero, suc, Bool, true, false, ◌+◌, ◌/◌, ◌==◌, nat_lt, List, [], ◌∷◌, ◌++◌, codes, flat_map, length, Option, Some, None, slice_get, if◌then◌else◌}
+use Rattle.std.specs.Prelude.{ℕ, zero, suc, ◌/◌, ◌==◌, List, [], ◌++◌, codes, length, Option, Some, None, slice_get, if◌then◌else◌}
 use Rattle.std.specs.Fmt.{decimal}
 use Rattle.drm_trace.specs.declared.event.Event.{Event}
 use Rattle.drm_trace.specs.declared.kinds.Format.{Format}

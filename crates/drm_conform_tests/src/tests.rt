@@ -4,8 +4,9 @@ mod damaged;
 mod logs;
 mod streams;
 
-use crate::{SlowWriter, judge_on};
+use crate::judge_on;
 use drm_conform::Options;
+use drm_engine_tests::SlowWriter;
 use drm_types::Sequence;
 use std::alloc::Global;
 use std::process::Abort;
@@ -22,7 +23,7 @@ fn options(alloc: Global, tolerance: u64, in_order: bool) -> Options {
 
 /// Asks that a log is judged with this status, and that this is told of it.
 fn judged(rt: &impl Abort, alloc: Global, options: &Options, log: &[u8], status: u8, told: &str) {
-    let (verdict, writer) = judge_on(alloc, options, log, SlowWriter::new(alloc, 100, None));
+    let (judged, writer) = judge_on(alloc, options, log, SlowWriter::new(alloc, 100, None));
     assert_eq!(rt; writer.taken.as_slice(), told.as_bytes());
-    assert_eq!(rt; verdict.status(), status);
+    assert_eq!(rt; judged.ending.status(), status);
 }

@@ -14,15 +14,6 @@ pub compared : (lines : List Line) (script : Script) (answers : List Answer) (ol
     → AreAnswers script answers → ComparesOrLacks lines answers old new ended → TestsLines lines old new ended
 compared lines script answers old new ending.Done judged are told = (script, judged, (answers, are, told))
 compared lines script answers old new ending.Differs judged are told = (script, judged, (answers, are, told))
-compared lines script answers old new (ending.GaveUp worker turns) judged are never = absurd never
-compared lines script answers old new ending.NoThread judged are never = absurd never
-compared lines script answers old new (ending.Fault fault) judged are never = absurd never
-compared lines script answers old new ending.TooMany judged are never = absurd never
-compared lines script answers old new ending.NoCount judged are never = absurd never
-compared lines script answers old new ending.Stuck judged are never = absurd never
-compared lines script answers old new ending.MoreStates judged are never = absurd never
-compared lines script answers old new ending.NoStates judged are never = absurd never
-compared lines script answers old new (ending.Unexplained word) judged are never = absurd never
 compared lines script answers old new ending.NoMemory judged are kept = kept
-compared lines script answers old new ending.NoInput judged are never = absurd never
 compared lines script answers old new ending.NoOutput judged are told = (script, judged, (answers, are, told))
+compared lines script answers old new other judged are never = absurd never

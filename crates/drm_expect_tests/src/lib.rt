@@ -4,7 +4,7 @@
 
 ghost use Rattle.std.specs.Prelude.{Some};
 ghost use Rattle.drm_expect.specs.Testing.{Lowers, Tests};
-ghost use Rattle.drm_record.specs.Recording.{Records};
+ghost use Rattle.drm_script_writer.specs.Recording.{Records};
 
 #[cfg(test)]
 mod tested;
@@ -12,7 +12,7 @@ mod tested;
 use drm_engine::Ending;
 use drm_engine_tests::{SlowReader, SlowWriter};
 use drm_expect::{lower, test};
-use drm_record::replay_journal;
+use drm_script_writer::replay_journal;
 use drm_stream::{Sink, Source};
 use std::alloc::Global;
 

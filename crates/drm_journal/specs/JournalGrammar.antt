@@ -1,15 +1,14 @@
 -- The grammar of journals: the words of their lines, and the order of the lines.
-use Rattle.std.specs.Prelude.{◌≡◌, ◌<◌, ◌≤◌, ℕ, List, [], ◌∷◌, ◌++◌, length, map, codes, Option, Some, None, Ok}
+use Rattle.std.specs.Prelude.{◌≡◌, ◌≤◌, ℕ, List, [], ◌∷◌, ◌++◌, length, map, codes, Option, Some, None}
 use Rattle.std.specs.List.{AllByRecursion}
 use Rattle.std.specs.Fmt.{decimal}
 use Rattle.drm_types.specs.declared.outcome.Outcome.{Outcome}
 use Rattle.drm_types.specs.declared.outcome.Outcome.TheVariants as outcome
-use Rattle.drm_types.specs.declared.spec.DeviceSpec.{DeviceSpec}
 use Rattle.drm_text.specs.Grammar.{AreBytes, text_of_lines}
 use Rattle.drm_text.specs.Hexadecimal.{text_of_bytes}
 use Rattle.drm_journal.specs.declared.journal.JournalJob.{JournalJob}
-use Rattle.drm_parse.specs.Grammar.{IsNumber, Line, job_words, JobFits, RingFits, SpellsHeader}
-use Rattle.drm_journal.specs.Journal.{JournalParts, IsJournal, judge_journal}
+use Rattle.drm_parse.specs.Grammar.{IsNumber, Line, job_words, JobFits, SpellsHeader}
+use Rattle.drm_journal.specs.Journal.{JournalParts, IsJournal}
 
 -- the word of a status: of a job with this outcome, or with none
 abbrev pub status_word : Option Outcome → List ℕ
@@ -37,21 +36,3 @@ SpellsJournal text journal =
     × IsJournal journal × AllByRecursion RecordFits journal.jobs × AllByRecursion AreBytes journal.finals
     × (text ≡ text_of_lines (header ++ (map record_words journal.jobs ++ map final_words journal.finals ++ end_words ∷ [])))
     × (length text ≤ 1048576)
-
--- each of these is a byte
-abbrev pub HasBytes : List ℕ → Type 0
-HasBytes bytes = AllByRecursion (λ byte. byte < 256) bytes
-
--- the numbers and bytes of a device are in the ranges of texts
-abbrev pub DeviceFits : DeviceSpec → Type 0
-DeviceFits spec =
-    AllByRecursion HasBytes spec.buffers × AllByRecursion RingFits spec.rings × AllByRecursion (λ entity. AllByRecursion IsNumber entity.rings) spec.entities
-    × IsNumber spec.max_jobs
-
--- a text that is no longer than texts are spells the journal
-abbrev pub SpellsIfShort : List ℕ → JournalParts → Type 0
-SpellsIfShort text journal = length text ≤ 1048576 → SpellsJournal text journal
-
--- and is read as it
-abbrev pub IsReadIfShort : List ℕ → JournalParts → Type 0
-IsReadIfShort text journal = length text ≤ 1048576 → judge_journal text ≡ Ok journal

@@ -1,4 +1,3 @@
 pub mod Journal
 pub mod JournalGrammar
-pub mod JournalText
 pub mod Leaving

@@ -76,16 +76,6 @@ trace_of by script core final events Hold promised core_is events_is names trace
 -- what an ending says of a script, it says of the input that spells it
 pub traces_spelled : (by : Clock) (script : Script) (input old new : Option (List ℕ)) (ended : Ending) → IfSome input (λ bytes. judge_script bytes ≡ Ok script) → TracesScript by script old new ended → Traces by input old new ended
 traces_spelled by script input old new ending.Done spelled told = (script, spelled, told)
-traces_spelled by script input old new ending.Differs spelled never = absurd never
-traces_spelled by script input old new (ending.GaveUp worker turns) spelled never = absurd never
-traces_spelled by script input old new ending.NoThread spelled never = absurd never
-traces_spelled by script input old new ending.Stuck spelled told = elim told [ ]
-traces_spelled by script input old new ending.MoreStates spelled told = elim told [ ]
-traces_spelled by script input old new ending.NoStates spelled told = elim told [ ]
-traces_spelled by script input old new (ending.Fault fault) spelled never = absurd never
-traces_spelled by script input old new ending.TooMany spelled never = absurd never
-traces_spelled by script input old new ending.NoCount spelled never = absurd never
-traces_spelled by script input old new (ending.Unexplained word) spelled never = absurd never
 traces_spelled by script input old new ending.NoMemory spelled kept = kept
-traces_spelled by script input old new ending.NoInput spelled never = absurd never
 traces_spelled by script input old new ending.NoOutput spelled told = (script, spelled, told)
+traces_spelled by script input old new other spelled never = absurd never

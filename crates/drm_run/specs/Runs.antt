@@ -8,7 +8,7 @@ use Rattle.drm_workers.specs.declared.report.Report.{Report}
 use Rattle.drm_workers.specs.Reports.{IsReport}
 use Rattle.drm_script.specs.declared.run_script.RunScript.{RunScript}
 use Rattle.drm_journal.specs.Journal.{JournalParts}
-use Rattle.drm_journal.specs.JournalText.{text_of_journal}
+use Rattle.drm_script_writer.specs.Journals.{text_of_journal}
 use Rattle.drm_journal.specs.Leaving.{AreLeft, journal_told}
 use Rattle.drm_script.specs.Run.{judge_run}
 use Rattle.drm_stream.specs.Transfer.{AppendsFront}

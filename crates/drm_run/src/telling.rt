@@ -1,10 +1,11 @@
 //! The journal of what a run has left.
 ghost use Rattle.std.specs.Prelude.{◌≡◌, IfOk};
-ghost use Rattle.drm_journal.specs.JournalText.{text_of_journal};
+ghost use Rattle.drm_script_writer.specs.Journals.{text_of_journal};
 ghost use Rattle.drm_run.specs.Runs.{IsTold, journal_of};
 
 use drm_gpu::Closed;
-use drm_journal::{Journal, write_journal};
+use drm_journal::Journal;
+use drm_script_writer::write_journal;
 use std::alloc::{AllocError, Global};
 
 /// The text of the journal of what a device has left.

@@ -1,8 +1,7 @@
 use crate::expect::expect_eq;
 use crate::joined;
-use drm_journal::{
-    Journal, read_journal, read_journal_from, run_journal, run_journal_from, write_journal,
-};
+use drm_journal::{Journal, read_journal, read_journal_from, run_journal, run_journal_from};
+use drm_script_writer::write_journal;
 use drm_stream::Source;
 use drm_text::{Fault, ReadError};
 use std::alloc::{AllocError, Global};

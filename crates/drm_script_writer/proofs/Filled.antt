@@ -1,5 +1,5 @@
--- No buffer of a device is empty, and no list of an entity's rings is.
-use Rattle.std.proofs.Common.{◌≡◌, ℕ, Bool, true, List, [], ◌∷◌, length, None, refl}
+-- No buffer of a device is empty, no list of an entity's rings is, and none of the last bytes of a journal are.
+use Rattle.std.proofs.Common.{◌≡◌, ℕ, Bool, true, List, [], ◌∷◌, length, map, None, refl}
 use Rattle.std.specs.Prelude.{nat_le}
 use Rattle.std.specs.List.{AllByRecursion}
 use Rattle.std.proofs.lemmas.Bool.{and_parts, leb-true}
@@ -9,7 +9,7 @@ use Rattle.drm_types.specs.Limits.{is_between, are_rings, each, spec_fault, spec
 use Rattle.drm_text.specs.Grammar.{AreBytes}
 use Rattle.drm_types.proofs.Firsts.{none_at, each_passes}
 use Rattle.drm_parse.specs.Grammar.{IsNumber, EntityFits}
-use Rattle.drm_script_writer.specs.Texts.{HasBytes}
+use Rattle.drm_script_writer.specs.Headers.{HasBytes}
 
 -- the size of a buffer is within the limits
 abbrev IsSized : List ℕ → Type 0
@@ -37,6 +37,15 @@ entities_fit count [] listed are = tt
 entities_fit count (e ∷ es) listed are =
     let sized : is_between 1 8 (length e.rings) ≡ true = (and_parts _ _ (and_parts _ _ listed.0).0).0 in
     ((leb-true 1 (length e.rings) (and_parts (nat_le 1 (length e.rings)) (nat_le (length e.rings) 8) sized).0, are.0), entities_fit count es listed.1 are.1)
+
+-- lists as long as these are sized too
+pub as_sized : (finals buffers : List (List ℕ)) → map length finals ≡ map length buffers → AllByRecursion IsSized buffers → AllByRecursion IsSized finals
+as_sized [] buffers same sized = tt
+as_sized (f ∷ finals) [] same sized = absurd (cc)
+as_sized (f ∷ finals) (b ∷ buffers) same sized =
+    let head : length f ≡ length b = cc in
+    let tail : map length finals ≡ map length buffers = cc in
+    (rw head sized.0, as_sized finals buffers tail sized.1)
 
 -- so each has one byte or more
 pub filled : (xs : List (List ℕ)) → AllByRecursion IsSized xs → AllByRecursion HasBytes xs → AllByRecursion AreBytes xs

@@ -40,22 +40,22 @@ module _ (spec : DeviceSpec) (limits : spec_fault spec ≡ None) where
       (context ctx parts.0, buffer_there buffer parts.1)
 
   command_fits : (e : Event Draft) → names_exist spec e ≡ true → NumbersFit e → CommandFits spec e
-  command_fits (event.Submit job) names fits = fits
+  command_fits (event.Submit job) names fits = fits.1
   command_fits (event.Begin ctx) names fits = context ctx names
   command_fits (event.Try ctx buffer) names fits = both_there ctx buffer names
   command_fits (event.Done ctx) names fits = context ctx names
   command_fits (event.Drop ctx buffer) names fits = both_there ctx buffer names
   command_fits (event.End ctx) names fits = context ctx names
-  command_fits (event.Plan ctx job) names fits = (context ctx names, fits)
+  command_fits (event.Plan ctx job) names fits = (context ctx names, fits.1)
   command_fits (event.Arm ctx) names fits = context ctx names
-  command_fits (event.Pick ring now) names fits = (ring_there ring names, fits)
+  command_fits (event.Pick ring now) names fits = (ring_there ring names, fits.0)
   command_fits (event.Step ring) names fits = ring_there ring names
-  command_fits (event.Finish ring now) names fits = (ring_there ring names, fits)
-  command_fits (event.Timeout ring now) names fits = (ring_there ring names, fits)
+  command_fits (event.Finish ring now) names fits = (ring_there ring names, fits.0)
+  command_fits (event.Timeout ring now) names fits = (ring_there ring names, fits.0)
   command_fits (event.Cancel entity) names fits = entity_there entity names
   command_fits (event.Reap entity) names fits = entity_there entity names
   command_fits (event.Read ctx buffer) names fits = both_there ctx buffer names
-  command_fits (event.Status fence) names fits = fits
+  command_fits (event.Status fence) names fits = fits.0
   command_fits (event.Dump buffer) names fits = buffer_there buffer names
 
 pub all_fit : (spec : DeviceSpec) (events : List (Event Draft)) → spec_fault spec ≡ None → AllNamesExist spec events → AllByRecursion NumbersFit events

@@ -1,3 +1,6 @@
 pub mod Filled
 pub mod Fitting
-pub mod Spelled
+pub mod Lines
+pub mod Scripts
+pub mod Journals
+pub mod Recorded

@@ -1,1 +1,5 @@
+pub mod Headers
+pub mod Jobs
 pub mod Texts
+pub mod Journals
+pub mod Recording

@@ -4,29 +4,35 @@ ghost use Rattle.std.specs.Prelude.{◌≡◌, ◌<◌, ◌++◌, ◌∷◌, [],
 ghost use Rattle.std.specs.List.{AllByRecursion};
 ghost use Rattle.drm_answer.specs.Answers.{separated};
 ghost use Rattle.drm_parse.specs.Grammar.{IsNumber, RingFits};
-ghost use Rattle.drm_script_writer.specs.Texts.{DeviceFits, HasBytes, line_of_buffer, line_of_entity, line_of_ring, text_of_header, text_of_priority, text_of_rings};
+ghost use Rattle.drm_script_writer.specs.Headers.{DeviceFits, HasBytes, line_of_bytes, line_of_entity, line_of_ring, text_of_header, text_of_priority, text_of_rings};
 
 use drm_answer::{put_decimal, put_numbers, put_separated};
 use drm_text::put_bytes;
 use drm_types::{DeviceSpec, EntitySpec, Priority, RingId, RingSpec, Sequence};
 use std::alloc::AllocError;
 
-fn put_buffer(out: &mut Vec<u8>, bytes: &[u8]) -> Result<(), AllocError>
-    ensures value { OnOk result (out.new.items ≡ out.old.items ++ line_of_buffer bytes.now) }
+// Puts a word, bytes as digits, and the end of the line.
+fn put_line_of_bytes(out: &mut Vec<u8>, word: &[u8], bytes: &[u8]) -> Result<(), AllocError>
+    ensures value { OnOk result (out.new.items ≡ out.old.items ++ line_of_bytes word.now bytes.now) }
     ensures fits { HasBytes bytes.now }
 {
-    out.extend_from_slice(b"buffer ")?;
+    out.extend_from_slice(word)?;
     put_bytes(out, bytes)?;
     out.push(b'\n')?;
     Ok(())
 }
 
-fn put_buffers(out: &mut Vec<u8>, buffers: &[Sequence<u8>]) -> Result<(), AllocError>
-    ensures value { OnOk result (out.new.items ≡ out.old.items ++ flat_map line_of_buffer buffers.now) }
+/// Puts a line for the bytes of each of the buffers, which begins with the word.
+pub(crate) fn put_buffers(
+    out: &mut Vec<u8>,
+    word: &[u8],
+    buffers: &[Sequence<u8>],
+) -> Result<(), AllocError>
+    ensures value { OnOk result (out.new.items ≡ out.old.items ++ flat_map (line_of_bytes word.now) buffers.now) }
     ensures fits { OnOk result (AllByRecursion HasBytes buffers.now) }
 {
     for buffer in buffers {
-        put_buffer(out, buffer.as_slice())?;
+        put_line_of_bytes(out, word, buffer.as_slice())?;
     }
     Ok(())
 }
@@ -110,17 +116,17 @@ fn put_entities(out: &mut Vec<u8>, entities: &[EntitySpec]) -> Result<(), AllocE
     Ok(())
 }
 
-/// Adds the lines that describe a device, up to `go`.
+/// Puts the lines that describe a device, up to `go`.
 ///
 /// # Errors
 ///
 /// It fails if there is no memory.
-#[tactic(auto, unfolding(crate::specs::Texts::text_of_header))]
+#[tactic(auto, unfolding(crate::specs::Headers::text_of_header))]
 pub fn put_header(out: &mut Vec<u8>, spec: &DeviceSpec) -> Result<(), AllocError>
     ensures value { OnOk result (out.new.items ≡ out.old.items ++ text_of_header spec.now) }
     ensures fits { OnOk result (DeviceFits spec.now) }
 {
-    put_buffers(out, spec.buffers.as_slice())?;
+    put_buffers(out, b"buffer ", spec.buffers.as_slice())?;
     put_rings(out, spec.rings.as_slice())?;
     put_entities(out, spec.entities.as_slice())?;
     let max_jobs = spec.max_jobs;

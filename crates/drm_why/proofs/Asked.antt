@@ -11,16 +11,6 @@ use Rattle.drm_why.specs.declared.asking.Question.{Question}
 pub asked_spelled : (asked : Question) (script : Script) (input old new : Option (List ℕ)) (ended : Ending) → IfSome input (λ text. judge_script text ≡ Ok script)
     → Tells asked script old new ended → Whys asked input old new ended
 asked_spelled asked script input old new ending.Done spelled told = (script, spelled, told)
-asked_spelled asked script input old new ending.Differs spelled never = absurd never
-asked_spelled asked script input old new (ending.GaveUp worker turns) spelled never = absurd never
-asked_spelled asked script input old new ending.NoThread spelled never = absurd never
-asked_spelled asked script input old new (ending.Fault fault) spelled never = absurd never
-asked_spelled asked script input old new ending.TooMany spelled never = absurd never
-asked_spelled asked script input old new ending.NoCount spelled never = absurd never
-asked_spelled asked script input old new ending.Stuck spelled never = absurd never
-asked_spelled asked script input old new ending.MoreStates spelled never = absurd never
-asked_spelled asked script input old new ending.NoStates spelled never = absurd never
-asked_spelled asked script input old new (ending.Unexplained word) spelled never = absurd never
 asked_spelled asked script input old new ending.NoMemory spelled kept = kept
-asked_spelled asked script input old new ending.NoInput spelled never = absurd never
 asked_spelled asked script input old new ending.NoOutput spelled told = (script, spelled, told)
+asked_spelled asked script input old new other spelled never = absurd never

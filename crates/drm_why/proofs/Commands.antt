@@ -8,24 +8,26 @@ use Rattle.drm_core.specs.declared.event.Event.TheVariants as event
 use Rattle.drm_parse.specs.Grammar.{item_words}
 use Rattle.drm_why.specs.Texts.{TextsBeginLines}
 
--- a word and numbers
-one_word : (word a : List ℕ) → word ++ 32 ∷ a ≡ (word ++ ((32 ∷ a) ++ [])) ++ []
-one_word word a = ap (λ (t : List ℕ). word ++ t) (sym (append-nil (32 ∷ a))) ∙ sym (append-nil (word ++ ((32 ∷ a) ++ [])))
+-- a word and numbers, with no job behind them
+one_word : (word a : List ℕ) → word ++ 32 ∷ a ≡ word ++ ((32 ∷ a) ++ []) ++ [] ++ []
+one_word word a =
+    let front = word ++ ((32 ∷ a) ++ []) in
+    ap (λ (t : List ℕ). word ++ t) (sym (append-nil (32 ∷ a))) ∙ sym (append-nil front) ∙ sym (append-nil (front ++ []))
 
-two_words : (word a b : List ℕ) → word ++ 32 ∷ (a ++ 32 ∷ b) ≡ (word ++ ((32 ∷ a) ++ ((32 ∷ b) ++ []))) ++ []
+two_words : (word a b : List ℕ) → word ++ 32 ∷ (a ++ 32 ∷ b) ≡ word ++ ((32 ∷ a) ++ ((32 ∷ b) ++ [])) ++ [] ++ []
 two_words word a b =
-    ap (λ (t : List ℕ). word ++ ((32 ∷ a) ++ t)) (sym (append-nil (32 ∷ b))) ∙ sym (append-nil (word ++ ((32 ∷ a) ++ ((32 ∷ b) ++ []))))
+    let front = word ++ ((32 ∷ a) ++ ((32 ∷ b) ++ [])) in
+    ap (λ (t : List ℕ). word ++ ((32 ∷ a) ++ t)) (sym (append-nil (32 ∷ b))) ∙ sym (append-nil front) ∙ sym (append-nil (front ++ []))
 
--- and with more behind them
-one_behind : (word a rest : List ℕ) → word ++ 32 ∷ (a ++ rest) ≡ (word ++ ((32 ∷ a) ++ [])) ++ rest
-one_behind word a rest =
-    sym (append_assoc word (32 ∷ a) rest) ∙ ap (λ (t : List ℕ). (word ++ t) ++ rest) (sym (append-nil (32 ∷ a)))
+-- a word, the entity of a job, and more of the job, with or without a number before
+entity_behind : (word entity rest : List ℕ) → word ++ 32 ∷ (entity ++ rest) ≡ word ++ (32 ∷ entity) ++ rest
+entity_behind word entity rest = sym (append_assoc word (32 ∷ entity) rest)
 
-two_behind : (word a b rest : List ℕ) → word ++ 32 ∷ (a ++ 32 ∷ (b ++ rest)) ≡ (word ++ ((32 ∷ a) ++ ((32 ∷ b) ++ []))) ++ rest
-two_behind word a b rest =
-    ap (λ (t : List ℕ). word ++ t) (sym (append_assoc (32 ∷ a) (32 ∷ b) rest))
-    ∙ sym (append_assoc word ((32 ∷ a) ++ 32 ∷ b) rest)
-    ∙ ap (λ (t : List ℕ). (word ++ ((32 ∷ a) ++ t)) ++ rest) (sym (append-nil (32 ∷ b)))
+entity_behind_one : (word a entity rest : List ℕ) → word ++ 32 ∷ (a ++ 32 ∷ (entity ++ rest)) ≡ word ++ ((32 ∷ a) ++ []) ++ (32 ∷ entity) ++ rest
+entity_behind_one word a entity rest =
+    ap (λ (t : List ℕ). word ++ (t ++ 32 ∷ (entity ++ rest))) (sym (append-nil (32 ∷ a)))
+    ∙ sym (append_assoc word ((32 ∷ a) ++ []) (32 ∷ (entity ++ rest)))
+    ∙ sym (append_assoc (word ++ ((32 ∷ a) ++ [])) (32 ∷ entity) rest)
 
 -- what stands behind the entity of a job
 abbrev behind_entity : Draft → List ℕ
@@ -34,7 +36,7 @@ behind_entity job = 32 ∷ join_with_byte 32 (decimal job.credits ∷ item_words
 pub texts_begin : TextsBeginLines
 texts_begin (event.Submit job) = record {
   rest = behind_entity job;
-  line = one_behind (codes "submit") (decimal job.entity) (behind_entity job);
+  line = entity_behind (codes "submit") (decimal job.entity) (behind_entity job);
   whole = λ none. absurd (let never : Some job ≡ None = none in cc (never));
 }
 texts_begin (event.Begin ctx) = record { rest = []; line = one_word (codes "begin") (decimal ctx); whole = λ none. refl }
@@ -44,7 +46,7 @@ texts_begin (event.Drop ctx buffer) = record { rest = []; line = two_words (code
 texts_begin (event.End ctx) = record { rest = []; line = one_word (codes "end") (decimal ctx); whole = λ none. refl }
 texts_begin (event.Plan ctx job) = record {
   rest = behind_entity job;
-  line = two_behind (codes "plan") (decimal ctx) (decimal job.entity) (behind_entity job);
+  line = entity_behind_one (codes "plan") (decimal ctx) (decimal job.entity) (behind_entity job);
   whole = λ none. absurd (let never : Some job ≡ None = none in cc (never));
 }
 texts_begin (event.Arm ctx) = record { rest = []; line = one_word (codes "arm") (decimal ctx); whole = λ none. refl }

@@ -3,7 +3,7 @@ use Rattle.std.proofs.Common.{◌≡◌, ℕ, ◌+◌, ◌<◌, ◌≤◌, ◌�
 use Rattle.std.proofs.lemmas.Bool.{both_ways, cases_eq}
 use Rattle.std.proofs.lemmas.Option.{slice_get_within}
 use Rattle.drm_types.specs.Firsts.{is_nil}
-use Rattle.drm_why.specs.Longest.{IsHeld, IsLongest, LongestIs, commands_of}
+use Rattle.drm_why.specs.Longest.{IsHeld, LongestIs, commands_of}
 use Rattle.drm_why.specs.declared.seeing.Change.{Change}
 
 -- the longest so far is there

@@ -1,7 +1,7 @@
 -- The total so far, and the fence that held a ring up longest so far, and one command more.
-use Rattle.std.proofs.Common.{◌≡◌, ℕ, ◌+◌, ◌<◌, ◌≤◌, ◌⊎◌, List, [], drop, length, Option, None, Some, sym, ap, subst, ◌∙◌, inl, inr, arith, slice_get}
+use Rattle.std.proofs.Common.{◌≡◌, ℕ, ◌+◌, ◌<◌, ◌≤◌, ◌⊎◌, List, drop, length, Option, None, Some, sym, ap, subst, ◌∙◌, inl, inr, arith, slice_get}
 use Rattle.std.proofs.Math.ListN.{drop_of_length-le}
-use Rattle.drm_why.specs.Totals.{IsMost, MostIs, WasHeld, commands_for, counted_in, held_in, total_from}
+use Rattle.drm_why.specs.Totals.{MostIs, WasHeld, commands_for, counted_in, held_in, total_from}
 use Rattle.drm_why.specs.declared.rings.Row.{Row}
 use Rattle.drm_why.specs.declared.totals.Kind.{Kind}
 use Rattle.drm_why.specs.declared.totals.Total.{Total}

@@ -1,5 +1,5 @@
 -- A test of two reasons tells that they are one.
-use Rattle.std.proofs.Common.{◌≡◌, ℕ, Bool, true, false, ◌&&◌, ◌==◌, Option, Some, None, refl, sym, ap, subst, ◌∙◌}
+use Rattle.std.proofs.Common.{◌≡◌, ℕ, Bool, true, false, ◌&&◌, ◌==◌, Option, Some, None, refl, ap, subst, ◌∙◌}
 use Rattle.std.specs.Prelude.{◌||◌}
 use Rattle.std.proofs.lemmas.Bool.Decides.{Decides-eqb}
 use Rattle.drm_types.specs.declared.access.Access.{Access}
@@ -10,7 +10,7 @@ use Rattle.drm_reason.specs.declared.reason.How.{How}
 use Rattle.drm_reason.specs.declared.reason.How.TheVariants as how
 use Rattle.drm_reason.specs.declared.reason.Reason.{Reason}
 use Rattle.drm_reason.specs.declared.reason.Reason.TheVariants as reason
-use Rattle.drm_why.specs.Same.{same_access, same_behind, same_flag, same_how, same_outcome, same_pending, same_queued, same_reason}
+use Rattle.drm_why.specs.Same.{same_access, same_behind, same_flag, same_how, same_outcome, same_reason}
 
 both : (a b : Bool) → (a && b) ≡ true → (a ≡ true) × (b ≡ true)
 both true b e = (refl, e)

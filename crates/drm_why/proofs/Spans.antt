@@ -1,5 +1,5 @@
 -- How long each reason held, one change more.
-use Rattle.std.proofs.Common.{◌≡◌, ℕ, zero, suc, ◌+◌, ◌≤◌, List, [], ◌∷◌, ◌++◌, Some, append_assoc, append-nil, drop, length, refl, sym, ap, ◌∙◌, arith, slice_get}
+use Rattle.std.proofs.Common.{◌≡◌, ℕ, zero, suc, ◌+◌, ◌≤◌, List, [], ◌∷◌, ◌++◌, Some, append_assoc, append-nil, drop, length, sym, ap, ◌∙◌, arith, slice_get}
 use Rattle.std.proofs.Math.ListN.{drop_of_length-le}
 use Rattle.drm_why.specs.Lines.{span_text, spans_text}
 use Rattle.drm_why.specs.declared.seeing.Change.{Change}

@@ -3,8 +3,9 @@ use Rattle.std.specs.Prelude.{ℕ, ◌+◌, ◌-◌, List, [], ◌∷◌, ◌++�
 use Rattle.std.specs.Fmt.{decimal}
 use Rattle.std.specs.Option.{option_map_or}
 use Rattle.drm_core.specs.declared.event.Event.{Event}
-use Rattle.drm_core.specs.declared.event.Event.TheVariants as event
-use Rattle.drm_picture.specs.Commands.{moment_of, word_of}
+use Rattle.drm_core.specs.Jobs.{job_of}
+use Rattle.drm_picture.specs.Commands.{moment_of}
+use Rattle.drm_script_writer.specs.Texts.{front_of_command}
 use Rattle.drm_state.specs.Journal.{numbered}
 use Rattle.drm_state.specs.State.{DeviceState}
 use Rattle.drm_reason.specs.declared.reason.Reason.{Reason}
@@ -19,29 +20,9 @@ use Rattle.drm_why.specs.declared.seeing.Change.{Change}
 abbrev pub spaced : ℕ → List ℕ
 spaced number = 32 ∷ decimal number
 
--- the numbers of a command, up to the entity of its job
-abbrev pub numbers_of : Event ℕ → List ℕ
-numbers_of (event.Submit entity) = entity ∷ []
-numbers_of (event.Begin ctx) = ctx ∷ []
-numbers_of (event.Try ctx buffer) = ctx ∷ buffer ∷ []
-numbers_of (event.Done ctx) = ctx ∷ []
-numbers_of (event.Drop ctx buffer) = ctx ∷ buffer ∷ []
-numbers_of (event.End ctx) = ctx ∷ []
-numbers_of (event.Plan ctx entity) = ctx ∷ entity ∷ []
-numbers_of (event.Arm ctx) = ctx ∷ []
-numbers_of (event.Pick ring now) = ring ∷ now ∷ []
-numbers_of (event.Step ring) = ring ∷ []
-numbers_of (event.Finish ring now) = ring ∷ now ∷ []
-numbers_of (event.Timeout ring now) = ring ∷ now ∷ []
-numbers_of (event.Cancel entity) = entity ∷ []
-numbers_of (event.Reap entity) = entity ∷ []
-numbers_of (event.Read ctx buffer) = ctx ∷ buffer ∷ []
-numbers_of (event.Status fence) = fence ∷ []
-numbers_of (event.Dump buffer) = buffer ∷ []
-
--- the text of a command, up to the entity of its job
+-- the text of a command, up to the entity of its job: its word, its numbers, and that entity
 abbrev pub text_of_command : Event ℕ → List ℕ
-text_of_command command = word_of command ++ flat_map spaced (numbers_of command)
+text_of_command command = front_of_command command ++ option_map_or spaced (job_of command) []
 
 -- the moment that a command tells
 abbrev pub text_of_moment : Option ℕ → List ℕ

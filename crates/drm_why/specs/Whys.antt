@@ -6,7 +6,7 @@ use Rattle.drm_engine.specs.Replaying.{Replays, SpellsScript}
 use Rattle.drm_engine.specs.declared.ending.Ending.{Ending}
 use Rattle.drm_engine.specs.declared.ending.Ending.TheVariants as ending
 use Rattle.drm_reason.specs.declared.reason.Reason.TheVariants.{NotArmed}
-use Rattle.drm_record.specs.Recording.{LeadsTo}
+use Rattle.drm_script_writer.specs.Recording.{LeadsTo}
 use Rattle.drm_script.specs.declared.script.Script.{Script}
 use Rattle.drm_stream.specs.Transfer.{AppendsFront}
 use Rattle.drm_why.specs.Lines.{text_of_jobs, text_of_life}

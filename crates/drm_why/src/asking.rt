@@ -6,7 +6,7 @@ ghost use Rattle.drm_core.specs.Run.{AllNamesExist};
 ghost use Rattle.drm_stream.specs.Streams.{NoReadFailed, SourceState};
 ghost use Rattle.drm_stream.specs.Transfer.{TakesAtMost};
 ghost use Rattle.drm_engine.specs.Failures.{EndsBy};
-ghost use Rattle.drm_record.specs.Recording.{LeadsTo};
+ghost use Rattle.drm_script_writer.specs.Recording.{LeadsTo};
 ghost use Rattle.drm_why.specs.Lines.{text_of_jobs};
 ghost use Rattle.drm_why.specs.Whys.{AreRings, IsLife, IsTold, Tells, TellsChanges, TellsSeen, Whys};
 
@@ -18,8 +18,8 @@ use crate::seeing::{Change, Seen, changes, last_clock, take_seen};
 use crate::totals::rings_text;
 use drm_core::{Core, every_run_is_lawful};
 use drm_engine::Ending;
-use drm_record::last_core;
 use drm_script::{Script, read_script_from};
+use drm_script_writer::last_core;
 use drm_stream::{Sink, Source, put_all};
 use drm_types::{FenceId, Moment};
 use std::alloc::{AllocError, Global};

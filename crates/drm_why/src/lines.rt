@@ -1,7 +1,9 @@
 //! The lines of the life of a job.
 
-ghost use Rattle.std.specs.Prelude.{◌≡◌, ◌+◌, ◌<◌, ◌++◌, IfOk, OnOk, Some, drop, flat_map, length, slice_get};
-ghost use Rattle.drm_why.specs.Lines.{head_text, held_by_text, held_text, line_of_change, line_of_link, line_of_span, lines_of_longest, longest_text, numbers_of, spaced, span_text, spans_text, text_of_command, text_of_life, text_of_moment};
+ghost use Rattle.std.specs.Prelude.{◌≡◌, ◌+◌, ◌<◌, ◌++◌, [], IfOk, OnOk, Some, drop, flat_map, length, slice_get};
+ghost use Rattle.std.specs.Option.{option_map_or};
+ghost use Rattle.drm_core.specs.Jobs.{job_of};
+ghost use Rattle.drm_why.specs.Lines.{head_text, held_by_text, held_text, line_of_change, line_of_link, line_of_span, lines_of_longest, longest_text, spaced, span_text, spans_text, text_of_command, text_of_life, text_of_moment};
 
 use crate::chain::Link;
 use crate::longest::{clock_there, commands, end};
@@ -9,57 +11,22 @@ use crate::seeing::Change;
 use crate::sentences::put_said;
 use crate::text::{put_number, put_one, put_text, put_two};
 use drm_core::Event;
-use drm_picture::{moment, word};
+use drm_picture::moment;
 use drm_reason::Reason;
+use drm_script_writer::put_command_front;
 use drm_types::{EntityId, FenceId, Moment};
 use std::alloc::{AllocError, Global};
 
-// Puts a number behind a space.
-fn put_spaced(out: &mut Vec<u8>, number: u64) -> Result<(), AllocError>
-    ensures { OnOk result (out.new.items ≡ out.old.items ++ spaced number) }
-{
-    put_text(out, " ")?;
-    put_number(out, number)
-}
-
-// Puts numbers, each behind a space.
-fn put_numbers(out: &mut Vec<u8>, numbers: &[u64]) -> Result<(), AllocError>
-    ensures { OnOk result (out.new.items ≡ out.old.items ++ flat_map spaced numbers.now) }
-{
-    for number in numbers {
-        put_spaced(out, *number)?;
-    }
-    Ok(())
-}
-
-// Puts the numbers of a command, up to the entity of its job.
-fn put_names(out: &mut Vec<u8>, command: Event<EntityId>) -> Result<(), AllocError>
-    ensures { OnOk result (out.new.items ≡ out.old.items ++ flat_map spaced (numbers_of command)) }
+// Puts the entity of the job that a command brings, if it brings one.
+fn put_entity(out: &mut Vec<u8>, command: Event<EntityId>) -> Result<(), AllocError>
+    ensures { OnOk result (out.new.items ≡ out.old.items ++ option_map_or spaced (job_of command) []) }
 {
     match command {
-        Event::Submit { job } => put_numbers(out, &[u64::from(job)]),
-        Event::Begin { ctx } => put_numbers(out, &[u64::from(ctx)]),
-        Event::Try { ctx, buffer } => {
-            put_numbers(out, &[u64::from(ctx), u64::from(buffer.number())])
+        Event::Submit { job } | Event::Plan { job, .. } => {
+            put_text(out, " ")?;
+            put_number(out, u64::from(job))
         }
-        Event::Done { ctx } => put_numbers(out, &[u64::from(ctx)]),
-        Event::Drop { ctx, buffer } => {
-            put_numbers(out, &[u64::from(ctx), u64::from(buffer.number())])
-        }
-        Event::End { ctx } => put_numbers(out, &[u64::from(ctx)]),
-        Event::Plan { ctx, job } => put_numbers(out, &[u64::from(ctx), u64::from(job)]),
-        Event::Arm { ctx } => put_numbers(out, &[u64::from(ctx)]),
-        Event::Pick { ring, now } => put_numbers(out, &[u64::from(ring), now]),
-        Event::Step { ring } => put_numbers(out, &[u64::from(ring)]),
-        Event::Finish { ring, now } => put_numbers(out, &[u64::from(ring), now]),
-        Event::Timeout { ring, now } => put_numbers(out, &[u64::from(ring), now]),
-        Event::Cancel { entity } => put_numbers(out, &[u64::from(entity)]),
-        Event::Reap { entity } => put_numbers(out, &[u64::from(entity)]),
-        Event::Read { ctx, buffer } => {
-            put_numbers(out, &[u64::from(ctx), u64::from(buffer.number())])
-        }
-        Event::Status { fence } => put_numbers(out, &[u64::from(fence)]),
-        Event::Dump { buffer } => put_numbers(out, &[u64::from(buffer.number())]),
+        _ => Ok(()),
     }
 }
 
@@ -67,8 +34,8 @@ fn put_names(out: &mut Vec<u8>, command: Event<EntityId>) -> Result<(), AllocErr
 fn put_command(out: &mut Vec<u8>, command: Event<EntityId>) -> Result<(), AllocError>
     ensures { OnOk result (out.new.items ≡ out.old.items ++ text_of_command command) }
 {
-    put_text(out, word(&command))?;
-    put_names(out, command)
+    put_command_front(out, &command)?;
+    put_entity(out, command)
 }
 
 // Puts the moment that a command tells, if it tells one.

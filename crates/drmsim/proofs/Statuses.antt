@@ -88,19 +88,10 @@ ends_without_memory asked source sink status is = (outcome.Ended ending.NoMemory
 -- an explanation reads nothing, so no read of it fails
 pub told_unread : (word : Option Text) (source : SourceState) (old new : SinkState) (ended : Ending) → Tells word old.contents new.contents ended → TellsWrites old new ended → EndsBy source source old new ended
 told_unread word source old new ending.Done tells wrote = ((refl, refl), wrote)
-told_unread word source old new ending.Differs never wrote = absurd never
-told_unread word source old new (ending.GaveUp worker turns) never wrote = absurd never
-told_unread word source old new ending.NoThread never wrote = absurd never
-told_unread word source old new (ending.Fault fault) never wrote = absurd never
-told_unread word source old new ending.TooMany never wrote = absurd never
-told_unread word source old new ending.NoCount never wrote = absurd never
-told_unread word source old new ending.Stuck never wrote = absurd never
-told_unread word source old new ending.MoreStates never wrote = absurd never
-told_unread word source old new ending.NoStates never wrote = absurd never
 told_unread word source old new (ending.Unexplained said) tells wrote = ((refl, refl), wrote)
 told_unread word source old new ending.NoMemory tells wrote = (refl, wrote)
-told_unread word source old new ending.NoInput never wrote = absurd never
 told_unread word source old new ending.NoOutput tells wrote = ((refl, refl), wrote)
+told_unread word source old new other never wrote = absurd never
 
 -- what is asked for may happen
 pub may_happen : (words : List Text) (asked : Request) → IsAsked words asked → MayHappen asked

@@ -1,8 +1,6 @@
 -- How what was asked for ended.
 use Rattle.std.specs.Prelude.{ℕ, Bool, true, false, List, codes}
-use Rattle.drm_conform.specs.declared.verdict.Verdict.{Verdict}
-use Rattle.drm_conform.specs.declared.verdict.Verdict.TheVariants as verdict
-use Rattle.drm_conform.specs.Verdicts as judging
+use Rattle.drm_conform.specs.Judging.{text_of_judged}
 use Rattle.drm_engine.specs.Endings as ends
 use Rattle.drm_engine.specs.Failures.{EndsBy}
 use Rattle.drm_engine.specs.declared.ending.Ending.{Ending}
@@ -13,14 +11,13 @@ use Rattle.drmsim.specs.declared.outcome.Outcome.TheVariants as outcome
 -- whether standard output has told it all
 abbrev pub is_told : Outcome → Bool
 is_told (outcome.Ended ended) = ends.is_told ended
-is_told (outcome.Judged verdict.Kept) = true
-is_told (outcome.Judged verdict.Broken) = true
+is_told (outcome.Judged judged) = ends.is_told judged.ending
 is_told other = false
 
 -- the exit status
 abbrev pub status_of_outcome : Outcome → ℕ
 status_of_outcome (outcome.Ended ended) = ends.status_of ended
-status_of_outcome (outcome.Judged told) = judging.status_of told
+status_of_outcome (outcome.Judged judged) = ends.status_of judged.ending
 status_of_outcome outcome.NoLimits = 2
 status_of_outcome outcome.NoFinal = 2
 status_of_outcome outcome.NoFence = 2
@@ -28,7 +25,7 @@ status_of_outcome outcome.NoFence = 2
 -- what is printed of it
 abbrev pub text_of_outcome : Outcome → List ℕ
 text_of_outcome (outcome.Ended ended) = ends.text_of_ending ended
-text_of_outcome (outcome.Judged told) = judging.text_of_verdict told
+text_of_outcome (outcome.Judged judged) = text_of_judged judged.ending
 text_of_outcome outcome.NoLimits =
     codes "error: '--limit' takes rings and numbers, as in gfx=3,sdma=2, and '--tolerance' a number of microseconds\n\nFor more information, try '--help'."
 text_of_outcome outcome.NoFinal = codes "error: '--final' takes the number of a final, 0 to 4294967295\n\nFor more information, try '--help'."
@@ -46,7 +43,7 @@ NoneFailed before after old new = NoReadFailed before after × NoWriteFailed old
 -- what was asked for ended so by what became of its reads and writes
 abbrev pub EndsSo : SourceState → SourceState → SinkState → SinkState → Outcome → Type 0
 EndsSo before after old new (outcome.Ended ended) = EndsBy before after old new ended
-EndsSo before after old new (outcome.Judged told) = judging.JudgedBy before after old new told
+EndsSo before after old new (outcome.Judged judged) = EndsBy before after old new judged.ending
 EndsSo before after old new outcome.NoLimits = NoneFailed before after old new
 EndsSo before after old new outcome.NoFinal = NoneFailed before after old new
 EndsSo before after old new outcome.NoFence = NoneFailed before after old new

@@ -10,7 +10,7 @@ use Rattle.drm_engine.specs.declared.ending.Ending.{Ending}
 use Rattle.drm_engine.specs.declared.ending.Ending.TheVariants as ending
 use Rattle.drm_engine.specs.Engines.{Runs}
 use Rattle.drm_words.specs.Replaying.{ReplaysWithWords}
-use Rattle.drm_record.specs.Recording.{Records}
+use Rattle.drm_script_writer.specs.Recording.{Records}
 use Rattle.drm_run.specs.Runs as worked
 use Rattle.drm_explain.specs.Telling.{Tells}
 use Rattle.drm_draw.specs.Drawing.{Draws}
@@ -25,8 +25,7 @@ use Rattle.drm_why.specs.declared.asking.Question.{Question}
 use Rattle.drm_why.specs.declared.asking.Question.TheVariants as question
 use Rattle.drm_expect.specs.Testing.{Lowers, Tests}
 use Rattle.drm_conform.specs.declared.options.Options as judge
-use Rattle.drm_conform.specs.declared.verdict.Verdict.{Verdict}
-use Rattle.drm_conform.specs.Verdicts as judging
+use Rattle.drm_conform.specs.Judging as judging
 use Rattle.drm_conform.specs.Asked.{options_asked}
 use Rattle.drm_perfetto.specs.Traces.{Traces}
 use Rattle.drm_perfetto.specs.declared.clock.Clock.{Clock}
@@ -116,7 +115,7 @@ JudgesNothing before after old new other = ⊥
 
 -- what each outcome says of a log that is judged
 abbrev pub JudgesBy : judge.Options → SourceState → SourceState → SinkState → SinkState → Outcome → Type 0
-JudgesBy options before after old new (outcome.Judged told) = judging.Tells options before.remaining old.contents new.contents told
+JudgesBy options before after old new (outcome.Judged judged) = judging.Tells options before.remaining old.contents new.contents judged.ending
 JudgesBy options before after old new (outcome.Ended ending.NoMemory) = IsUnused before after old new
 JudgesBy options before after old new other = ⊥
 

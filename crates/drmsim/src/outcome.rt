@@ -3,7 +3,7 @@
 ghost use Rattle.std.specs.Prelude.{◌≡◌, Some};
 ghost use Rattle.drmsim.specs.Outcomes.{is_told as is_told_of, status_of_outcome, text_of_outcome};
 
-use drm_conform::Verdict;
+use drm_conform::Judged;
 use drm_engine::Ending;
 use std::fmt;
 
@@ -13,7 +13,7 @@ pub enum Outcome {
     /// As an engine ends.
     Ended(Ending),
     /// As the judging of a log ends.
-    Judged(Verdict),
+    Judged(Judged),
     /// The words behind the options of `conform` spell no limits or no tolerance. Nothing was read, and nothing written.
     NoLimits,
     /// The word behind `--final` spells no number. Nothing was read, and nothing written.
@@ -29,7 +29,7 @@ impl Outcome {
     {
         match self {
             Outcome::Ended(ending) => ending.is_told(),
-            Outcome::Judged(verdict) => matches!(verdict, Verdict::Kept | Verdict::Broken),
+            Outcome::Judged(judged) => judged.ending.is_told(),
             Outcome::NoLimits | Outcome::NoFinal | Outcome::NoFence => false,
         }
     }
@@ -40,7 +40,7 @@ impl Outcome {
     {
         match self {
             Outcome::Ended(ending) => ending.status(),
-            Outcome::Judged(verdict) => verdict.status(),
+            Outcome::Judged(judged) => judged.ending.status(),
             Outcome::NoLimits | Outcome::NoFinal | Outcome::NoFence => 2,
         }
     }
@@ -52,7 +52,7 @@ impl fmt::Display for Outcome {
     fn fmt<W: fmt::Write>(&self, f: &mut fmt::Formatter<W>) -> fmt::Result {
         match self {
             Outcome::Ended(ending) => write!(f, "{ending}"),
-            Outcome::Judged(verdict) => write!(f, "{verdict}"),
+            Outcome::Judged(judged) => write!(f, "{judged}"),
             Outcome::NoLimits => write!(
                 f,
                 "error: '--limit' takes rings and numbers, as in gfx=3,sdma=2, and '--tolerance' a number of microseconds\n\nFor more information, try '--help'."

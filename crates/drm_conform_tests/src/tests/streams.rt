@@ -1,8 +1,10 @@
 //! Faults of logs, and streams that fail.
 
 use super::{judged, options};
-use crate::{SlowReader, SlowWriter, judge_on};
-use drm_conform::{Verdict, conform};
+use crate::judge_on;
+use drm_conform::conform;
+use drm_engine::Ending;
+use drm_engine_tests::{SlowReader, SlowWriter};
 use drm_stream::{Sink, Source};
 use std::alloc::Global;
 use std::process::Abort;
@@ -32,10 +34,10 @@ fn fences_by_address_and_rings_with_spaces(rt: HostRuntime) -> Result<(), Fail> 
 // A text has this fault, and nothing is written.
 fn faulty(rt: &impl Abort, alloc: Global, text: &[u8], told: &str) {
     let options = options(alloc, 0, false);
-    let (verdict, writer) = judge_on(alloc, &options, text, SlowWriter::new(alloc, 100, None));
-    assert_eq!(rt; verdict.status(), 2);
+    let (judged, writer) = judge_on(alloc, &options, text, SlowWriter::new(alloc, 100, None));
+    assert_eq!(rt; judged.ending.status(), 2);
     assert!(rt; writer.taken.is_empty());
-    match verdict.to_string(alloc) {
+    match judged.to_string(alloc) {
         Ok(words) => assert_eq!(rt; words.as_str(), told),
         Err(_) => assert!(rt; false),
     }
@@ -77,8 +79,8 @@ fn nothing_is_written_where_a_read_fails(rt: HostRuntime) -> Result<(), Fail> {
     for cut in [0, 1, 40, ADDRESSED.len()] {
         let mut source = Source::new(SlowReader::new(ADDRESSED, Some(cut)));
         let mut sink = Sink::new(SlowWriter::new(rt.alloc(), 100, None));
-        let verdict = conform(rt.alloc(), &options, &mut source, &mut sink);
-        assert!(rt; matches!(verdict, Verdict::NoInput), "at {cut}");
+        let judged = conform(rt.alloc(), &options, &mut source, &mut sink);
+        assert!(rt; matches!(judged.ending, Ending::NoInput), "at {cut}");
         assert!(rt; sink.into_inner().taken.is_empty(), "at {cut}");
     }
     Ok(())
@@ -88,8 +90,8 @@ fn nothing_is_written_where_a_read_fails(rt: HostRuntime) -> Result<(), Fail> {
 fn a_failed_write_is_told(rt: HostRuntime) -> Result<(), Fail> {
     let options = options(rt.alloc(), 0, false);
     let writer = SlowWriter::new(rt.alloc(), 7, Some(14));
-    let (verdict, writer) = judge_on(rt.alloc(), &options, ADDRESSED, writer);
-    assert!(rt; matches!(verdict, Verdict::NoOutput));
+    let (judged, writer) = judge_on(rt.alloc(), &options, ADDRESSED, writer);
+    assert!(rt; matches!(judged.ending, Ending::NoOutput));
     assert_eq!(rt; writer.taken.len(), 14);
     Ok(())
 }

@@ -6,8 +6,9 @@ use super::{Told, try_failed_reads, try_failed_writes, try_run};
 use crate::{SlowWriter, run_on};
 use drm_core::Core;
 use drm_engine::Engine;
-use drm_journal::{Journal, read_journal, write_journal};
+use drm_journal::{Journal, read_journal};
 use drm_script::{Events, read_script};
+use drm_script_writer::write_journal;
 use std::alloc::Global;
 use std::test::Fail;
 

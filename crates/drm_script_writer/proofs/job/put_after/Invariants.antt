@@ -2,7 +2,7 @@ use Rattle.std.proofs.Common.{◌≡◌, ◌++◌, drop, take}
 use Rattle.std.specs.Prelude.{flat_map}
 use Rattle.std.specs.List.{AllByRecursion}
 use Rattle.drm_parse.specs.Grammar.{IsNumber}
-use Rattle.drm_script_writer.specs.Texts.{word_of_fence}
+use Rattle.drm_script_writer.specs.Jobs.{word_of_fence}
 use Rattle.drm_script_writer.proofs.job.put_after.Given as goal
 
 abbrev pub invariant-loop-fence : goal.invariant-loop-fence

@@ -1,7 +1,7 @@
 use Rattle.std.proofs.Common.{◌≡◌, rules}
 use Rattle.drm_script.proofs.ScriptReaders.{script_again}
 use Rattle.drm_script_writer.specs.Texts.{script_with, text_of_script}
-use Rattle.drm_script_writer.proofs.Spelled.{written_spells}
+use Rattle.drm_script_writer.proofs.Scripts.{written_spells}
 use Rattle.drm_script_writer.proofs.script.write_script.Goals as goal
 
 pub returns-clause-spelled : goal.returns-clause-spelled

@@ -1,4 +1,4 @@
-use Rattle.std.proofs.Common.{◌≡◌, ◌∙◌, ap}
+use Rattle.std.proofs.Common.{◌∙◌, ap}
 use Rattle.std.proofs.lemmas.Result.{IfOk-weaker}
 use Rattle.drm_why.specs.Lines.{text_of_jobs}
 use Rattle.drm_why.proofs.asking.jobs.Goals as goal

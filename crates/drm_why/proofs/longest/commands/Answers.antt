@@ -1,4 +1,4 @@
-use Rattle.std.proofs.Common.{◌≡◌, ◌∙◌, ℕ, ◌+◌, ◌-◌, ap, drop, get_or, sym}
+use Rattle.std.proofs.Common.{◌∙◌, ℕ, ◌+◌, ◌-◌, ap, drop, get_or, sym}
 use Rattle.std.specs.Option.{option_map_or}
 use Rattle.drm_lists.proofs.Places.{at_index}
 use Rattle.drm_why.specs.Longest.{end_of}

@@ -1,4 +1,4 @@
-use Rattle.std.proofs.Common.{◌≡◌, ◌∙◌, Some, ap, sym, arith, slice_get}
+use Rattle.std.proofs.Common.{◌∙◌, sym, arith}
 use Rattle.drm_lists.proofs.Places.{at_index}
 use Rattle.drm_why.proofs.Numbered.{none_queued, none_queued_more, queued_found}
 use Rattle.drm_why.proofs.rings.first_queued.Goals as goal

@@ -1,8 +1,7 @@
-use Rattle.std.proofs.Common.{◌≡◌, ◌∷◌, ◌++◌, ◌∙◌, ℕ, [], ap, List, subst, sym}
+use Rattle.std.proofs.Common.{◌≡◌, ◌∷◌, ◌∙◌, ℕ, ap, List, subst, sym}
 use Rattle.drm_core.specs.declared.event.Event.{Event}
 use Rattle.drm_core.specs.Run.{AllNamesExist}
 use Rattle.drm_reason.specs.declared.reason.Reason.{Reason}
-use Rattle.drm_reason.specs.Reasons.{reason_of}
 use Rattle.drm_reason.specs.Watching.{Knows}
 use Rattle.drm_state.specs.State.{DeviceState}
 use Rattle.drm_why.specs.Seeing.{AddsLook, IsSeen, command_of, reason_behind}

@@ -1,6 +1,6 @@
-use Rattle.std.proofs.Common.{◌≡◌, ℕ, List, ◌++◌, ◌∙◌, ap}
-use Rattle.std.specs.Prelude.{OnOk, codes}
-use Rattle.drm_why.specs.Sentences.{one_in, said_of_credits, two_in}
+use Rattle.std.proofs.Common.{◌≡◌, ℕ, ◌++◌, ◌∙◌, ap}
+use Rattle.std.specs.Prelude.{codes}
+use Rattle.drm_why.specs.Sentences.{said_of_credits, two_in}
 use Rattle.drm_why.proofs.Putting.{put_then}
 use Rattle.drm_why.proofs.sentences.put_credits.Goals as goal
 

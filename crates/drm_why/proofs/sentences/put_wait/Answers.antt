@@ -1,4 +1,4 @@
-use Rattle.std.proofs.Common.{ℕ, List, ◌++◌, ◌≡◌, ap, ◌∙◌, subst}
+use Rattle.std.proofs.Common.{ℕ, List, ◌++◌, ◌≡◌, subst}
 use Rattle.std.specs.Prelude.{OnOk, codes}
 use Rattle.drm_why.specs.Sentences.{one_in, said_of_place, said_of_wait}
 use Rattle.drm_why.proofs.Putting.{put_more, put_then}

@@ -1,6 +1,5 @@
-use Rattle.std.proofs.Common.{◌∙◌, subst, sym}
-use Rattle.drm_why.specs.Totals.{MostIs}
-use Rattle.drm_why.proofs.Most.{first_more, none_more, told_more}
+use Rattle.std.proofs.Common.{sym}
+use Rattle.drm_why.proofs.Most.{none_more, told_more}
 use Rattle.drm_why.proofs.totals.more.Goals as goal
 
 pub returns-in_default : goal.returns-in_default

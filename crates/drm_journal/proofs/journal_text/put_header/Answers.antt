@@ -1,8 +1,0 @@
-use Rattle.std.proofs.Common.{arith}
-use Rattle.std.proofs.lemmas.Grind.{common_steps}
-use Rattle.drm_journal.specs.JournalText.{text_of_header}
-use Rattle.drm_journal.proofs.journal_text.put_header.Goals as goal
-
-pub returns-clause-value : goal.returns-clause-value
-unfolding text_of_header
-returns-clause-value c = grind (arith, common_steps)

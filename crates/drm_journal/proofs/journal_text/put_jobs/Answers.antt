@@ -1,6 +1,0 @@
-use Rattle.std.proofs.Common.{arith}
-use Rattle.std.proofs.lemmas.Grind.{common_steps}
-use Rattle.drm_journal.proofs.journal_text.put_jobs.Goals as goal
-
-pub loop-armed-preserved : goal.loop-armed-preserved
-loop-armed-preserved c = grind (arith, common_steps)
