@@ -1,5 +1,5 @@
 -- How what was asked for ended.
-use Rattle.std.specs.Prelude.{ℕ, Bool, true, false, List, codes}
+use Rattle.std.specs.Prelude.{ℕ, Bool, true, false, List, Result, Ok, Err, codes}
 use Rattle.drm_conform.specs.declared.verdict.Verdict.{Verdict}
 use Rattle.drm_conform.specs.declared.verdict.Verdict.TheVariants as verdict
 use Rattle.drm_conform.specs.Verdicts as judging
@@ -7,6 +7,8 @@ use Rattle.drm_engine.specs.Endings as ends
 use Rattle.drm_engine.specs.Failures.{EndsBy}
 use Rattle.drm_engine.specs.declared.ending.Ending.{Ending}
 use Rattle.drm_stream.specs.Streams.{NoReadFailed, NoWriteFailed, SinkState, SourceState}
+use Rattle.drm_words.specs.Faults.{text_of_told}
+use Rattle.drm_words.specs.declared.fault.FaultInWords.{FaultInWords}
 use Rattle.drmsim.specs.declared.outcome.Outcome.{Outcome}
 use Rattle.drmsim.specs.declared.outcome.Outcome.TheVariants as outcome
 
@@ -20,6 +22,7 @@ is_told other = false
 -- the exit status
 abbrev pub status_of_outcome : Outcome → ℕ
 status_of_outcome (outcome.Ended ended) = ends.status_of ended
+status_of_outcome (outcome.Faulty told) = 2
 status_of_outcome (outcome.Judged told) = judging.status_of told
 status_of_outcome outcome.NoLimits = 2
 status_of_outcome outcome.NoFinal = 2
@@ -28,6 +31,7 @@ status_of_outcome outcome.NoFence = 2
 -- what is printed of it
 abbrev pub text_of_outcome : Outcome → List ℕ
 text_of_outcome (outcome.Ended ended) = ends.text_of_ending ended
+text_of_outcome (outcome.Faulty told) = text_of_told told
 text_of_outcome (outcome.Judged told) = judging.text_of_verdict told
 text_of_outcome outcome.NoLimits =
     codes "error: '--limit' takes rings and numbers, as in gfx=3,sdma=2, and '--tolerance' a number of microseconds\n\nFor more information, try '--help'."
@@ -39,6 +43,12 @@ abbrev pub Ends : (Ending → Type 0) → Outcome → Type 0
 Ends Holds (outcome.Ended ended) = Holds ended
 Ends Holds other = ⊥
 
+-- a replay with words ended so that this holds of its ending, or of the fault of its script
+abbrev pub EndsInWords : (Result Ending FaultInWords → Type 0) → Outcome → Type 0
+EndsInWords Holds (outcome.Ended ended) = Holds (Ok ended)
+EndsInWords Holds (outcome.Faulty told) = Holds (Err told)
+EndsInWords Holds other = ⊥
+
 -- no read and no write failed
 abbrev pub NoneFailed : SourceState → SourceState → SinkState → SinkState → Type 0
 NoneFailed before after old new = NoReadFailed before after × NoWriteFailed old new
@@ -46,6 +56,7 @@ NoneFailed before after old new = NoReadFailed before after × NoWriteFailed old
 -- what was asked for ended so by what became of its reads and writes
 abbrev pub EndsSo : SourceState → SourceState → SinkState → SinkState → Outcome → Type 0
 EndsSo before after old new (outcome.Ended ended) = EndsBy before after old new ended
+EndsSo before after old new (outcome.Faulty told) = NoneFailed before after old new
 EndsSo before after old new (outcome.Judged told) = judging.JudgedBy before after old new told
 EndsSo before after old new outcome.NoLimits = NoneFailed before after old new
 EndsSo before after old new outcome.NoFinal = NoneFailed before after old new
