@@ -17,14 +17,26 @@ fn tells_each_number_once_by_a_shortest_way(rt: HostRuntime) -> Result<(), Fail>
 #[test]
 fn tells_the_moves_that_lead_to_known_numbers(rt: HostRuntime) -> Result<(), Fail> {
     let found = explore(rt.alloc(), &Doubling, 8)?.ok_or("there are eight")?;
-    assert_eq!(rt; found.others.as_slice(), [(0, false), (4, false), (4, true), (5, false), (5, true), (6, false), (6, true), (7, false), (7, true)].as_slice());
+    assert_eq!(rt;
+        found.others.as_slice(),
+        [
+            (0, false),
+            (4, false),
+            (4, true),
+            (5, false),
+            (5, true),
+            (6, false),
+            (6, true),
+            (7, false),
+            (7, true)
+        ]
+        .as_slice()
+    );
     Ok(())
 }
 
 #[test]
-fn covers_each_move_by_as_many_ways_as_lead_to_known_numbers(
-    rt: HostRuntime,
-) -> Result<(), Fail> {
+fn covers_each_move_by_as_many_ways_as_lead_to_known_numbers(rt: HostRuntime) -> Result<(), Fail> {
     let found = explore(rt.alloc(), &Doubling, 8)?.ok_or("there are eight")?;
     let lasts = cover(rt.alloc(), &Doubling, &found)?;
     assert_eq!(rt; lasts.len(), 9);
