@@ -3,8 +3,9 @@
 ghost use Rattle.std.specs.Prelude.{Some};
 ghost use Rattle.drm_explore.specs.Exploring.{Explores};
 
+use drm_engine::Ending;
 use drm_engine_tests::{SlowReader, SlowWriter};
-use drm_explore::{Exploring, Options, explore};
+use drm_explore::{Options, explore};
 use drm_stream::{Sink, Source};
 use std::alloc::Global;
 
@@ -15,7 +16,7 @@ pub fn explore_on(
     text: &[u8],
     cut: Option<usize>,
     writer: SlowWriter,
-) -> (Exploring, SlowWriter)
+) -> (Ending, SlowWriter)
     ensures { Explores options (Some text.now) (Some writer.taken.items) (Some result.1.taken.items) result.0 }
 {
     let mut source = Source::new(SlowReader::new(text, cut));

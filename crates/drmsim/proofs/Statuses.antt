@@ -12,9 +12,6 @@ use Rattle.drm_engine.specs.declared.engine.Engine.TheVariants as engine
 use Rattle.drm_engine.specs.declared.ending.Ending.{Ending}
 use Rattle.drm_engine.specs.declared.ending.Ending.TheVariants as ending
 use Rattle.drm_explain.specs.Telling.{Tells}
-use Rattle.drm_explore.specs.Exploring.{ExploresBy}
-use Rattle.drm_explore.specs.declared.exploring.Exploring.{Exploring}
-use Rattle.drm_explore.specs.declared.exploring.Exploring.TheVariants as exploring
 use Rattle.drm_explore.specs.declared.exploring.Wanted.{Wanted}
 use Rattle.drm_command_line.specs.CommandLine.{IsAsked}
 use Rattle.drm_command_line.specs.declared.request.Request.{Request}
@@ -40,17 +37,10 @@ drawn_without_memory (Some from) (Some to) source sink = untouched sink.contents
 drawn_without_memory (Some from) None source sink = (refl, refl)
 drawn_without_memory None to source sink = (refl, refl)
 
--- what an exploration tells of its reads and writes, its ending does
-pub explored_by : (before after : SourceState) (old new : SinkState) (found : Exploring) → ExploresBy before after old new found
-    → EndsBy before after old new (ending_of_exploring found)
-explored_by before after old new (exploring.Ended ended) by = by
-explored_by before after old new exploring.Stuck by = by
-explored_by before after old new exploring.GaveUp by = by
-
 -- an exploration for which memory was refused leaves what the writer holds
 explored_without_memory : (backs_off reaps : Bool) (most : Option ℕ) (told : Option Wanted) (source : SourceState) (sink : SinkState)
     → ExploresAsked backs_off reaps most told source source sink sink (outcome.Ended ending.NoMemory)
-explored_without_memory backs_off reaps (Some most) (Some told) source sink = (exploring.Ended ending.NoMemory, untouched sink.contents, refl)
+explored_without_memory backs_off reaps (Some most) (Some told) source sink = untouched sink.contents
 explored_without_memory backs_off reaps (Some most) None source sink = (refl, refl)
 explored_without_memory backs_off reaps None told source sink = (refl, refl)
 

@@ -15,8 +15,6 @@ use Rattle.drm_run.specs.Runs as worked
 use Rattle.drm_explain.specs.Telling.{Tells}
 use Rattle.drm_draw.specs.Drawing.{Draws}
 use Rattle.drm_explore.specs.Exploring.{Explores}
-use Rattle.drm_explore.specs.declared.exploring.Exploring.{Exploring}
-use Rattle.drm_explore.specs.declared.exploring.Exploring.TheVariants as exploring
 use Rattle.drm_explore.specs.declared.exploring.Options.{Options}
 use Rattle.drm_explore.specs.declared.exploring.Wanted.{Wanted}
 use Rattle.drm_explore.specs.declared.exploring.Wanted.TheVariants as wanted
@@ -57,12 +55,6 @@ DrawsBetween (Some from) (Some to) before after old new ended = Draws from to be
 DrawsBetween (Some from) None before after old new ended = DrawsNothing before after old new ended
 DrawsBetween None to before after old new ended = DrawsNothing before after old new ended
 
--- how an exploration ended, as the program tells it
-abbrev pub ending_of_exploring : Exploring → Ending
-ending_of_exploring (exploring.Ended ended) = ended
-ending_of_exploring exploring.Stuck = ending.Stuck
-ending_of_exploring exploring.GaveUp = ending.MoreStates
-
 -- what is wanted of all orders: a script to a stuck state, else a cover, else a script to the final that a word spells, else the table
 abbrev pub wanted_asked : Bool → Bool → Option Text → Option Wanted
 wanted_asked true cover reached = Some wanted.Stuck
@@ -77,15 +69,10 @@ ExploresNothing before after old new (outcome.Ended ending.NoMemory) = IsUnused 
 ExploresNothing before after old new outcome.NoFinal = IsUnused before after old new
 ExploresNothing before after old new other = ⊥
 
--- what each ending of an exploration says of so many states
-abbrev pub ExploresUpTo : Options → SourceState → SourceState → SinkState → SinkState → Ending → Type 0
-ExploresUpTo options before after old new ended =
-    (found : Exploring) × Explores options before.remaining old.contents new.contents found × (ended ≡ ending_of_exploring found)
-
 -- what each outcome of an exploration says of a number of states and of what is wanted, if words spell them
 abbrev pub ExploresAsked : Bool → Bool → Option ℕ → Option Wanted → SourceState → SourceState → SinkState → SinkState → Outcome → Type 0
 ExploresAsked backs_off reaps (Some most) (Some told) before after old new came =
-    Ends (ExploresUpTo (record { backs_off = backs_off; reaps = reaps; most = most; wanted = told }) before after old new) came
+    Ends (Explores (record { backs_off = backs_off; reaps = reaps; most = most; wanted = told }) before.remaining old.contents new.contents) came
 ExploresAsked backs_off reaps (Some most) None before after old new came = ExploresNothing before after old new came
 ExploresAsked backs_off reaps None told before after old new came = ExploresNothing before after old new came
 

@@ -4,13 +4,13 @@ ghost use Rattle.std.specs.Prelude.{◌<◌, ◌≡◌, ◌^◌, option_map, IfS
 ghost use Rattle.drm_conform.specs.Asked.{options_asked};
 ghost use Rattle.drm_engine.specs.Failures.{EndsBy};
 ghost use Rattle.drmsim.specs.Outcomes.{EndsSo};
-ghost use Rattle.drmsim.specs.Statuses.{DrawsBetween, ExploresAsked, JudgesAsked, WhysAsked, ending_of_exploring, number_of_word, question_asked, wanted_asked};
+ghost use Rattle.drmsim.specs.Statuses.{DrawsBetween, ExploresAsked, JudgesAsked, WhysAsked, number_of_word, question_asked, wanted_asked};
 
 use crate::outcome::Outcome;
 use drm_conform::{conform, read_options};
 use drm_draw::draw;
 use drm_engine::Ending;
-use drm_explore::{Exploring, Options, Wanted, explore};
+use drm_explore::{Options, Wanted, explore};
 use drm_stream::{Sink, Source};
 use drm_text::read_number;
 use drm_why::{Question, why};
@@ -43,17 +43,6 @@ pub(crate) fn draw_part<R: Read, W: Write>(
     match (number_or(0, from), number_or(u32::MAX, to)) {
         (Some(from), Some(to)) => draw(alloc, from as u32, to as u32, reader, writer),
         _ => Ending::NoCount,
-    }
-}
-
-/// Returns how an exploration ended, as the program tells it.
-fn ending_of(found: Exploring) -> Ending
-    ensures { result ≡ ending_of_exploring found }
-{
-    match found {
-        Exploring::Ended(ending) => ending,
-        Exploring::Stuck => Ending::Stuck,
-        Exploring::GaveUp => Ending::MoreStates,
     }
 }
 
@@ -117,8 +106,7 @@ pub(crate) fn explore_orders<R: Read, W: Write>(
         most: most as usize,
         wanted,
     };
-    let found = explore(alloc, options, reader, writer);
-    Outcome::Ended(ending_of(found))
+    Outcome::Ended(explore(alloc, options, reader, writer))
 }
 
 /// Returns the question that a word and two flags ask: of all jobs, else of the rings, else of the job of a fence.
