@@ -41,6 +41,9 @@ class Trial:
         for symbol, (first, *others) in by_symbol.items():
             changed.update({place: (text, first) for place, text in first.lines.items()})
             self.symbols[first] = symbol
+            # An impl of a trait takes no copy of a method: a second wrong body of one is left to be tried alone.
+            if symbol and first.function.in_trait:
+                continue
             for number, it in enumerate([*others, None] if others else [], 2):
                 behind[first.function.file].append(self.copy(first, it, number))
         for path in {path for path, _ in changed}:

@@ -27,21 +27,27 @@ class Sources:
 
     def symbol_of(self, function):
         """Returns the prover's name of a function below its crate, or None where its text alone does not tell it."""
-        if function.in_trait or function.in_cycle:
+        if function.in_cycle or function.in_trait and "<" in function.block.trait:
             return None
         places = {function.module}
         if function.block:
             places = {where for where, *_ in self.source.declared.get(function.owner, [])}
         if len(places) != 1:
             return None
-        return "::".join([*places.pop(), *[function.owner] * bool(function.block), function.name])
+        # The prover names an impl by its type and its trait.
+        owner = function.owner + (function.block.trait[-1] if function.in_trait else "")
+        return "::".join([*places.pop(), *[owner] * bool(function.block), function.name])
 
 
 class WrongBody:
-    """A wrong body: what it changes in the crate's texts, line by line."""
+    """A wrong body: what it changes in the crate's texts, line by line.
+
+    One that changes a definition may name a function whose contract is a law of it, by a line `of: FUNCTION`.
+    """
 
     def __init__(self, sources, file):
         self.crate, self.file, self.name = sources.name, file, os.path.basename(file)[: -len(".edit")]
+        self.laws = re.findall(r"(?m)^of: (\S+)$", toolchain.library.text_of(file))
         self.function, self.symbol, self.lines = None, None, {}
         texts, self.why = toolchain.gate.read_edit(file, sources.folder)
         functions = [self.compare(sources, path, text) for path, text in sorted((texts or {}).items())]
@@ -63,9 +69,10 @@ class WrongBody:
         return functions
 
     def modules(self):
-        """Returns what --only takes for the files that it changes, or nothing where one of them is the crate's root."""
+        """Returns what --only takes for the files that it changes, or nothing where one is the crate's root or no code."""
         names = {re.sub(r"^src/|(/mod)?\.rt$", "", path).replace("/", "::") for path, _ in self.lines}
-        return [] if names & {"lib", "main"} else sorted(names)
+        is_code = all(path.startswith("src/") for path, _ in self.lines)
+        return sorted(names) if is_code and not names & {"lib", "main"} else []
 
 
 def files_of(folder):
