@@ -2,7 +2,7 @@
 use Rattle.std.proofs.Common.{◌≡◌, ℕ, zero, suc, Bool, true, false, List, [], ◌∷◌, Some, refl, sym, ap, ◌∙◌, slice_get, Vec}
 use Rattle.std.proofs.lemmas.Option.{same_Some}
 use Rattle.drm_explorer.specs.Exploring.{AreMoves}
-use Rattle.drm_explorer_tests.specs.Doubling.{Doubles, doubled, form_of}
+use Rattle.drm_orders_tests.specs.Doubling.{Doubles, doubled, form_of}
 
 module _ {A : Type 0} (n : ℕ) (even odd : Vec ℕ A) (even_is : even.items ≡ form_of (doubled n false)) (odd_is : odd.items ≡ form_of (doubled n true)) where
   abbrev pub pair : List (Bool × Vec ℕ A)

@@ -1,3 +1,5 @@
+//! How many plays, moves and stuck plays all orders of a script have.
+
 use crate::count_orders;
 use std::test::Fail;
 

@@ -1,8 +1,8 @@
 use Rattle.std.proofs.Common.{[], ◌∷◌, ap, subst, sym, ◌∙◌}
 use Rattle.drm_explorer.specs.Exploring.{AreMoves}
-use Rattle.drm_explorer_tests.specs.Doubling.{Doubles, form_of}
-use Rattle.drm_explorer_tests.proofs.TwoMoves.{two_moves}
-use Rattle.drm_explorer_tests.proofs.doubling.DoublingSystem.moves.Goals as goal
+use Rattle.drm_orders_tests.specs.Doubling.{Doubles, form_of}
+use Rattle.drm_orders_tests.proofs.TwoMoves.{two_moves}
+use Rattle.drm_orders_tests.proofs.doubling.DoublingSystem.moves.Goals as goal
 
 pub returns : goal.returns
 returns c =

@@ -1,3 +1,5 @@
+//! Which numbers the small system leads to, by which ways.
+
 use crate::Doubling;
 use drm_explorer::{cover, explore};
 use std::test::Fail;

@@ -1,6 +1,6 @@
 ghost use Rattle.std.specs.Prelude.{◌≡◌, ◌<◌};
 ghost use Rattle.drm_explorer.specs.Exploring.{IsWay};
-ghost use Rattle.drm_explorer_tests.specs.Doubling.{Doubles, doubled, form_of, keeps};
+ghost use Rattle.drm_orders_tests.specs.Doubling.{Doubles, doubled, form_of, keeps};
 
 use drm_explorer::System;
 use std::alloc::{AllocError, Global};
