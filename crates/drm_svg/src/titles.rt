@@ -131,11 +131,7 @@ fn put_packets(out: &mut Vec<u8>, kind: Kind, packets: usize) -> Result<(), Allo
 
 // What a bar tells, of a job or of none.
 #[tactic(auto, unfolding(crate::specs::Titles::title_of))]
-pub(crate) fn title(
-    alloc: Global,
-    job: Option<&Request>,
-    bar: &Bar,
-) -> Result<Vec<u8>, AllocError>
+pub(crate) fn title(alloc: Global, job: Option<&Request>, bar: &Bar) -> Result<Vec<u8>, AllocError>
     ensures { IfOk result (λ text. text.items ≡ title_of (option_copied job.entry) bar.now) }
 {
     let mut text = Vec::new(alloc);
