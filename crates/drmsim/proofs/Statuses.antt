@@ -18,7 +18,7 @@ use Rattle.drm_command_line.specs.declared.request.Request.{Request}
 use Rattle.drm_command_line.specs.declared.request.Request.TheVariants as request
 use Rattle.drm_conform.specs.declared.options.Options.{Options}
 use Rattle.drm_why.specs.declared.asking.Question.{Question}
-use Rattle.drmsim.specs.Statuses.{Does, DrawsBetween, EndsAs, ExploresAsked, JudgesAsked, MayHappen, TestsScript, WhysAsked, ending_of_exploring}
+use Rattle.drmsim.specs.Statuses.{Does, DrawsBetween, EndsAs, ExploresAsked, JudgesAsked, MayHappen, TestsScript, WhysAsked}
 use Rattle.drmsim.specs.declared.outcome.Outcome.TheVariants as outcome
 
 pub untouched : (bytes : Option (List ℕ)) → Keeps bytes bytes
