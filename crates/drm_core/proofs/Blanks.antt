@@ -11,7 +11,7 @@ use Rattle.drm_sched.specs.Marks.{Mark, MarkedDevice, unmarked}
 use Rattle.drm_state.specs.State.{RingState, opened_device}
 use Rattle.drm_core.specs.State.{CoreState, opened}
 use Rattle.drm_core.specs.Steady.{IsSteadyCore}
-use Rattle.drm_core.specs.Cores.{core_state, context_of_row, planned_by, IsCore, NothingOut}
+use Rattle.drm_core.specs.Cores.{core_state, context_of_row, planned_by, planned_in, IsCore, NothingOut}
 use Rattle.drm_core.specs.Laws.{DeviceLaws}
 use Rattle.drm_core.proofs.Opening.{opened_core_steady}
 use Rattle.drm_core.proofs.Lists.{map_to_same}
@@ -33,7 +33,7 @@ blank_core c device reservations holders contexts tickets =
     ∙ ap (λ n. record (opened spec) { next_ticket = n }) tickets)))
 
 -- no context has a plan
-pub no_plan : (n ctx : ℕ) → option_map_or (λ o. option_map_or (λ (row : ContextRow). row.plan) o None) (slice_get (replicate n None) ctx) None ≡ None
+pub no_plan : (n ctx : ℕ) → option_map_or (λ o. option_map_or planned_in o None) (slice_get (replicate n None) ctx) None ≡ None
 no_plan zero ctx = refl
 no_plan (suc n) zero = refl
 no_plan (suc n) (suc ctx) = no_plan n ctx
@@ -54,7 +54,7 @@ blank_is_core laws c is limits inside contexts = record {
   limits = limits;
   inside = inside;
   plans = λ ctx plan found.
-      let none : planned_by c ctx ≡ None = ap (λ rows. option_map_or (λ o. option_map_or (λ (row : ContextRow). row.plan) o None) (slice_get rows ctx) None) contexts ∙ no_plan 64 ctx in
+      let none : planned_by c ctx ≡ None = ap (λ rows. option_map_or (λ o. option_map_or planned_in o None) (slice_get rows ctx) None) contexts ∙ no_plan 64 ctx in
       let clash : None ≡ Some plan = sym none ∙ found in absurd (cc (clash));
   reservation_count =
       sym (length-map c.reservations.items (λ (r : WithRoom). r.kept))

@@ -26,3 +26,4 @@ pub mod CoreStands
 pub mod Lists
 pub mod DeviceFacts
 pub mod Telling
+pub mod Naming

@@ -24,7 +24,7 @@ use Rattle.drm_core.specs.Refusals.{early_refusal, late_refusal}
 use Rattle.drm_core.specs.Outcomes.{outcome_of_event}
 use Rattle.drm_core.specs.Step.{unless_refused, reply}
 use Rattle.drm_core.specs.Steady.{IsSteadyCore}
-use Rattle.drm_core.specs.Cores.{core_state, planned_by, IsCore, NothingOut}
+use Rattle.drm_core.specs.Cores.{core_state, planned_by, planned_in, IsCore, NothingOut}
 use Rattle.drm_state.specs.Plans.{DepsCover}
 use Rattle.drm_core.proofs.CoreSteps.{contexts_kept}
 use Rattle.drm_core.proofs.Lists.{get_set_other}
@@ -71,7 +71,7 @@ reply_is s e early late =
 
 -- the plan of an entry of the contexts
 abbrev pub plan_of_row : Option ContextRow → Option Plan
-plan_of_row o = option_map_or (λ (row : ContextRow). row.plan) o None
+plan_of_row o = option_map_or planned_in o None
 
 abbrev pub plan_in : List (Option ContextRow) → ℕ → Option Plan
 plan_in contexts k = option_map_or plan_of_row (slice_get contexts k) None

@@ -1,5 +1,6 @@
 -- A context that plans a job, and a plan that is armed.
 use Rattle.std.proofs.Common.{◌≡◌, ◌≢◌, ℕ, ◌<◌, Bool, true, false, not, List, [], ◌∷◌, length, map, Some, None, Option, Result, Ok, Err, refl, sym, ap, subst, ◌∙◌, inl, inr, slice_get, get_or}
+use Rattle.std.specs.Global.{Box}
 use Rattle.std.specs.Prelude.{◌==◌, option_map, is_none, is_err, OnOk}
 use Rattle.std.specs.List.{list_all}
 use Rattle.std.specs.Option.{option_map_or}
@@ -65,28 +66,28 @@ went_well (Ok x) b is fine p = p
 went_well (Err e) b is fine p = absurd (let never : false ≡ true = sym fine ∙ is in cc (never))
 
 -- the row of a context that has planned this
-abbrev pub with_plan : Plan → ContextRow → ContextRow
-with_plan plan row = record row { is_sealed = true; plan = Some plan }
+abbrev pub with_plan : Box Plan → ContextRow → ContextRow
+with_plan boxed row = record row { is_sealed = true; plan = Some boxed }
 
 -- a plan stands, and those of the other contexts go on to stand
-pub plan_done : (s : CoreState) (c : CoreTable) (ctx : ℕ) (draft : Draft) (plan : Plan) (row new : Option ContextRow) → IsCore c → core_state c ≡ s → ctx < 64
-    → plan.job ≡ draft → is_none (context_of s ctx) ≡ false → job_fault s.device.spec draft ≡ None → holds_all s ctx draft ≡ true
-    → DepsCover c.device.state plan.job plan.deps → AreRoomy plan.job c.reservations.items
-    → row ≡ get_or c.contexts.items ctx row → new ≡ option_map (with_plan plan) row
+pub plan_done : (s : CoreState) (c : CoreTable) (ctx : ℕ) (draft : Draft) (boxed : Box Plan) (row new : Option ContextRow) → IsCore c → core_state c ≡ s → ctx < 64
+    → boxed.value.job ≡ draft → is_none (context_of s ctx) ≡ false → job_fault s.device.spec draft ≡ None → holds_all s ctx draft ≡ true
+    → DepsCover c.device.state boxed.value.job boxed.value.deps → AreRoomy boxed.value.job c.reservations.items
+    → row ≡ get_or c.contexts.items ctx row → new ≡ option_map (with_plan boxed) row
     → Step s (event.Plan ctx draft) answer.Planned (core_state (record c { contexts = with_item c.contexts ctx new })) × IsCore (record c { contexts = with_item c.contexts ctx new })
-plan_done s c ctx draft plan row new core same there job begun none held covers roomy row_is new_is =
+plan_done s c ctx draft boxed row new core same there job begun none held covers roomy row_is new_is =
     subst (λ r. Step s (event.Plan ctx draft) answer.Planned (core_state (record c { contexts = with_item c.contexts ctx r })) × IsCore (record c { contexts = with_item c.contexts ctx r })) (sym new_is) (
       subst (λ z. Step z (event.Plan ctx draft) answer.Planned (core_state planned)) same (inl (sym replies)),
       record {
         steady = steady_still c planned core refl refl (λ k other at.
-            elim (plan_cases c.contexts.items ctx k (option_map (with_plan plan) row) other at) [
+            elim (plan_cases c.contexts.items ctx k (option_map (with_plan boxed) row) other at) [
               | inl here ↦ subst (λ (p : Plan). IsJob c.device.state.spec p.job) (the_plan row other here.1) is_job
               | inr past ↦ core.steady.plans k other.job (planned_job c k ∙ ap (option_map (λ (p : Plan). p.job)) past.1)
             ]);
         limits = core.limits;
         inside = core.inside;
         plans = λ k other at.
-            elim (plan_cases c.contexts.items ctx k (option_map (with_plan plan) row) other at) [
+            elim (plan_cases c.contexts.items ctx k (option_map (with_plan boxed) row) other at) [
               | inl here ↦ subst (λ n. PlanStands planned n other) (sym here.0) (subst (PlanStands planned ctx) (the_plan row other here.1) stands)
               | inr past ↦
                   let old = core.plans k other past.1 in
@@ -94,16 +95,16 @@ plan_done s c ctx draft plan row new core same there job begun none held covers 
             ];
         reservation_count = core.reservation_count;
         holder_count = core.holder_count;
-        context_count = length-set c.contexts.items ctx (option_map (with_plan plan) row) ∙ core.context_count;
+        context_count = length-set c.contexts.items ctx (option_map (with_plan boxed) row) ∙ core.context_count;
         tickets = core.tickets;
       },
     )
   where
     planned : CoreTable
-    planned = record c { contexts = with_item c.contexts ctx (option_map (with_plan plan) row) }
+    planned = record c { contexts = with_item c.contexts ctx (option_map (with_plan boxed) row) }
 
-    is_job : IsJob c.device.state.spec plan.job
-    is_job = subst (λ (z : CoreState). IsJob z.device.spec plan.job) (sym same) (subst (IsJob s.device.spec) (sym job) none)
+    is_job : IsJob c.device.state.spec boxed.value.job
+    is_job = subst (λ (z : CoreState). IsJob z.device.spec boxed.value.job) (sym same) (subst (IsJob s.device.spec) (sym job) none)
 
     begun_here : is_none (context_of (core_state c) ctx) ≡ false
     begun_here = subst (λ z. is_none (context_of z ctx) ≡ false) (sym same) begun
@@ -115,19 +116,30 @@ plan_done s c ctx draft plan row new core same there job begun none held covers 
     replies =
         reply_is (core_state c) (event.Plan ctx draft)
         (plan_early (core_state c) ctx draft true begun_here (subst (λ (z : CoreState). job_fault z.device.spec draft ≡ None) (sym same) none) held_here) refl
-        ∙ ap (λ z. (answer.Planned, z)) (row_changed c ctx row (with_plan plan) (λ x. record x { is_sealed = true; plan = Some draft })
+        ∙ ap (λ z. (answer.Planned, z)) (row_changed c ctx row (with_plan boxed) (λ x. record x { is_sealed = true; plan = Some draft })
         (row_there c ctx row core there row_is) (λ r. ap (λ j. let x : Context = record { ticket = r.ticket; is_sealed = true; plan = Some j } in x) job) begun_here)
 
-    the_plan : (r : Option ContextRow) (other : Plan) → plan_of_row (option_map (with_plan plan) r) ≡ Some other → plan ≡ other
+    the_plan : (r : Option ContextRow) (other : Plan) → plan_of_row (option_map (with_plan boxed) r) ≡ Some other → boxed.value ≡ other
     the_plan None other is = absurd (let never : None ≡ Some other = is in cc (never))
-    the_plan (Some r) other is = let it : Some plan ≡ Some other = is in cc (it)
+    the_plan (Some r) other is = let it : Some boxed.value ≡ Some other = is in cc (it)
 
-    stands : PlanStands planned ctx plan
+    stands : PlanStands planned ctx boxed.value
     stands = record {
       covers = covers;
       holds = subst (λ j. holds_all (core_state c) ctx j ≡ true) (sym job) held_here;
       room = λ b r at used. roomy b r used.0 at used.1;
     }
+
+-- the same of a plan that was put into a box
+pub plan_boxed : (s : CoreState) (c : CoreTable) (ctx : ℕ) (draft : Draft) (plan : Plan) (boxed : Box Plan) (row new : Option ContextRow) → boxed.value ≡ plan → IsCore c → core_state c ≡ s → ctx < 64
+    → plan.job ≡ draft → is_none (context_of s ctx) ≡ false → job_fault s.device.spec draft ≡ None → holds_all s ctx draft ≡ true
+    → DepsCover c.device.state plan.job plan.deps → AreRoomy plan.job c.reservations.items
+    → row ≡ get_or c.contexts.items ctx row → new ≡ option_map (with_plan boxed) row
+    → Step s (event.Plan ctx draft) answer.Planned (core_state (record c { contexts = with_item c.contexts ctx new })) × IsCore (record c { contexts = with_item c.contexts ctx new })
+plan_boxed s c ctx draft plan boxed row new is core same there job begun none held covers roomy row_is new_is =
+    plan_done s c ctx draft boxed row new core same there (ap (λ (p : Plan). p.job) is ∙ job) begun none held
+    (subst (λ (p : Plan). DepsCover c.device.state p.job p.deps) (sym is) covers)
+    (subst (λ (p : Plan). AreRoomy p.job c.reservations.items) (sym is) roomy) row_is new_is
 
 -- ---- a plan is armed
 

@@ -30,7 +30,7 @@ use Rattle.drm_core.specs.Outcomes.{outcome_of_event, armed_core}
 use Rattle.drm_core.specs.Step.{unless_refused, reply, Step}
 use Rattle.drm_core.specs.Steady.{IsSteadyCore}
 use Rattle.drm_state.specs.Reservation.{usage_at, Fits}
-use Rattle.drm_core.specs.Cores.{core_state, planned_by, PlanStands, IsCore}
+use Rattle.drm_core.specs.Cores.{core_state, planned_by, planned_in, PlanStands, IsCore}
 use Rattle.drm_core.specs.Planning.{MoreRoom, HasRoomFor, AreRoomy, ShareNoBuffer, is_held_in}
 use Rattle.drm_sched.specs.Marks.{MarkedDevice}
 use Rattle.drm_core.specs.declared.cores.ContextRow.{ContextRow}
@@ -194,4 +194,4 @@ submit_armed c n m draft job f none is same device job_is late number armed =
 
 -- the plans are those of the state before, where nothing but the room changed
 pub plans_same : (c n : CoreTable) (ctx : ℕ) (other : Plan) → n.contexts ≡ c.contexts → planned_by n ctx ≡ Some other → planned_by c ctx ≡ Some other
-plans_same c n ctx other same is = subst (λ cs. option_map_or (λ o. option_map_or (λ (row : ContextRow). row.plan) o None) (slice_get cs.items ctx) None ≡ Some other) same is
+plans_same c n ctx other same is = subst (λ cs. option_map_or (λ o. option_map_or planned_in o None) (slice_get cs.items ctx) None ≡ Some other) same is

@@ -1,4 +1,5 @@
 -- The state that a core's parts stand for, and what they keep.
+use Rattle.std.specs.Global.{Box}
 use Rattle.std.specs.Prelude.{◌≡◌, ℕ, ◌≤◌, ◌^◌, IsTrue, List, length, map, Option, Some, None, option_map, slice_get}
 use Rattle.std.specs.Option.{option_map_or}
 use Rattle.drm_resv.specs.Reservation.{WithRoom}
@@ -15,9 +16,17 @@ use Rattle.drm_types.specs.Limits.{spec_fault}
 use Rattle.drm_sched.specs.Marks.{MarkedDevice, mark_of}
 use Rattle.drm_state.specs.Plans.{DepsCover}
 
+-- what lies in the box, if there is one
+abbrev pub unboxed : Option (Box Plan) → Option Plan
+unboxed plan = option_map (λ b. b.value) plan
+
+-- what the context of a row has planned
+abbrev pub planned_in : ContextRow → Option Plan
+planned_in row = unboxed row.plan
+
 -- the context of a row: what it has planned is its job
 abbrev pub context_of_row : ContextRow → Context
-context_of_row row = record { ticket = row.ticket; is_sealed = row.is_sealed; plan = option_map (λ p. p.job) row.plan }
+context_of_row row = record { ticket = row.ticket; is_sealed = row.is_sealed; plan = option_map (λ p. p.job) (planned_in row) }
 
 abbrev pub core_state : CoreTable → CoreState
 core_state c = record {
@@ -34,7 +43,7 @@ row_bytes row = option_bytes context_bytes (option_map context_of_row row)
 
 -- the plan of a context
 abbrev pub planned_by : CoreTable → ℕ → Option Plan
-planned_by c ctx = option_map_or (λ o. option_map_or (λ (row : ContextRow). row.plan) o None) (slice_get c.contexts.items ctx) None
+planned_by c ctx = option_map_or (λ o. option_map_or planned_in o None) (slice_get c.contexts.items ctx) None
 
 -- each plan covers, its context holds all that it declares, and these reservations have room
 pub record PlanStands (c : CoreTable) (ctx : ℕ) (plan : Plan) : Type 0 where

@@ -35,8 +35,9 @@ fn no_contexts(alloc: Global, count: usize) -> Result<Vec<Option<ContextRow>>, A
     ensures { IfOk result (λ rows. rows.items ≡ replicate count None) }
 {
     let mut rows = Vec::with_capacity(alloc, count)?;
+    // There is room for all, so that no push asks for more.
     for _ in 0..count {
-        rows.push(None)?;
+        rows.push_reserved(None);
     }
     Ok(rows)
 }

@@ -12,8 +12,8 @@ pub struct ContextRow {
     pub ticket: Ticket,
     /// It locks no more.
     pub is_sealed: bool,
-    /// What it may arm.
-    pub plan: Option<Plan>,
+    /// What it may arm, in a box of its own: so a core takes room for 64 rows, and not for 64 plans.
+    pub plan: Option<Box<Plan>>,
 }
 
 /// The parts of a core: its device, the reservation and the holder of each buffer, the contexts, and the

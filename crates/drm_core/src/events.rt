@@ -32,7 +32,7 @@ impl CoreTable {
             Event::Done { ctx } => self.done(ctx),
             Event::Drop { ctx, buffer } => self.drop_held(ctx, buffer),
             Event::End { ctx } => self.end(ctx),
-            Event::Plan { ctx, job } => self.plan(ctx, job),
+            Event::Plan { ctx, job } => self.plan(alloc, ctx, job),
             Event::Arm { ctx } => self.arm(ctx),
             Event::Pick { ring, now } => self.pick(ring, now),
             Event::Step { ring } => self.step(ring),

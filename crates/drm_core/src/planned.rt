@@ -5,7 +5,7 @@ ghost use Rattle.drm_core.specs.declared.cores.ContextRow.{ContextRow as Row};
 ghost use Rattle.drm_core.specs.Claims.{without_plan};
 ghost use Rattle.drm_core.specs.Refusals.{early_refusal};
 ghost use Rattle.drm_core.specs.Step.{Step, reply};
-ghost use Rattle.drm_core.specs.Cores.{core_state, IsCore};
+ghost use Rattle.drm_core.specs.Cores.{core_state, planned_in, IsCore};
 
 use crate::cores::{ContextRow, CoreTable};
 use crate::planning;
@@ -13,9 +13,10 @@ use drm_job::Draft;
 use drm_resv::Deps;
 use drm_sched::{Answer, Plan, Refusal};
 use drm_types::CtxId;
+use std::alloc::Global;
 
 // The context has planned this, and locks no more.
-fn set_plan(context: &mut Option<ContextRow>, plan: Plan)
+fn set_plan(context: &mut Option<ContextRow>, plan: Box<Plan>)
     ensures { context.new ≡ option_map (λ (row : Row). record row { is_sealed = true; plan = Some plan }) context.old }
 {
     if let Some(row) = context {
@@ -24,13 +25,16 @@ fn set_plan(context: &mut Option<ContextRow>, plan: Plan)
     }
 }
 
-// What the context has planned is taken out.
+// What the context has planned is taken out of its box.
 fn take_plan(context: &mut Option<ContextRow>) -> Option<Plan>
-    ensures taken { result ≡ option_map_or (λ (row : Row). row.plan) context.old None }
+    ensures taken { result ≡ option_map_or planned_in context.old None }
     ensures left { context.new ≡ option_map without_plan context.old }
 {
     match context {
-        Some(row) => row.plan.take(),
+        Some(row) => match row.plan.take() {
+            Some(boxed) => Some(Box::into_inner(boxed)),
+            None => None,
+        },
         None => None,
     }
 }
@@ -51,10 +55,10 @@ impl CoreTable {
     }
 
     /// Plans a job over the reservations that the context holds (`drm_sched_job_add_implicit_dependencies`): it is
-    /// checked, room for its uses is taken (`dma_resv_reserve_fences`), and what it waits for is collected. The context
-    /// locks no more, and what it planned before is forgotten.
+    /// checked, room for its uses is taken (`dma_resv_reserve_fences`), what it waits for is collected, and both are put
+    /// into a box. The context locks no more, and what it planned before is forgotten.
     #[inline(always)]
-    pub(crate) fn plan(&mut self, ctx: CtxId, draft: Draft) -> Answer
+    pub(crate) fn plan(&mut self, alloc: Global, ctx: CtxId, draft: Draft) -> Answer
         requires ctx { ctx < 64 }
         requires core { IsCore self.old }
         ensures step { Step (core_state self.old) (event.Plan ctx draft) result (core_state self.new) }
@@ -75,7 +79,11 @@ impl CoreTable {
         }
         let mut deps = Deps::new();
         self.collect(&job, &mut deps);
-        set_plan(&mut self.contexts[ctx as usize], Plan { job, deps });
+        let plan = match Box::new(alloc, Plan { job, deps }) {
+            Ok(plan) => plan,
+            Err(_) => return Answer::Refused(Refusal::Memory),
+        };
+        set_plan(&mut self.contexts[ctx as usize], plan);
         Answer::Planned
     }
 
