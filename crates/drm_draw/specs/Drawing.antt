@@ -11,7 +11,7 @@ use Rattle.drm_picture.specs.declared.command.Step.{Step}
 use Rattle.drm_picture.specs.declared.picture.Picture.{Picture}
 use Rattle.drm_picture.specs.declared.picture.Shape.{Shape}
 use Rattle.drm_picture.specs.Pictures.{IsPicture, part_of}
-use Rattle.drm_svg.specs.Svg.{IsSvg}
+use Rattle.drm_draw.specs.Page.{IsPage}
 use Rattle.drm_script.specs.declared.script.Script.{Script}
 use Rattle.drm_stream.specs.Transfer.{AppendsFront}
 use Rattle.drm_engine.specs.Replaying.{AreAnswers, Replays, SpellsScript}
@@ -47,7 +47,7 @@ AreSteps events answers steps = (map asked steps ≡ map asked_by events) × (ma
 
 -- the text of the picture of the part of these steps from one place to before another
 abbrev pub IsDrawn : Shape → ℕ → ℕ → List Step → List ℕ → Type 0
-IsDrawn shape from to steps text = (picture : Picture) × IsPicture shape from to steps picture × IsSvg picture text
+IsDrawn shape from to steps text = (picture : Picture) × IsPicture shape from to steps picture × IsPage picture text
 
 -- the text of the picture of a part of what the script does
 abbrev pub IsDrawnOf : Script → ℕ → ℕ → List ℕ → Type 0

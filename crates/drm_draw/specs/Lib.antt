@@ -1,1 +1,5 @@
+pub mod Legend
+pub mod Keys
+pub mod Heading
+pub mod Page
 pub mod Drawing

@@ -12,7 +12,7 @@ use Rattle.drm_state.specs.declared.answer.Answer.{Answer}
 use Rattle.drm_state.specs.declared.answer.Answer.TheVariants as answer
 use Rattle.drm_types.specs.declared.outcome.Outcome.{Outcome}
 use Rattle.drm_types.specs.declared.outcome.Outcome.TheVariants as outcome
-use Rattle.drm_picture.specs.Bars.{armed, bar_at, bar_from, bars_of, ends, entities_of, kept_beyond, lasts_beyond, look_of, shown_by, shown_by_outcome, steps_between}
+use Rattle.drm_picture.specs.Bars.{armed, bar_at, bar_from, bars_of, ends, kept_beyond, lasts_beyond, look_of, shown_by, shown_by_outcome, steps_between}
 use Rattle.drm_picture.specs.Commands.{moment_of}
 use Rattle.drm_picture.specs.Latest.{EndsIn}
 use Rattle.drm_picture.specs.Waiting.{waiting_look}
@@ -57,7 +57,7 @@ found_behind run place opening =
     let e : place + 1 + between ≡ place + (between + 1) = omega arith in
     sym (found_at (ends kind.Fence opening) behind) ∙ slice_get-drop (place + 1) run between ∙ ap (λ (k : ℕ). slice_get run k) e
 
-made-ends : (run : List Step) (place : ℕ) (step : Step) (opening : Opening) → place < length run → EndsIn run (bar_from kind.Fence (entities_of run) place step (drop (place + 1) run) opening)
+made-ends : (run : List Step) (place : ℕ) (step : Step) (opening : Opening) → place < length run → EndsIn run (bar_from kind.Fence place step (drop (place + 1) run) opening)
 made-ends run place step opening within =
     let behind = drop (place + 1) run in
     let at = position_or_len (ends kind.Fence opening) behind in
@@ -80,12 +80,12 @@ made_by f (Some opening) bar P each is = subst P (same_Some (f opening) bar is) 
 -- what a fence's bar is at a place of the run
 fence_by : (from : ℕ) (run : List Step) (place : ℕ) (step : Step) (bar : Bar) → place < length run → kept_beyond from (bar_at kind.Fence run (place, step)) ≡ Some bar → EndsIn run bar
 fence_by from run place step bar within is =
-    made_by (bar_from kind.Fence (entities_of run) place step (drop (place + 1) run)) (armed step.answer) bar (EndsIn run) (λ opening. made-ends run place step opening within)
+    made_by (bar_from kind.Fence place step (drop (place + 1) run)) (armed step.answer) bar (EndsIn run) (λ opening. made-ends run place step opening within)
     (kept_is from (bar_at kind.Fence run (place, step)) bar is)
 
 begins_at : (from : ℕ) (run : List Step) (p : ℕ × Step) (bar : Bar) → kept_beyond from (bar_at kind.Fence run p) ≡ Some bar → bar.from ≡ p.0
 begins_at from run p bar is =
-    made_by (bar_from kind.Fence (entities_of run) p.0 p.1 (drop (p.0 + 1) run)) (armed p.1.answer) bar (λ b. b.from ≡ p.0) (λ opening. refl) (kept_is from (bar_at kind.Fence run p) bar is)
+    made_by (bar_from kind.Fence p.0 p.1 (drop (p.0 + 1) run)) (armed p.1.answer) bar (λ b. b.from ≡ p.0) (λ opening. refl) (kept_is from (bar_at kind.Fence run p) bar is)
 
 All-cons_option : {Y : Type 0} (P : Y → Type 0) (o : Option Y) (ys : List Y) → ((y : Y) → o ≡ Some y → P y) → All P ys → All P (cons_option o ys)
 All-cons_option P None ys law all = all

@@ -49,7 +49,6 @@ abbrev shown_wait : ℕ → ℕ → ℕ → ℕ → Look → Option ℕ → Bar
 shown_wait place fence buffer end shown told = record {
   kind = kind.Waiting;
   opening = record { lane = lane.Buffer buffer; number = fence; skipped = false };
-  entity = None;
   from = place;
   span = end - place;
   look = shown;

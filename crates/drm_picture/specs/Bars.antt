@@ -1,5 +1,5 @@
 -- Bars: where each begins and ends.
-use Rattle.std.specs.Prelude.{ℕ, Bool, true, false, List, Option, Some, None, ◌+◌, ◌==◌, ◌&&◌, length, drop, take, position, find, count_by, nat_lt, option_map, option_and_then, reverse, slice_get, unwrap_or, if◌then◌else◌}
+use Rattle.std.specs.Prelude.{ℕ, Bool, true, false, List, Option, Some, None, ◌+◌, ◌==◌, ◌&&◌, length, drop, take, position, find, count_by, nat_lt, option_map, option_and_then, reverse, unwrap_or, if◌then◌else◌}
 use Rattle.std.specs.Option.{option_map_or}
 use Rattle.std.specs.List.{enumerate_from, filter_map}
 use Rattle.drm_state.specs.declared.answer.Answer.{Answer}
@@ -168,30 +168,11 @@ packets_of _ fence during = 0
 abbrev pub steps_between : Kind → Opening → List Step → ℕ
 steps_between kind opening behind = unwrap_or (position (ends kind opening) behind) (length behind)
 
--- the entity of the job that an answer arms, if it arms one
-abbrev pub entity_by : Option Request → Answer → Option ℕ
-entity_by job (answer.Armed fence) = option_map (λ request. request.entity) job
-entity_by job _ = None
-
--- the entity of the job that is armed at this place of a run, if one is
-abbrev pub entity_at : List Step → ℕ × Step → Option ℕ
-entity_at run p = entity_by (armed_job (take p.0 run) p.1) p.1.answer
-
--- the entities of the jobs that a run arms, in the order of their fences
-abbrev pub entities_of : List Step → List ℕ
-entities_of run = filter_map (entity_at run) (enumerate_from 0 run)
-
--- the entity of the job on a ring that has this fence: fences are numbered as they are armed
-abbrev pub entity_of : Kind → List ℕ → ℕ → Option ℕ
-entity_of kind.Job entities fence = slice_get entities fence
-entity_of _ entities fence = None
-
--- the bar of what begins by the step at this place, before these, in a run that arms jobs of these entities
-abbrev pub bar_from : Kind → List ℕ → ℕ → Step → List Step → Opening → Bar
-bar_from kind entities place step behind opening = record {
+-- the bar of what begins by the step at this place, before these
+abbrev pub bar_from : Kind → ℕ → Step → List Step → Opening → Bar
+bar_from kind place step behind opening = record {
   kind = kind;
   opening = opening;
-  entity = entity_of kind entities opening.number;
   from = place;
   span = steps_between kind opening behind + 1;
   look = look_of kind step.answer (find (ends kind opening) behind);
@@ -202,7 +183,7 @@ bar_from kind entities place step behind opening = record {
 
 -- the bar of a kind that begins at this place of a run, if one does
 abbrev pub bar_at : Kind → List Step → ℕ × Step → Option Bar
-bar_at kind run p = option_map (bar_from kind (entities_of run) p.0 p.1 (drop (p.0 + 1) run)) (opening_of kind (take p.0 run) p.1)
+bar_at kind run p = option_map (bar_from kind p.0 p.1 (drop (p.0 + 1) run)) (opening_of kind (take p.0 run) p.1)
 
 -- the bar ends behind this place, or not in the run
 abbrev pub lasts_beyond : ℕ → Bar → Bool

@@ -40,7 +40,6 @@ abbrev pub wait_to : List Step → ℕ → ℕ → ℕ → ℕ → Bar
 wait_to run place fence buffer end = record {
   kind = kind.Waiting;
   opening = record { lane = lane.Buffer buffer; number = fence; skipped = false };
-  entity = None;
   from = place;
   span = end - place;
   look = look_until run end;

@@ -1,5 +1,6 @@
 pub mod Commands
 pub mod Bars
+pub mod Armed
 pub mod Ends
 pub mod Marks
 pub mod Waits

@@ -1,5 +1,6 @@
 -- The picture of a part of a run.
-use Rattle.std.specs.Prelude.{◌≡◌, ℕ, List, drop, map, take}
+use Rattle.std.specs.Prelude.{◌≡◌, ℕ, List, drop, length, map, take}
+use Rattle.drm_picture.specs.Armed.{requests_of}
 use Rattle.drm_picture.specs.Bars.{bars_of}
 use Rattle.drm_picture.specs.Marks.{marks_of}
 use Rattle.drm_picture.specs.Waiting.{waiting_of}
@@ -14,11 +15,13 @@ abbrev pub part_of : ℕ → ℕ → List Step → List Step
 part_of from to steps = drop from (take to steps)
 
 -- of the part from one place to before another: a column for each command, and its marks and waits; of the run up to the end of the part:
--- the bars of each kind that last beyond its begin; and the lanes of the device
+-- the jobs that it arms, and the bars of each kind that last beyond its begin; and the lanes of the device
 pub record IsPicture (shape : Shape) (from to : ℕ) (steps : List Step) (picture : Picture) : Type 0 where
   pub lanes : picture.shape ≡ shape
   pub first : picture.first ≡ from
+  pub total : picture.total ≡ length steps
   pub columns : picture.columns.items ≡ map (λ step. step.command) (part_of from to steps)
+  pub armed : picture.armed.items ≡ requests_of (take to steps)
   pub jobs : picture.jobs.items ≡ bars_of kind.Job from (take to steps)
   pub queued : picture.queued.items ≡ bars_of kind.Queued from (take to steps)
   pub stopped : picture.stopped.items ≡ bars_of kind.Stopped from (take to steps)

@@ -34,7 +34,6 @@ abbrev pub wait_until : ℕ → ℕ → ℕ → Bar → Bar
 wait_until place fence buffer earlier = record {
   kind = kind.Waiting;
   opening = record { lane = lane.Buffer buffer; number = fence; skipped = false };
-  entity = None;
   from = place;
   span = earlier.from + earlier.span - place;
   look = waiting_look earlier.look;

@@ -3,7 +3,7 @@
 ghost use Rattle.std.specs.List.{cons_option};
 ghost use Rattle.std.specs.Option.{option_copied};
 ghost use Rattle.std.specs.Prelude.{◌≡◌, ◌+◌, ◌<◌, ◌≤◌, ◌^◌, ◌++◌, [], find, length, option_and_then, position, reverse, take, IfOk, OnOk};
-ghost use Rattle.drm_picture.specs.Bars.{armed, armed_job as armed_job_of, bar_at, bar_from, bars_of, cancelled_by, drops, endless_look, ends, ends_fence, ends_job, entities_of, entity_by, entity_of, granted, kept_beyond, last_planned as last_planned_by, lasts_beyond, leaves_queue, locked, look_of, opening_of, packets_of, picked, plans, queued, runs, shown_by, steps_between, stopped_by, unlocks_in};
+ghost use Rattle.drm_picture.specs.Bars.{armed, armed_job as armed_job_of, bar_at, bar_from, bars_of, cancelled_by, drops, endless_look, ends, ends_fence, ends_job, granted, kept_beyond, last_planned as last_planned_by, lasts_beyond, leaves_queue, locked, look_of, opening_of, packets_of, picked, plans, queued, runs, shown_by, steps_between, stopped_by, unlocks_in};
 ghost use Rattle.drm_picture.specs.Commands.{moment_of};
 ghost use Rattle.drm_picture.specs.Ends.{AreNext, none_ends};
 
@@ -11,7 +11,7 @@ use crate::command::{Request, Step, moment, run_before};
 use crate::ends::{note_end, skipped};
 use drm_core::Event;
 use drm_state::Answer;
-use drm_types::{EntityId, FenceId, Moment, Outcome};
+use drm_types::{EntityId, Moment, Outcome};
 use std::alloc::{AllocError, Global};
 
 /// Where a bar or a mark is drawn.
@@ -77,8 +77,6 @@ pub struct Bar {
     pub kind: Kind,
     /// What begins.
     pub opening: Opening,
-    /// The entity of a job on its ring.
-    pub entity: Option<EntityId>,
     /// The place of the command that begins it.
     pub from: usize,
     /// How many commands later it ends, or the run does.
@@ -436,57 +434,9 @@ fn end_step(kind: Kind, opening: Opening, behind: &[Step], more: usize) -> Optio
     behind.get(more)
 }
 
-// The entity of the job that a step behind these arms, if it arms one.
-fn armed_entity(before: &[Step], step: &Step) -> Option<EntityId>
-    ensures { result ≡ entity_by (armed_job_of before.now step.now) step.now.answer }
-{
-    match &step.answer {
-        Answer::Armed { .. } => match armed_job(before, step) {
-            Some(request) => Some(request.entity),
-            None => None,
-        },
-        _ => None,
-    }
-}
-
-// Adds what there is.
-fn push_entity(entities: &mut Vec<EntityId>, found: Option<EntityId>) -> Result<(), AllocError>
-    ensures { OnOk result (entities.new.items ≡ entities.old.items ++ cons_option found []) }
-{
-    match found {
-        Some(entity) => {
-            entities.push(entity)?;
-            Ok(())
-        }
-        None => Ok(()),
-    }
-}
-
-/// The entities of the jobs that a run arms, in the order of their fences.
-pub(crate) fn entities(alloc: Global, run: &[Step]) -> Result<Vec<EntityId>, AllocError>
-    ensures { IfOk result (λ entities. entities.items ≡ entities_of run.now) }
-{
-    let mut entities = Vec::new(alloc);
-    for (place, step) in run.iter().enumerate() {
-        push_entity(&mut entities, armed_entity(run_before(run, place), step))?;
-    }
-    Ok(entities)
-}
-
-// The entity of the job on a ring that has this fence.
-fn entity(kind: Kind, entities: &[EntityId], fence: FenceId) -> Option<EntityId>
-    ensures { result ≡ entity_of kind entities.now fence }
-{
-    match kind {
-        Kind::Job => entities.get(fence as usize).copied(),
-        _ => None,
-    }
-}
-
 // The bar of what begins by the step at a place, before these, of which none of so many at their begin ends it.
 fn bar_of(
     kind: Kind,
-    entities: &[EntityId],
     place: usize,
     step: &Step,
     behind: &[Step],
@@ -494,7 +444,7 @@ fn bar_of(
     opening: Opening,
 ) -> Bar
     requires { none_ends kind opening (take skipped behind.now) }
-    ensures value { result ≡ bar_from kind entities.now place step.now behind.now opening }
+    ensures value { result ≡ bar_from kind place step.now behind.now opening }
     ensures within { result.from + result.span ≤ place + length behind.now + 1 }
 {
     let more = between(kind, opening, behind, skipped);
@@ -502,7 +452,6 @@ fn bar_of(
     Bar {
         kind,
         opening,
-        entity: entity(kind, entities, opening.number),
         from: place,
         span: more + 1,
         look: shown_look(kind, &step.answer, last),
@@ -517,27 +466,17 @@ fn bar_beyond(
     kind: Kind,
     from: usize,
     run: &[Step],
-    entities: &[EntityId],
     place: usize,
     step: &Step,
     next: &[usize],
 ) -> Option<Bar>
     requires within { place < length run.now }
-    requires entities { entities.now ≡ entities_of run.now }
     requires next { AreNext kind run.now (place + 1) next.now }
     ensures { result ≡ kept_beyond from (bar_at kind run.now (place, step.now)) }
 {
     let opening = opening_at(kind, &run[..place], step)?;
     let skipped = skipped(next, kind, opening, place + 1);
-    let bar = bar_of(
-        kind,
-        entities,
-        place,
-        step,
-        &run[place + 1..],
-        skipped,
-        opening,
-    );
+    let bar = bar_of(kind, place, step, &run[place + 1..], skipped, opening);
     if bar.is_beyond(from) { Some(bar) } else { None }
 }
 
@@ -554,26 +493,20 @@ pub(crate) fn push_bar(bars: &mut Vec<Bar>, found: Option<Bar>) -> Result<(), Al
     }
 }
 
-/// The bars of a kind that last beyond a place of the run, which arms jobs of these entities. From its end on, so that
-/// the place where each ends is known.
+/// The bars of a kind that last beyond a place of the run. From its end on, so that the place where each ends is known.
 pub(crate) fn bars(
     alloc: Global,
     kind: Kind,
     from: usize,
     run: &[Step],
-    entities: &[EntityId],
 ) -> Result<Vec<Bar>, AllocError>
-    requires { entities.now ≡ entities_of run.now }
     ensures { IfOk result (λ bars. bars.items ≡ bars_of kind from run.now) }
 {
     let mut next = vec![in alloc; run.len(); run.len()]?;
     let mut bars = Vec::new(alloc);
     for place in (0..run.len()).rev() {
         let step = &run[place];
-        push_bar(
-            &mut bars,
-            bar_beyond(kind, from, run, entities, place, step, &next),
-        )?;
+        push_bar(&mut bars, bar_beyond(kind, from, run, place, step, &next))?;
         note_end(&mut next, kind, place, step);
     }
     bars.reverse();

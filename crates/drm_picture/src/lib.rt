@@ -7,6 +7,7 @@
 //! above.
 #![tactic(auto)]
 
+mod armed;
 mod bars;
 mod command;
 mod conflict;

@@ -3,8 +3,9 @@
 ghost use Rattle.std.specs.Prelude.{◌≡◌, IfOk, take};
 ghost use Rattle.drm_picture.specs.Pictures.{IsPicture, part_of};
 
-use crate::bars::{Bar, Kind, bars, entities};
-use crate::command::{Step, commands, run_before};
+use crate::armed::requests;
+use crate::bars::{Bar, Kind, bars};
+use crate::command::{Request, Step, commands, run_before};
 use crate::marks::{Mark, marks};
 use crate::waiting::waiting;
 use crate::waits::{Wait, waits};
@@ -27,8 +28,12 @@ pub struct Picture {
     pub shape: Shape,
     /// The place of the first command of the part.
     pub first: usize,
+    /// How many commands the whole run has.
+    pub total: usize,
     /// A column for each command of the part.
     pub columns: Vec<Event<EntityId>>,
+    /// The jobs that the run arms up to the end of the part, in the order of their fences.
+    pub armed: Vec<Request>,
     /// The jobs on their rings.
     pub jobs: Vec<Bar>,
     /// The jobs in the queues of their entities.
@@ -66,18 +71,19 @@ pub fn picture_of(
     ensures { IfOk result (λ picture. IsPicture shape from to steps.now picture) }
 {
     let run = run_before(steps, to);
-    let entities = entities(alloc, run)?;
-    let fences = bars(alloc, Kind::Fence, from, run, &entities)?;
+    let fences = bars(alloc, Kind::Fence, from, run)?;
     let waiting = waiting(alloc, from, run, &fences)?;
     let waits = waits(alloc, from, run, &fences)?;
     Ok(Picture {
         shape,
         first: from,
+        total: steps.len(),
         columns: commands(alloc, part(steps, from, to))?,
-        jobs: bars(alloc, Kind::Job, from, run, &entities)?,
-        queued: bars(alloc, Kind::Queued, from, run, &entities)?,
-        stopped: bars(alloc, Kind::Stopped, from, run, &entities)?,
-        locks: bars(alloc, Kind::Lock, from, run, &entities)?,
+        armed: requests(alloc, run)?,
+        jobs: bars(alloc, Kind::Job, from, run)?,
+        queued: bars(alloc, Kind::Queued, from, run)?,
+        stopped: bars(alloc, Kind::Stopped, from, run)?,
+        locks: bars(alloc, Kind::Lock, from, run)?,
         waiting,
         fences,
         marks: marks(alloc, from, run)?,

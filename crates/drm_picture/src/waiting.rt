@@ -102,7 +102,6 @@ fn wait_to(run: &[Step], place: usize, fence: FenceId, buffer: u32, end: usize) 
             number: fence,
             skipped: false,
         },
-        entity: None,
         from: place,
         span: end - place,
         look: look_until(run, end),

@@ -1,5 +1,5 @@
 -- Lists with their places, one element more.
-use Rattle.std.proofs.Common.{◌≡◌, ◌∙◌, ℕ, List, [], ◌∷◌, ◌++◌, ◌+◌, ◌<◌, ◌≤◌, ap, append-nil, refl, sym, subst, arith, below_more, flat_map, length, map, take, get_or}
+use Rattle.std.proofs.Common.{◌≡◌, ◌∙◌, ℕ, List, [], ◌∷◌, ◌++◌, ◌+◌, ◌<◌, ◌≤◌, ap, append-nil, append_assoc, refl, sym, subst, arith, below_more, flat_map, length, map, take, get_or}
 use Rattle.std.specs.List.{enumerate_from}
 use Rattle.std.proofs.lemmas.Grind.{flat_map-append}
 use Rattle.std.proofs.lemmas.List.{get_or_append_left, get_or_at, get_or_default, length-append, map-append, take-append-le, take_at}
@@ -24,6 +24,16 @@ told_more h xs place d within =
     ap (flat_map h) (placed_more xs place x within found)
     ∙ flat_map-append h (enumerate_from 0 (take place xs)) ((place, x) ∷ [])
     ∙ ap (λ l. flat_map h (enumerate_from 0 (take place xs)) ++ l) (append-nil (h (place, x)))
+
+-- one element more, of which a text is told behind another text
+pub told_behind : {X : Type 0} (h : ℕ × X → List ℕ) (xs : List X) (place : ℕ) (d : X) (old before after : List ℕ) → place < length xs
+    → before ≡ old ++ flat_map h (enumerate_from 0 (take place xs)) → after ≡ before ++ h (place, get_or xs place d)
+    → after ≡ old ++ flat_map h (enumerate_from 0 (take (place + 1) xs))
+told_behind h xs place d old before after within so put =
+    put
+    ∙ ap (λ l. l ++ h (place, get_or xs place d)) so
+    ∙ append_assoc old (flat_map h (enumerate_from 0 (take place xs))) (h (place, get_or xs place d))
+    ∙ ap (λ l. old ++ l) (sym (told_more h xs place d within))
 
 -- what holds of each element and of those before it, of one element more
 pub each_more : {X : Type 0} (P : List X → X → Type 0) (xs : List X) (x : X)

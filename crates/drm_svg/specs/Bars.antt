@@ -1,60 +1,79 @@
 -- The text of bars.
-use Rattle.std.specs.Prelude.{ℕ, Bool, List, [], Option, Some, None, ◌++◌, ◌+◌, ◌/◌, codes, decimal, flat_map, if◌then◌else◌, length, nat_le}
+use Rattle.std.specs.Prelude.{ℕ, Bool, List, [], ◌∷◌, Option, Some, None, ◌++◌, ◌+◌, ◌/◌, codes, decimal, find, flat_map, if◌then◌else◌, length, nat_le}
+use Rattle.std.specs.Option.{option_map_or}
 use Rattle.drm_picture.specs.declared.bars.Bar.{Bar}
+use Rattle.drm_picture.specs.declared.bars.Kind.{Kind}
+use Rattle.drm_picture.specs.declared.bars.Kind.TheVariants as kind
 use Rattle.drm_picture.specs.declared.bars.Look.{Look}
 use Rattle.drm_picture.specs.declared.bars.Look.TheVariants as look
+use Rattle.drm_picture.specs.declared.command.Request.{Request}
 use Rattle.drm_picture.specs.declared.picture.Picture.{Picture}
 use Rattle.drm_svg.specs.Escape.{escaped}
 use Rattle.drm_svg.specs.Layout.{placed_at, row_of_lane}
+use Rattle.drm_svg.specs.Owners.{job_of, letters_text}
 use Rattle.drm_svg.specs.Signs.{class_of_kind, sign_of_look, word_of_look}
 use Rattle.drm_svg.specs.Titles.{title_of}
 use Rattle.drm_svg.specs.declared.bars.TheConstants.{COLOUR, GROUP_END, HALT_HEIGHT, HEIGHT, TITLE}
 use Rattle.drm_svg.specs.declared.layout.Layout.{Layout}
 use Rattle.drm_svg.specs.declared.placing.Placed.{Placed}
 
-abbrev pub entity_label : Option ℕ → List ℕ
-entity_label (Some entity) = codes "/" ++ decimal entity
-entity_label None = []
+-- the entity of a job, where the lane does not tell it
+abbrev pub entity_label : Kind → Option Request → List ℕ
+entity_label kind.Queued job = []
+entity_label _ (Some job) = codes "/" ++ decimal job.entity
+entity_label _ None = []
 
 -- the number of its fence or context, the entity if there is one to tell, and the sign of its outcome
-abbrev pub label_of : Option ℕ → Bar → List ℕ
-label_of entity bar = decimal bar.opening.number ++ entity_label entity ++ sign_of_look bar.look
+abbrev pub label_of : Option Request → Bar → List ℕ
+label_of job bar = decimal bar.opening.number ++ entity_label bar.kind job ++ sign_of_look bar.look
+
+-- the labels of a bar from the longest on: with the entity of its job and what that does with which buffers, with the entity, and without
+abbrev pub labels_of : Option Request → Bar → List (List ℕ)
+labels_of job bar = (label_of job bar ++ letters_text job) ∷ label_of job bar ∷ label_of None bar ∷ []
 
 -- a label fits into so many columns, three characters to each
-abbrev pub fits : List ℕ → ℕ → Bool
-fits label width = nat_le ((length label + 2) / 3) width
+abbrev pub fits : ℕ → List ℕ → Bool
+fits width label = nat_le ((length label + 2) / 3) width
 
 -- a label at the place of a bar
 unfoldable pub text_at : Placed → List ℕ → List ℕ
 text_at bar label = codes "<text x='" ++ decimal bar.left ++ codes "1' y='" ++ decimal bar.row ++ codes "7'>" ++ label ++ codes "</text>"
 
--- the label of a bar that tells no entity, where it fits
-abbrev pub short_label_text : Placed → List ℕ
-short_label_text bar = if fits (label_of None bar.bar) bar.width then text_at bar (label_of None bar.bar) else []
-
--- the label of a bar: with the entity of a job on its ring where that fits
-abbrev pub label_text : Placed → List ℕ
-label_text bar = if fits (label_of bar.bar.entity bar.bar) bar.width then text_at bar (label_of bar.bar.entity bar.bar) else short_label_text bar
+-- the first of the labels that fits, if one does
+abbrev pub label_text : Option Request → Placed → List ℕ
+label_text job bar = option_map_or (text_at bar) (find (fits bar.width) (labels_of job bar.bar)) []
 
 -- a job that is to be skipped is hatched
 abbrev pub class_of : Bar → List ℕ
 class_of bar = if bar.opening.skipped then codes " skipped" else codes ""
 
 -- what a bar tells
-unfoldable pub title_text : Bar → List ℕ
-title_text bar = codes "<g class='" ++ class_of_kind bar.kind ++ TITLE.now ++ escaped (title_of bar)
+unfoldable pub title_text : Option Request → Bar → List ℕ
+title_text job bar = codes "<g class='" ++ class_of_kind bar.kind ++ TITLE.now ++ escaped (title_of job bar)
 
 -- its place and its size
 unfoldable pub place_text : Placed → List ℕ
 place_text bar = codes "' x='" ++ decimal bar.left ++ codes "0' y='" ++ decimal bar.row ++ codes "1' width='" ++ decimal bar.width ++ HEIGHT.now
 
--- its colour
-abbrev pub colour_text : Bar → List ℕ
-colour_text bar = COLOUR.now ++ word_of_look bar.look ++ class_of bar
+-- the class of the bars of jobs of an entity
+abbrev pub class_of_entity : ℕ → List ℕ
+class_of_entity entity = codes "e" ++ decimal entity
 
--- a bar
-unfoldable pub bar_text : Placed → List ℕ
-bar_text bar = title_text bar.bar ++ colour_text bar.bar ++ place_text bar ++ label_text bar ++ GROUP_END.now
+abbrev pub paint_text : Option Request → List ℕ
+paint_text (Some job) = class_of_entity job.entity ++ codes " "
+paint_text None = []
+
+-- its colour, which is that of the entity of its job, and its edge, which tells the outcome
+abbrev pub colour_text : Option Request → Bar → List ℕ
+colour_text job bar = COLOUR.now ++ paint_text job ++ word_of_look bar.look ++ class_of bar
+
+-- the bar of a job, or of none
+unfoldable pub bar_text : Option Request → Placed → List ℕ
+bar_text job bar = title_text job bar.bar ++ colour_text job bar.bar ++ place_text bar ++ label_text job bar ++ GROUP_END.now
+
+-- bars of a picture
+abbrev pub bars_text : Picture → List Placed → List ℕ
+bars_text picture bars = flat_map (λ bar. bar_text (job_of picture bar.bar) bar) bars
 
 -- the line of a header in which the bar of a stopped entity lies: one that is guilty and cancelled has two
 abbrev pub line_of : Look → List ℕ
@@ -68,7 +87,7 @@ halt_place_text bar =
 
 -- such a bar, below the marks
 unfoldable pub halt_text : Placed → List ℕ
-halt_text bar = title_text bar.bar ++ colour_text bar.bar ++ halt_place_text bar
+halt_text bar = title_text None bar.bar ++ colour_text None bar.bar ++ halt_place_text bar
 
 -- the bars of the entities that were stopped, each in the header of its lane
 abbrev pub halts_text : Picture → Layout → List ℕ

@@ -1,42 +1,32 @@
--- The head of the text, the names of the lanes, and the columns.
+-- The lanes with their names and bars, and the columns.
 use Rattle.std.specs.Prelude.{ℕ, List, [], ◌∷◌, ◌++◌, ◌+◌, ◌==◌, Option, Some, None, codes, decimal, flat_map, if◌then◌else◌, take}
 use Rattle.std.specs.List.{enumerate_from}
 use Rattle.std.specs.Option.{option_or}
 use Rattle.drm_picture.specs.Commands.{moment_of, word_of}
 use Rattle.drm_picture.specs.declared.bars.Lane.{Lane}
 use Rattle.drm_core.specs.declared.event.Event.{Event}
-use Rattle.drm_svg.specs.Bars.{bar_text}
+use Rattle.drm_picture.specs.declared.picture.Picture.{Picture}
+use Rattle.drm_svg.specs.Bars.{bars_text}
 use Rattle.drm_svg.specs.Signs.{name_of}
-use Rattle.drm_svg.specs.declared.head.TheConstants.{ABOVE, HEAD, LANE, STYLE, TEXT_END, TITLE_END, TURNED, VIEW}
+use Rattle.drm_svg.specs.declared.head.TheConstants.{ABOVE, LANE, TEXT_END, TITLE_END, TURNED}
 use Rattle.drm_svg.specs.declared.layout.LaneRows.{LaneRows}
 use Rattle.drm_svg.specs.declared.layout.Layout.{Layout}
-
--- the size, in columns and rows
-unfoldable pub size_text : ℕ → ℕ → List ℕ
-size_text columns rows = HEAD.now ++ decimal columns ++ codes "pc' height='" ++ decimal rows
-
--- how much is shown, and the colours
-unfoldable pub view_text : ℕ → ℕ → List ℕ
-view_text columns rows = VIEW.now ++ decimal columns ++ codes "0 " ++ decimal rows ++ STYLE.now
-
-abbrev pub head_text : ℕ → ℕ → List ℕ
-head_text columns rows = size_text columns rows ++ view_text columns rows
 
 -- the name of a lane left of its header
 unfoldable pub lane_name_text : ℕ → Lane → List ℕ
 lane_name_text row lane = LANE.now ++ decimal row ++ codes "7'>" ++ name_of lane ++ TEXT_END.now
 
 -- the name of a lane, and its bars
-abbrev pub lane_text : LaneRows → List ℕ
-lane_text rows = lane_name_text rows.top rows.lane ++ flat_map bar_text rows.bars.items
+abbrev pub lane_text : Picture → LaneRows → List ℕ
+lane_text picture rows = lane_name_text rows.top rows.lane ++ bars_text picture rows.bars.items
 
 -- the name of the fences left of their header
 unfoldable pub fences_name_text : ℕ → List ℕ
 fences_name_text row = LANE.now ++ decimal row ++ codes "7'>fences" ++ TEXT_END.now
 
 -- the name of the fences, and their bars
-abbrev pub fences_text : Layout → List ℕ
-fences_text layout = fences_name_text layout.header ++ flat_map bar_text layout.fences
+abbrev pub fences_text : Picture → Layout → List ℕ
+fences_text picture layout = fences_name_text layout.header ++ bars_text picture layout.fences
 
 -- where a word above a column begins, and the number of the column's command
 unfoldable pub above_text : ℕ → ℕ → List ℕ → List ℕ

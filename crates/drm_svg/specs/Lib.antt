@@ -3,6 +3,7 @@ pub mod Escape
 pub mod Layout
 pub mod Placing
 pub mod Signs
+pub mod Owners
 pub mod Titles
 pub mod Bars
 pub mod Head

@@ -25,7 +25,7 @@ class_of_kind kind.Lock = codes "lock"
 class_of_kind kind.Fence = codes "fence"
 class_of_kind kind.Waiting = codes "waiting"
 
--- the word of a look, which is also the name of its colour
+-- the word of a look, which is also the class of its edge
 abbrev pub word_of_look : Look → List ℕ
 word_of_look look.Open = codes "open"
 word_of_look look.Ended = codes "ended"

@@ -1,11 +1,11 @@
--- The text of a picture.
-use Rattle.std.specs.Prelude.{◌≡◌, ℕ, List, ◌++◌, ◌+◌, ◌-◌, codes, decimal, flat_map, length}
+-- The text of what is in a picture.
+use Rattle.std.specs.Prelude.{ℕ, List, ◌++◌, ◌-◌, codes, decimal, flat_map}
 use Rattle.drm_picture.specs.declared.marks.Mark.{Mark}
 use Rattle.drm_picture.specs.declared.picture.Picture.{Picture}
 use Rattle.drm_picture.specs.declared.waits.Wait.{Wait}
 use Rattle.drm_svg.specs.Bars.{halts_text}
-use Rattle.drm_svg.specs.Head.{columns_text, fences_text, head_text, lane_text}
-use Rattle.drm_svg.specs.Layout.{IsLayout, row_of_fence, row_of_lane}
+use Rattle.drm_svg.specs.Head.{columns_text, fences_text, lane_text}
+use Rattle.drm_svg.specs.Layout.{row_of_fence, row_of_lane}
 use Rattle.drm_svg.specs.Signs.{name_of, shape_of, word_of_sign}
 use Rattle.drm_svg.specs.declared.layout.Layout.{Layout}
 use Rattle.drm_svg.specs.declared.svg.TheConstants.{DOT, DOT_END, LINE, MARK, MARK_TITLE, WAIT, WAITS_FOR}
@@ -44,19 +44,9 @@ wait_text picture layout wait =
 -- the lanes, the fences, the columns, the waits, the stopped entities and the marks
 unfoldable pub inside_text : Picture → Layout → List ℕ
 inside_text picture layout =
-    flat_map lane_text layout.lanes.items
-    ++ fences_text layout
+    flat_map (lane_text picture) layout.lanes.items
+    ++ fences_text picture layout
     ++ columns_text picture.first picture.columns.items
     ++ flat_map (wait_text picture layout) picture.waits.items
     ++ halts_text picture layout
     ++ flat_map (mark_text picture layout) picture.marks.items
-
--- the text of a picture that is laid out so: seven columns are left of its commands and two right of them, eleven rows above its lanes
--- and one below its fences
-abbrev pub svg_of : Picture → Layout → List ℕ
-svg_of picture layout =
-    head_text (length picture.columns.items + 9) (layout.header + length layout.fences + 13) ++ inside_text picture layout ++ codes "</svg>\n"
-
--- the text of a picture that is laid out as it is to be
-abbrev pub IsSvg : Picture → List ℕ → Type 0
-IsSvg picture text = (layout : Layout) × IsLayout picture layout × (text ≡ svg_of picture layout)

@@ -7,6 +7,8 @@ use Rattle.drm_picture.specs.declared.bars.Lane.{Lane}
 use Rattle.drm_picture.specs.declared.bars.Look.{Look}
 use Rattle.drm_picture.specs.declared.bars.Look.TheVariants as look
 use Rattle.drm_svg.specs.declared.titles.TheConstants.{PACKETS}
+use Rattle.drm_picture.specs.declared.command.Request.{Request}
+use Rattle.drm_svg.specs.Owners.{uses_text}
 use Rattle.drm_svg.specs.Signs.{name_of, word_of_look}
 
 -- what a bar is of: its lane, and its fence or context
@@ -18,10 +20,11 @@ subject_text kind.Lock lane number = name_of lane ++ codes ": context " ++ decim
 subject_text kind.Fence lane number = name_of lane
 subject_text kind.Waiting lane number = name_of lane ++ codes ": fence " ++ decimal number
 
--- whose job it is, of a job on its ring
-abbrev pub owner_text : Option ℕ → List ℕ
-owner_text (Some entity) = codes " of entity " ++ decimal entity
-owner_text None = []
+-- whose job it is, where the lane does not tell it
+abbrev pub owner_text : Kind → Option Request → List ℕ
+owner_text kind.Queued job = []
+owner_text _ (Some job) = codes " of entity " ++ decimal job.entity
+owner_text _ None = []
 
 -- what the command does that begins it
 abbrev pub begins_of : Kind → List ℕ
@@ -59,9 +62,10 @@ abbrev pub packets_text : Kind → ℕ → List ℕ
 packets_text kind.Job packets = PACKETS.now ++ decimal packets
 packets_text _ packets = []
 
--- what a bar tells: what it is of, whose job it is, the commands that begin and end it and their moments, and how it ended
-unfoldable pub title_of : Bar → List ℕ
-title_of bar =
-    subject_text bar.kind bar.opening.lane bar.opening.number ++ owner_text bar.entity
+-- what a bar of a job or of none tells: what it is of, whose job it is and what that does with which buffers, the commands that begin and
+-- end it and their moments, and how it ended
+unfoldable pub title_of : Option Request → Bar → List ℕ
+title_of job bar =
+    subject_text bar.kind bar.opening.lane bar.opening.number ++ owner_text bar.kind job ++ uses_text job
     ++ begins_of bar.kind ++ decimal bar.from ++ moment_text bar.began
     ++ last_text bar.kind bar ++ packets_text bar.kind bar.packets ++ codes " -> " ++ word_of_look bar.look

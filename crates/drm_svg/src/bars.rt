@@ -1,15 +1,18 @@
 //! The text of bars.
 
-ghost use Rattle.std.specs.Prelude.{◌≡◌, ◌++◌, IfOk, OnOk, flat_map};
-ghost use Rattle.drm_svg.specs.Bars.{bar_text, class_of, colour_text, entity_label, fits, halt_place_text, halt_text, halts_text, label_of, label_text, line_of, place_text, short_label_text, text_at, title_text};
+ghost use Rattle.std.specs.Option.{option_copied};
+ghost use Rattle.std.specs.Prelude.{◌≡◌, ◌++◌, IfOk, OnOk};
+ghost use Rattle.drm_svg.specs.Bars.{bar_text, bars_text, class_of, class_of_entity, colour_text, entity_label, fits, halt_place_text, halt_text, halts_text, label_of, label_text, line_of, paint_text, place_text, text_at, title_text};
+ghost use Rattle.drm_svg.specs.Owners.{job_of, letters_text};
 
 use crate::escape::put_escaped;
 use crate::layout::Layout;
+use crate::owners::{job, put_letters};
 use crate::placing::{Placed, bar_in_row};
 use crate::signs::{kind_class, look_sign, look_word};
 use crate::text::{put_number, put_text};
 use crate::titles::title;
-use drm_picture::{Bar, Look, Picture};
+use drm_picture::{Bar, Kind, Look, Picture, Request};
 use drm_types::EntityId;
 use std::alloc::{AllocError, Global};
 
@@ -28,33 +31,43 @@ const HALT_HEIGHT: &str = "0' height='1'/></g>\n";
 /// The end of a bar.
 const GROUP_END: &str = "</g>\n";
 
-// Puts the entity, if there is one.
-fn put_entity(out: &mut Vec<u8>, entity: Option<EntityId>) -> Result<(), AllocError>
-    ensures { OnOk result (out.new.items ≡ out.old.items ++ entity_label entity) }
+// Puts the entity of a job, where the lane does not tell it.
+fn put_entity(out: &mut Vec<u8>, kind: Kind, job: Option<&Request>) -> Result<(), AllocError>
+    ensures { OnOk result (out.new.items ≡ out.old.items ++ entity_label kind (option_copied job.entry)) }
 {
-    match entity {
-        Some(entity) => {
+    match (kind, job) {
+        (Kind::Queued, _) => Ok(()),
+        (_, Some(request)) => {
             put_text(out, "/")?;
-            put_number(out, u64::from(entity))
+            put_number(out, u64::from(request.entity))
         }
-        None => Ok(()),
+        _ => Ok(()),
     }
 }
 
-// The number of a bar, the entity if there is one to tell, and the sign of its outcome.
-fn label(alloc: Global, bar: &Bar, entity: Option<EntityId>) -> Result<Vec<u8>, AllocError>
-    ensures { IfOk result (λ label. label.items ≡ label_of entity bar.now) }
+// The number of a bar, the entity of its job if there is one to tell, and the sign of its outcome.
+fn label(alloc: Global, job: Option<&Request>, bar: &Bar) -> Result<Vec<u8>, AllocError>
+    ensures { IfOk result (λ label. label.items ≡ label_of (option_copied job.entry) bar.now) }
 {
     let mut label = Vec::new(alloc);
     put_number(&mut label, u64::from(bar.opening.number))?;
-    put_entity(&mut label, entity)?;
+    put_entity(&mut label, bar.kind, job)?;
     put_text(&mut label, look_sign(bar.look))?;
     Ok(label)
 }
 
+// The same, and what the job does with which buffers.
+fn long_label(alloc: Global, job: Option<&Request>, bar: &Bar) -> Result<Vec<u8>, AllocError>
+    ensures { IfOk result (λ label. label.items ≡ label_of (option_copied job.entry) bar.now ++ letters_text (option_copied job.entry)) }
+{
+    let mut label = label(alloc, job, bar)?;
+    put_letters(&mut label, job)?;
+    Ok(label)
+}
+
 // Whether a label fits into so many columns.
-fn is_fitting(label: &[u8], width: usize) -> bool
-    ensures { result ≡ fits label.now width }
+fn is_fitting(width: usize, label: &[u8]) -> bool
+    ensures { result ≡ fits width label.now }
 {
     (label.len() + 2) / 3 <= width
 }
@@ -73,28 +86,28 @@ fn put_text_at(out: &mut Vec<u8>, bar: &Placed, label: &[u8]) -> Result<(), Allo
     put_text(out, "</text>")
 }
 
-// Puts the label of a bar that tells no entity, where it fits.
-fn put_short_label(alloc: Global, out: &mut Vec<u8>, bar: &Placed) -> Result<(), AllocError>
-    ensures { OnOk result (out.new.items ≡ out.old.items ++ short_label_text bar.now) }
+// Puts the first of the labels of a bar that fits, from the longest on, if one does.
+fn put_label(
+    alloc: Global,
+    out: &mut Vec<u8>,
+    job: Option<&Request>,
+    bar: &Placed,
+) -> Result<(), AllocError>
+    ensures { OnOk result (out.new.items ≡ out.old.items ++ label_text (option_copied job.entry) bar.now) }
 {
-    let label = label(alloc, &bar.bar, None)?;
-    if is_fitting(&label, bar.width) {
-        put_text_at(out, bar, &label)
-    } else {
-        Ok(())
+    let long = long_label(alloc, job, &bar.bar)?;
+    if is_fitting(bar.width, &long) {
+        return put_text_at(out, bar, &long);
     }
-}
-
-// Puts the label of a bar on it: with the entity of a job on its ring where that fits.
-fn put_label(alloc: Global, out: &mut Vec<u8>, bar: &Placed) -> Result<(), AllocError>
-    ensures { OnOk result (out.new.items ≡ out.old.items ++ label_text bar.now) }
-{
-    let label = label(alloc, &bar.bar, bar.bar.entity)?;
-    if is_fitting(&label, bar.width) {
-        put_text_at(out, bar, &label)
-    } else {
-        put_short_label(alloc, out, bar)
+    let middle = label(alloc, job, &bar.bar)?;
+    if is_fitting(bar.width, &middle) {
+        return put_text_at(out, bar, &middle);
     }
+    let short = label(alloc, None, &bar.bar)?;
+    if is_fitting(bar.width, &short) {
+        return put_text_at(out, bar, &short);
+    }
+    Ok(())
 }
 
 // The class of a bar whose job is to be skipped, on top of the one that shows its outcome.
@@ -106,10 +119,15 @@ fn skipped(bar: &Bar) -> &'static str
 
 // Puts what a bar tells, as its title.
 #[tactic(auto, unfolding(crate::specs::Bars::title_text))]
-fn put_title(alloc: Global, out: &mut Vec<u8>, bar: &Bar) -> Result<(), AllocError>
-    ensures { OnOk result (out.new.items ≡ out.old.items ++ title_text bar.now) }
+fn put_title(
+    alloc: Global,
+    out: &mut Vec<u8>,
+    job: Option<&Request>,
+    bar: &Bar,
+) -> Result<(), AllocError>
+    ensures { OnOk result (out.new.items ≡ out.old.items ++ title_text (option_copied job.entry) bar.now) }
 {
-    let told = title(alloc, bar)?;
+    let told = title(alloc, job, bar)?;
     put_text(out, "<g class='")?;
     put_text(out, kind_class(bar.kind))?;
     put_text(out, TITLE)?;
@@ -130,33 +148,77 @@ fn put_place(out: &mut Vec<u8>, bar: &Placed) -> Result<(), AllocError>
     put_text(out, HEIGHT)
 }
 
-// Puts the colour of a bar.
-fn put_colour(out: &mut Vec<u8>, bar: &Bar) -> Result<(), AllocError>
-    ensures { OnOk result (out.new.items ≡ out.old.items ++ colour_text bar.now) }
+/// Puts the class of the bars of jobs of an entity.
+pub fn put_entity_class(out: &mut Vec<u8>, entity: EntityId) -> Result<(), AllocError>
+    ensures { OnOk result (out.new.items ≡ out.old.items ++ class_of_entity entity) }
+{
+    put_text(out, "e")?;
+    put_number(out, u64::from(entity))
+}
+
+// Puts the class that a bar has by its job.
+fn put_paint(out: &mut Vec<u8>, job: Option<&Request>) -> Result<(), AllocError>
+    ensures { OnOk result (out.new.items ≡ out.old.items ++ paint_text (option_copied job.entry)) }
+{
+    match job {
+        Some(request) => {
+            put_entity_class(out, request.entity)?;
+            put_text(out, " ")
+        }
+        None => Ok(()),
+    }
+}
+
+// Puts the colour of a bar, which is that of the entity of its job, and its edge, which tells the outcome.
+fn put_colour(out: &mut Vec<u8>, job: Option<&Request>, bar: &Bar) -> Result<(), AllocError>
+    ensures { OnOk result (out.new.items ≡ out.old.items ++ colour_text (option_copied job.entry) bar.now) }
 {
     put_text(out, COLOUR)?;
+    put_paint(out, job)?;
     put_text(out, look_word(bar.look))?;
     put_text(out, skipped(bar))
 }
 
-// Puts a bar.
+// Puts the bar of a job, or of none.
 #[tactic(auto, unfolding(crate::specs::Bars::bar_text))]
-fn put_bar(alloc: Global, out: &mut Vec<u8>, bar: &Placed) -> Result<(), AllocError>
-    ensures { OnOk result (out.new.items ≡ out.old.items ++ bar_text bar.now) }
+fn put_bar(
+    alloc: Global,
+    out: &mut Vec<u8>,
+    job: Option<&Request>,
+    bar: &Placed,
+) -> Result<(), AllocError>
+    ensures { OnOk result (out.new.items ≡ out.old.items ++ bar_text (option_copied job.entry) bar.now) }
 {
-    put_title(alloc, out, &bar.bar)?;
-    put_colour(out, &bar.bar)?;
+    put_title(alloc, out, job, &bar.bar)?;
+    put_colour(out, job, &bar.bar)?;
     put_place(out, bar)?;
-    put_label(alloc, out, bar)?;
+    put_label(alloc, out, job, bar)?;
     put_text(out, GROUP_END)
 }
 
-/// Puts bars.
-pub(crate) fn put_bars(alloc: Global, out: &mut Vec<u8>, bars: &[Placed]) -> Result<(), AllocError>
-    ensures { OnOk result (out.new.items ≡ out.old.items ++ flat_map bar_text bars.now) }
+// Puts a bar of a picture.
+fn put_bar_of(
+    alloc: Global,
+    out: &mut Vec<u8>,
+    picture: &Picture,
+    bar: &Placed,
+) -> Result<(), AllocError>
+    ensures { OnOk result (out.new.items ≡ out.old.items ++ bar_text (job_of picture.now bar.now.bar) bar.now) }
+{
+    put_bar(alloc, out, job(picture, &bar.bar), bar)
+}
+
+/// Puts bars of a picture.
+pub(crate) fn put_bars(
+    alloc: Global,
+    out: &mut Vec<u8>,
+    picture: &Picture,
+    bars: &[Placed],
+) -> Result<(), AllocError>
+    ensures { OnOk result (out.new.items ≡ out.old.items ++ bars_text picture.now bars.now) }
 {
     for bar in bars {
-        put_bar(alloc, out, bar)?;
+        put_bar_of(alloc, out, picture, bar)?;
     }
     Ok(())
 }
@@ -191,8 +253,8 @@ fn put_halt_place(out: &mut Vec<u8>, bar: &Placed) -> Result<(), AllocError>
 fn put_halt(alloc: Global, out: &mut Vec<u8>, bar: &Placed) -> Result<(), AllocError>
     ensures { OnOk result (out.new.items ≡ out.old.items ++ halt_text bar.now) }
 {
-    put_title(alloc, out, &bar.bar)?;
-    put_colour(out, &bar.bar)?;
+    put_title(alloc, out, None, &bar.bar)?;
+    put_colour(out, None, &bar.bar)?;
     put_halt_place(out, bar)
 }
 

@@ -1,26 +1,15 @@
-//! The head of the text, the names of the lanes, and the columns.
+//! The lanes with their names and bars, and the columns.
 
 ghost use Rattle.std.specs.Prelude.{◌≡◌, ◌++◌, OnOk, flat_map};
-ghost use Rattle.drm_svg.specs.Head.{above_text, column_text, columns_text, fences_name_text, fences_text, head_text, lane_name_text, lane_text, moment_above, new_moment, size_text, view_text};
+ghost use Rattle.drm_svg.specs.Head.{above_text, column_text, columns_text, fences_name_text, fences_text, lane_name_text, lane_text, moment_above, new_moment};
 
 use crate::bars::put_bars;
 use crate::layout::{LaneRows, Layout};
-use crate::text::{put_later, put_name, put_number, put_text, put_wide};
+use crate::text::{put_later, put_name, put_number, put_text};
 use drm_core::Event;
-use drm_picture::{Lane, moment, word};
+use drm_picture::{Lane, Picture, moment, word};
 use drm_types::{EntityId, Moment};
 use std::alloc::{AllocError, Global};
-
-/// What stands before the size. The character reference is a digit of the address of the namespace.
-const HEAD: &str =
-    "<svg xmlns='http://www.w&#51;.org/2000/svg' font-family='monospace' font-size='6' width='";
-
-/// What stands between the size and how much is shown: seven columns to the left, and eleven rows above.
-const VIEW: &str = "pc' viewBox='-70 -110 ";
-
-/// What stands behind it: the colours are those of Okabe and Ito, which people with colour blindness tell apart.
-const STYLE: &str =
-    "0'><style>svg{color:#000}.page{fill:#fff}text{fill:currentColor}g text{fill:#000;font-size:5px}g rect{stroke:currentColor;stroke-width:.5}.good{fill:#009e73}.cancelled{fill:#e69f00}.stopped{fill:#d55e00}.guilty{fill:#f0e442}.open{fill:#56b4e9}.ended{fill:#cc79a7}.skipped{stroke-dasharray:2 1;stroke-width:1;mask:url(#hatched)}.waiting rect{fill-opacity:.4;stroke-dasharray:2 1}.waiting text{fill:currentColor}.halt rect{stroke-width:.3}path,circle{fill:none;stroke:currentColor}path.guilty{fill:#f0e442}.refused{stroke:#d55e00}.given{stroke:#0072b2}.wait path{stroke-width:.5}.wait circle{fill:currentColor}@media(prefers-color-scheme:dark){svg{color:#eee}.page{fill:#111}.given{stroke:#56b4e9}}</style><pattern id='stripes' width='3' height='3' patternUnits='userSpaceOnUse' patternTransform='rotate(45)'><path d='M1 0v3' style='stroke:#fff;stroke-width:2'/></pattern><mask id='hatched' maskUnits='userSpaceOnUse' x='-70' y='-110' width='100%' height='100%'><path d='M-70 -110h999999v999999h-999999z' style='fill:#777;stroke:none'/><path d='M-70 -110h999999v999999h-999999z' style='fill:url(#stripes);stroke:none'/></mask><rect class='page' x='-70' y='-110' width='100%' height='100%'/>\n";
 
 /// The name of a lane.
 const LANE: &str = "<text x='-6' text-anchor='end' y='";
@@ -37,37 +26,6 @@ const TITLE_END: &str = "</title>";
 /// The end of a text.
 const TEXT_END: &str = "</text>\n";
 
-// Puts the size, sixteen pixels for each column and row where nothing scales it.
-#[tactic(auto, unfolding(crate::specs::Head::size_text))]
-fn put_size(out: &mut Vec<u8>, columns: u64, rows: u128) -> Result<(), AllocError>
-    ensures { OnOk result (out.new.items ≡ out.old.items ++ size_text columns rows) }
-{
-    put_text(out, HEAD)?;
-    put_number(out, columns)?;
-    put_text(out, "pc' height='")?;
-    put_wide(out, rows)
-}
-
-// Puts how much is shown, in pixels, and the colours.
-#[tactic(auto, unfolding(crate::specs::Head::view_text))]
-fn put_view(out: &mut Vec<u8>, columns: u64, rows: u128) -> Result<(), AllocError>
-    ensures { OnOk result (out.new.items ≡ out.old.items ++ view_text columns rows) }
-{
-    put_text(out, VIEW)?;
-    put_number(out, columns)?;
-    put_text(out, "0 ")?;
-    put_wide(out, rows)?;
-    put_text(out, STYLE)
-}
-
-/// Puts the head: the size, in columns and rows, and the colours.
-pub(crate) fn put_head(out: &mut Vec<u8>, columns: u64, rows: u128) -> Result<(), AllocError>
-    ensures { OnOk result (out.new.items ≡ out.old.items ++ head_text columns rows) }
-{
-    put_size(out, columns, rows)?;
-    put_view(out, columns, rows)
-}
-
 // Puts the name of a lane left of its header.
 #[tactic(auto, unfolding(crate::specs::Head::lane_name_text))]
 fn put_lane_name(out: &mut Vec<u8>, row: usize, lane: Lane) -> Result<(), AllocError>
@@ -81,23 +39,29 @@ fn put_lane_name(out: &mut Vec<u8>, row: usize, lane: Lane) -> Result<(), AllocE
 }
 
 // Puts the name of a lane, and its bars.
-fn put_lane(alloc: Global, out: &mut Vec<u8>, rows: &LaneRows) -> Result<(), AllocError>
-    ensures { OnOk result (out.new.items ≡ out.old.items ++ lane_text rows.now) }
+fn put_lane(
+    alloc: Global,
+    out: &mut Vec<u8>,
+    picture: &Picture,
+    rows: &LaneRows,
+) -> Result<(), AllocError>
+    ensures { OnOk result (out.new.items ≡ out.old.items ++ lane_text picture.now rows.now) }
 {
     put_lane_name(out, rows.top, rows.lane)?;
-    put_bars(alloc, out, &rows.bars)
+    put_bars(alloc, out, picture, &rows.bars)
 }
 
 /// Puts the lanes of the rings, the entities and the buffers.
 pub(crate) fn put_lanes(
     alloc: Global,
     out: &mut Vec<u8>,
+    picture: &Picture,
     lanes: &[LaneRows],
 ) -> Result<(), AllocError>
-    ensures { OnOk result (out.new.items ≡ out.old.items ++ flat_map lane_text lanes.now) }
+    ensures { OnOk result (out.new.items ≡ out.old.items ++ flat_map (lane_text picture.now) lanes.now) }
 {
     for rows in lanes {
-        put_lane(alloc, out, rows)?;
+        put_lane(alloc, out, picture, rows)?;
     }
     Ok(())
 }
@@ -117,12 +81,13 @@ fn put_fences_name(out: &mut Vec<u8>, row: usize) -> Result<(), AllocError>
 pub(crate) fn put_fences(
     alloc: Global,
     out: &mut Vec<u8>,
+    picture: &Picture,
     layout: &Layout,
 ) -> Result<(), AllocError>
-    ensures { OnOk result (out.new.items ≡ out.old.items ++ fences_text layout.now) }
+    ensures { OnOk result (out.new.items ≡ out.old.items ++ fences_text picture.now layout.now) }
 {
     put_fences_name(out, layout.header)?;
-    put_bars(alloc, out, layout.fences.as_slice())
+    put_bars(alloc, out, picture, layout.fences.as_slice())
 }
 
 // Puts where a word above a column begins, and the number of the column's command.

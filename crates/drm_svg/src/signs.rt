@@ -5,8 +5,8 @@ ghost use Rattle.drm_svg.specs.Signs.{class_of_kind, shape_of, sign_of_look, wor
 
 use drm_picture::{Kind, Look, Sign};
 
-// The word of a look, which is also the name of its colour.
-pub(crate) fn look_word(look: Look) -> &'static str
+/// Returns the word of a look, which is also the class of its edge.
+pub fn look_word(look: Look) -> &'static str
     ensures { result.now ≡ word_of_look look }
 {
     match look {
@@ -19,8 +19,8 @@ pub(crate) fn look_word(look: Look) -> &'static str
     }
 }
 
-// The sign of an outcome, behind the number of its fence.
-pub(crate) fn look_sign(look: Look) -> &'static str
+/// Returns the sign of an outcome, behind the number of its fence.
+pub fn look_sign(look: Look) -> &'static str
     ensures { result.now ≡ sign_of_look look }
 {
     match look {
@@ -47,8 +47,8 @@ pub(crate) fn kind_class(kind: Kind) -> &'static str
     }
 }
 
-// What a mark says.
-pub(crate) fn sign_word(sign: Sign) -> &'static str
+/// Returns what a mark says.
+pub fn sign_word(sign: Sign) -> &'static str
     ensures { result.now ≡ word_of_sign sign }
 {
     match sign {
@@ -64,8 +64,8 @@ pub(crate) fn sign_word(sign: Sign) -> &'static str
     }
 }
 
-// How a mark is drawn, ten pixels wide and seven high.
-pub(crate) fn sign_shape(sign: Sign) -> &'static str
+/// Returns how a mark is drawn, ten pixels wide and seven high.
+pub fn sign_shape(sign: Sign) -> &'static str
     ensures { result.now ≡ shape_of sign }
 {
     match sign {

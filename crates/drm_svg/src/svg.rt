@@ -1,21 +1,15 @@
-//! The text of a picture: one SVG, with no script, font, image or style from elsewhere.
+//! The text of what is in a picture.
 
-ghost use Rattle.std.specs.Prelude.{◌≡◌, ◌+◌, ◌++◌, IfOk, OnOk, flat_map};
-ghost use Rattle.drm_svg.specs.Svg.{IsSvg, dot_text, inside_text, line_text, mark_place, mark_text, mark_title, svg_of, wait_text, wait_title};
+ghost use Rattle.std.specs.Prelude.{◌≡◌, ◌++◌, OnOk, flat_map};
+ghost use Rattle.drm_svg.specs.Svg.{dot_text, inside_text, line_text, mark_place, mark_text, mark_title, wait_text, wait_title};
 
 use crate::bars::put_halts;
-use crate::head::{put_columns, put_fences, put_head, put_lanes};
-use crate::layout::{Layout, lay_out};
+use crate::head::{put_columns, put_fences, put_lanes};
+use crate::layout::Layout;
 use crate::signs::{sign_shape, sign_word};
 use crate::text::{put_name, put_number, put_text};
 use drm_picture::{Mark, Picture, Wait};
 use std::alloc::{AllocError, Global};
-
-/// How many columns there are left and right of the commands.
-const COLUMNS_BESIDE: u64 = 9;
-
-/// How many rows there are above the lanes, for the header of the fences and at the end.
-const ROWS_BESIDE: u128 = 13;
 
 /// A mark.
 const MARK: &str = "<g transform='translate(";
@@ -157,9 +151,10 @@ fn put_waits(out: &mut Vec<u8>, picture: &Picture, layout: &Layout) -> Result<()
     Ok(())
 }
 
-// The lanes, the fences, the columns, the waits, the stopped entities and the marks.
+/// Puts what is in a picture that is laid out: the lanes, the fences, the columns, the waits, the stopped entities and the
+/// marks.
 #[tactic(auto, unfolding(crate::specs::Svg::inside_text))]
-fn put_inside(
+pub fn put_inside(
     alloc: Global,
     out: &mut Vec<u8>,
     picture: &Picture,
@@ -167,36 +162,10 @@ fn put_inside(
 ) -> Result<(), AllocError>
     ensures { OnOk result (out.new.items ≡ out.old.items ++ inside_text picture.now layout.now) }
 {
-    put_lanes(alloc, out, &layout.lanes)?;
-    put_fences(alloc, out, layout)?;
+    put_lanes(alloc, out, picture, &layout.lanes)?;
+    put_fences(alloc, out, picture, layout)?;
     put_columns(out, picture.first, &picture.columns)?;
     put_waits(out, picture, layout)?;
     put_halts(alloc, out, picture, layout)?;
     put_marks(out, picture, layout)
-}
-
-// The text of a picture that is laid out.
-fn put_svg(
-    alloc: Global,
-    out: &mut Vec<u8>,
-    picture: &Picture,
-    layout: &Layout,
-) -> Result<(), AllocError>
-    ensures { OnOk result (out.new.items ≡ out.old.items ++ svg_of picture.now layout.now) }
-{
-    let columns = picture.columns.len() as u64 + COLUMNS_BESIDE;
-    let rows = layout.header as u128 + layout.fences.as_slice().len() as u128 + ROWS_BESIDE;
-    put_head(out, columns, rows)?;
-    put_inside(alloc, out, picture, layout)?;
-    put_text(out, "</svg>\n")
-}
-
-/// Writes the text of a picture.
-pub fn write_svg(alloc: Global, picture: &Picture) -> Result<Vec<u8>, AllocError>
-    ensures { IfOk result (λ text. IsSvg picture.now text.items) }
-{
-    let layout = lay_out(alloc, picture)?;
-    let mut out = Vec::new(alloc);
-    put_svg(alloc, &mut out, picture, &layout)?;
-    Ok(out)
 }

@@ -6,23 +6,23 @@ ghost use Rattle.drm_svg.specs.Signs.{name_of};
 use drm_picture::Lane;
 use std::alloc::AllocError;
 
-// Puts a text.
+/// Puts a text.
 #[inline]
-pub(crate) fn put_text(out: &mut Vec<u8>, text: &str) -> Result<(), AllocError>
+pub fn put_text(out: &mut Vec<u8>, text: &str) -> Result<(), AllocError>
     ensures { OnOk result (out.new.items ≡ out.old.items ++ text.now) }
 {
     out.extend_from_slice(text.as_bytes())
 }
 
-// Puts a number.
-pub(crate) fn put_number(out: &mut Vec<u8>, number: u64) -> Result<(), AllocError>
+/// Puts a number.
+pub fn put_number(out: &mut Vec<u8>, number: u64) -> Result<(), AllocError>
     ensures { OnOk result (out.new.items ≡ out.old.items ++ decimal number) }
 {
     out.extend_from_slice(itoa::Buffer::new().format(number).as_bytes())
 }
 
-// Puts a number that may pass 64 bits.
-pub(crate) fn put_wide(out: &mut Vec<u8>, number: u128) -> Result<(), AllocError>
+/// Puts a number that may pass 64 bits.
+pub fn put_wide(out: &mut Vec<u8>, number: u128) -> Result<(), AllocError>
     ensures { OnOk result (out.new.items ≡ out.old.items ++ decimal number) }
 {
     out.extend_from_slice(itoa::Buffer::new().format(number).as_bytes())

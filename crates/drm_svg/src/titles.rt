@@ -1,13 +1,15 @@
 //! What the browser tells of a bar where the mouse rests on it.
 
+ghost use Rattle.std.specs.Option.{option_copied};
 ghost use Rattle.std.specs.Prelude.{◌≡◌, ◌++◌, IfOk, OnOk, decimal};
 ghost use Rattle.drm_svg.specs.Signs.{name_of};
 ghost use Rattle.drm_svg.specs.Titles.{begins_of, end_text, ends_of, last_text, moment_text, owner_text, packets_text, subject_text, title_of};
 
+use crate::owners::put_uses;
 use crate::signs::look_word;
 use crate::text::{put_later, put_name, put_number, put_text};
-use drm_picture::{Bar, Kind, Lane, Look};
-use drm_types::{EntityId, Moment};
+use drm_picture::{Bar, Kind, Lane, Look, Request};
+use drm_types::Moment;
 use std::alloc::{AllocError, Global};
 
 /// How many packets ran.
@@ -36,16 +38,17 @@ fn put_subject(out: &mut Vec<u8>, kind: Kind, lane: Lane, number: u32) -> Result
     }
 }
 
-// Puts whose job it is, of a job on its ring.
-fn put_owner(out: &mut Vec<u8>, entity: Option<EntityId>) -> Result<(), AllocError>
-    ensures { OnOk result (out.new.items ≡ out.old.items ++ owner_text entity) }
+// Puts whose job it is, where the lane does not tell it.
+fn put_owner(out: &mut Vec<u8>, kind: Kind, job: Option<&Request>) -> Result<(), AllocError>
+    ensures { OnOk result (out.new.items ≡ out.old.items ++ owner_text kind (option_copied job.entry)) }
 {
-    match entity {
-        Some(entity) => {
+    match (kind, job) {
+        (Kind::Queued, _) => Ok(()),
+        (_, Some(request)) => {
             put_text(out, " of entity ")?;
-            put_number(out, u64::from(entity))
+            put_number(out, u64::from(request.entity))
         }
-        None => Ok(()),
+        _ => Ok(()),
     }
 }
 
@@ -126,14 +129,19 @@ fn put_packets(out: &mut Vec<u8>, kind: Kind, packets: usize) -> Result<(), Allo
     }
 }
 
-// What a bar tells.
+// What a bar tells, of a job or of none.
 #[tactic(auto, unfolding(crate::specs::Titles::title_of))]
-pub(crate) fn title(alloc: Global, bar: &Bar) -> Result<Vec<u8>, AllocError>
-    ensures { IfOk result (λ text. text.items ≡ title_of bar.now) }
+pub(crate) fn title(
+    alloc: Global,
+    job: Option<&Request>,
+    bar: &Bar,
+) -> Result<Vec<u8>, AllocError>
+    ensures { IfOk result (λ text. text.items ≡ title_of (option_copied job.entry) bar.now) }
 {
     let mut text = Vec::new(alloc);
     put_subject(&mut text, bar.kind, bar.opening.lane, bar.opening.number)?;
-    put_owner(&mut text, bar.entity)?;
+    put_owner(&mut text, bar.kind, job)?;
+    put_uses(&mut text, job)?;
     put_text(&mut text, begins(bar.kind))?;
     put_number(&mut text, bar.from as u64)?;
     put_moment(&mut text, bar.began)?;

@@ -3,4 +3,4 @@ use Rattle.drm_draw.proofs.drawing.text_of.Goals as goal
 
 pub returns : goal.returns
 returns c =
-    IfOk-weaker c.write_svg.result _ _ (λ text same. (c.in_ok-picture.picture, c.in_ok-picture.ensures, same)) c.write_svg.ensures
+    IfOk-weaker c.page.result _ _ (λ text same. (c.in_ok-picture.picture, c.in_ok-picture.ensures, same)) c.page.ensures

@@ -1,4 +1,5 @@
 use Rattle.std.proofs.Common.{◌∙◌, ap, map, refl}
+use Rattle.drm_picture.specs.Armed.{requests_of}
 use Rattle.drm_picture.specs.Bars.{bars_of}
 use Rattle.drm_picture.specs.Marks.{marks_of}
 use Rattle.drm_picture.specs.Waiting.{waiting_of}
@@ -14,7 +15,9 @@ returns c =
     record {
       lanes = refl;
       first = refl;
+      total = refl;
       columns = c.in_ok-commands.ensures ∙ ap (map (λ (step : Step). step.command)) c.part.ensures;
+      armed = c.in_ok-requests.ensures ∙ ap requests_of run;
       jobs = c.in_ok-bars.ensures ∙ ap (bars_of kind.Job from) run;
       queued = c.in_ok-bars-2.ensures ∙ ap (bars_of kind.Queued from) run;
       stopped = c.in_ok-bars-3.ensures ∙ ap (bars_of kind.Stopped from) run;

@@ -1,0 +1,26 @@
+-- The title of a picture.
+use Rattle.std.specs.Prelude.{ℕ, ◌+◌, ◌-◌, ◌==◌, List, ◌++◌, codes, decimal, if◌then◌else◌, length}
+use Rattle.drm_picture.specs.declared.picture.Picture.{Picture}
+use Rattle.drm_picture.specs.declared.picture.Shape.{Shape}
+
+-- what of how many commands is drawn: so many from the first on
+abbrev pub span_of : ℕ → ℕ → ℕ → List ℕ
+span_of first count total =
+    if count == 0 then codes "none of " ++ decimal total ++ codes " commands"
+    else if count == 1 then codes "command " ++ decimal first ++ codes " of " ++ decimal total
+    else codes "commands " ++ decimal first ++ codes " to " ++ decimal (first + (count - 1)) ++ codes " of " ++ decimal total
+
+-- so many things of a kind
+abbrev pub counted : ℕ → List ℕ → List ℕ → List ℕ
+counted count one many = decimal count ++ (if count == 1 then one else many)
+
+-- what the device has
+abbrev pub device_of : Shape → List ℕ
+device_of shape =
+    counted shape.rings (codes " ring, ") (codes " rings, ")
+    ++ counted shape.entities (codes " entity, ") (codes " entities, ")
+    ++ counted shape.buffers (codes " buffer") (codes " buffers")
+
+-- the title: what of how many commands is drawn, and of which device
+unfoldable pub heading_of : Picture → List ℕ
+heading_of picture = span_of picture.first (length picture.columns.items) picture.total ++ codes "; " ++ device_of picture.shape
