@@ -29,7 +29,7 @@ label_of job bar = decimal bar.opening.number ++ entity_label bar.kind job ++ si
 
 -- the labels of a bar from the longest on: with the entity of its job and what that does with which buffers, with the entity, and without
 abbrev pub labels_of : Option Request → Bar → List (List ℕ)
-labels_of job bar = (label_of job bar ++ letters_text job) ∷ label_of job bar ∷ label_of None bar ∷ []
+labels_of job bar = (label_of job bar ++ letters_text bar.kind job) ∷ label_of job bar ∷ label_of None bar ∷ []
 
 -- a label fits into so many columns, three characters to each
 abbrev pub fits : ℕ → List ℕ → Bool

@@ -36,6 +36,8 @@ abbrev pub uses_text : Option Request → List ℕ
 uses_text (Some job) = flat_map (λ d. verb_of d.1 ++ decimal d.0) job.declared
 uses_text None = []
 
-abbrev pub letters_text : Option Request → List ℕ
-letters_text (Some job) = flat_map (λ d. letter_of d.1 ++ decimal d.0) job.declared
-letters_text None = []
+-- the same by letters, but of a fence, on whose bar the lines of waits end
+abbrev pub letters_text : Kind → Option Request → List ℕ
+letters_text kind.Fence job = []
+letters_text _ (Some job) = flat_map (λ d. letter_of d.1 ++ decimal d.0) job.declared
+letters_text _ None = []

@@ -58,10 +58,10 @@ fn label(alloc: Global, job: Option<&Request>, bar: &Bar) -> Result<Vec<u8>, All
 
 // The same, and what the job does with which buffers.
 fn long_label(alloc: Global, job: Option<&Request>, bar: &Bar) -> Result<Vec<u8>, AllocError>
-    ensures { IfOk result (λ label. label.items ≡ label_of (option_copied job.entry) bar.now ++ letters_text (option_copied job.entry)) }
+    ensures { IfOk result (λ label. label.items ≡ label_of (option_copied job.entry) bar.now ++ letters_text bar.now.kind (option_copied job.entry)) }
 {
     let mut label = label(alloc, job, bar)?;
-    put_letters(&mut label, job)?;
+    put_letters(&mut label, bar.kind, job)?;
     Ok(label)
 }
 

@@ -97,12 +97,17 @@ fn put_each_letter(out: &mut Vec<u8>, declared: &[(BufferId, Access)]) -> Result
     Ok(())
 }
 
-/// Puts the same as `put_uses`, by letters.
-pub(crate) fn put_letters(out: &mut Vec<u8>, job: Option<&Request>) -> Result<(), AllocError>
-    ensures { OnOk result (out.new.items ≡ out.old.items ++ letters_text (option_copied job.entry)) }
+/// Puts the same as `put_uses`, by letters, but of a fence, on whose bar the lines of waits end.
+pub(crate) fn put_letters(
+    out: &mut Vec<u8>,
+    kind: Kind,
+    job: Option<&Request>,
+) -> Result<(), AllocError>
+    ensures { OnOk result (out.new.items ≡ out.old.items ++ letters_text kind (option_copied job.entry)) }
 {
-    match job {
-        Some(request) => put_each_letter(out, request.declared.as_slice()),
-        None => Ok(()),
+    match (kind, job) {
+        (Kind::Fence, _) => Ok(()),
+        (_, Some(request)) => put_each_letter(out, request.declared.as_slice()),
+        _ => Ok(()),
     }
 }
