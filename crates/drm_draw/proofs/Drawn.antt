@@ -11,18 +11,18 @@ use Rattle.drm_engine.specs.declared.ending.Ending.{Ending}
 use Rattle.drm_engine.specs.declared.ending.Ending.TheVariants as ending
 use Rattle.drm_engine.specs.Replaying.{AreAnswers}
 use Rattle.drm_picture.specs.Pictures.{part_of}
-use Rattle.drm_draw.specs.Drawing.{AreSteps, Draws, DrawsScript, IsDrawn, IsDrawnOf, IsTooLong, shape_of}
+use Rattle.drm_draw.specs.Drawing.{AreSteps, Draws, DrawsScript, IsDrawn, IsDrawnOf, IsTooLong, limits_of, shape_of}
 
 -- the steps of a script
 abbrev pub StepsOf : Script → List Step → Type 0
 StepsOf script steps = (answers : List Answer) × AreAnswers script answers × AreSteps script.lines answers steps
 
 -- a part of them that was drawn is drawn of the script
-pub drawn_of : (script : Script) (from to : ℕ) (steps items : List Step) (shape : Shape) (text : List ℕ) → StepsOf script steps → shape ≡ shape_of script.spec → items ≡ steps
-    → IsDrawn shape from to items text → IsDrawnOf script from to text
-drawn_of script from to steps items shape text of lanes kept drawn =
-    let whole : IsDrawn shape from to steps text = subst (λ (ss : List Step). IsDrawn shape from to ss text) kept drawn in
-    (of.0, steps, of.1, of.2, subst (λ (s : Shape). IsDrawn s from to steps text) lanes whole)
+pub drawn_of : (script : Script) (from to : ℕ) (steps items : List Step) (shape : Shape) (limits : List ℕ) (text : List ℕ) → StepsOf script steps → shape ≡ shape_of script.spec
+    → limits ≡ limits_of script.spec → items ≡ steps → IsDrawn shape limits from to items text → IsDrawnOf script from to text
+drawn_of script from to steps items shape limits text of lanes bounds kept drawn =
+    let whole : IsDrawn shape limits from to steps text = subst (λ (ss : List Step). IsDrawn shape limits from to ss text) kept drawn in
+    (of.0, steps, of.1, of.2, subst (λ (s : Shape). IsDrawn s (limits_of script.spec) from to steps text) lanes (subst (λ (l : List ℕ). IsDrawn shape l from to steps text) bounds whole))
 
 -- a part of them that is too long
 pub too_long : (script : Script) (from to : ℕ) (steps items part : List Step) → StepsOf script steps → items ≡ steps → part ≡ part_of from to items → 5000 < length part → IsTooLong script from to

@@ -24,7 +24,7 @@ command_of event = with_job (λ draft. draft.entity) event
 
 -- a job, without its packets
 abbrev pub request_of : Draft → Request
-request_of draft = record { entity = draft.entity; declared = draft.declared; after = draft.after }
+request_of draft = record { entity = draft.entity; credits = draft.credits; declared = draft.declared; after = draft.after }
 
 -- the job that a command brings
 abbrev pub request_in : Event Draft → Option Request
@@ -45,14 +45,19 @@ asked_by event = (command_of event, request_in event)
 abbrev pub AreSteps : List (Event Draft) → List Answer → List Step → Type 0
 AreSteps events answers steps = (map asked steps ≡ map asked_by events) × (map (λ step. step.answer) steps ≡ answers)
 
--- the text of the picture of the part of these steps from one place to before another
-abbrev pub IsDrawn : Shape → ℕ → ℕ → List Step → List ℕ → Type 0
-IsDrawn shape from to steps text = (picture : Picture) × IsPicture shape from to steps picture × IsPage picture text
+-- the credit limits of the rings of a device
+abbrev pub limits_of : DeviceSpec → List ℕ
+limits_of spec = map (λ ring. ring.credit_limit) spec.rings
+
+-- the text of the picture of the part of these steps from one place to before another, on rings of these limits
+abbrev pub IsDrawn : Shape → List ℕ → ℕ → ℕ → List Step → List ℕ → Type 0
+IsDrawn shape limits from to steps text =
+    (picture : Picture) × IsPicture shape from to steps picture × IsPage limits (part_of 0 from (part_of 0 to steps)) (part_of from to steps) picture text
 
 -- the text of the picture of a part of what the script does
 abbrev pub IsDrawnOf : Script → ℕ → ℕ → List ℕ → Type 0
 IsDrawnOf script from to text =
-    (answers : List Answer) × (steps : List Step) × AreAnswers script answers × AreSteps script.lines answers steps × IsDrawn (shape_of script.spec) from to steps text
+    (answers : List Answer) × (steps : List Step) × AreAnswers script answers × AreSteps script.lines answers steps × IsDrawn (shape_of script.spec) (limits_of script.spec) from to steps text
 
 -- how many commands of the script are in the part
 abbrev pub IsTooLong : Script → ℕ → ℕ → Type 0

@@ -21,7 +21,7 @@ entity_keys (suc n) = entity_keys n ++ key.Entity n ∷ []
 -- the keys of outcomes and of entities that were stopped
 abbrev pub look_keys : List Key
 look_keys = key.Outcome look.Good ∷ key.Outcome look.Cancelled ∷ key.Outcome look.Stopped ∷ key.Outcome look.Open ∷ key.Skipped
-    ∷ key.Halt look.Guilty ∷ key.Halt look.Stopped ∷ key.Lock ∷ key.Waiting ∷ key.Wait ∷ []
+    ∷ key.Halt look.Guilty ∷ key.Halt look.Stopped ∷ key.Lock ∷ key.Waiting ∷ key.Wait ∷ key.Credits ∷ []
 
 -- the keys of marks
 abbrev pub sign_keys : List Key
@@ -89,6 +89,7 @@ occurs picture (key.Halt look) = any_looks look picture.stopped.items
 occurs picture key.Lock = is_any picture.locks.items
 occurs picture key.Waiting = is_any picture.waiting.items
 occurs picture key.Wait = is_any picture.waits.items
+occurs picture key.Credits = is_any picture.jobs.items
 occurs picture (key.Sign sign) = list_any (λ mark. same_sign mark.sign sign) picture.marks.items
 
 -- the legend: of all keys those of what occurs

@@ -7,6 +7,8 @@ use Rattle.drm_svg.specs.Bars.{class_of_entity}
 use Rattle.drm_svg.specs.Layout.{IsLayout}
 use Rattle.drm_svg.specs.Svg.{inside_text}
 use Rattle.drm_svg.specs.declared.layout.Layout.{Layout}
+use Rattle.drm_picture.specs.declared.command.Step.{Step}
+use Rattle.drm_draw.specs.Credits.{credits_text}
 use Rattle.drm_draw.specs.Heading.{heading_of}
 use Rattle.drm_draw.specs.Keys.{keys_text}
 use Rattle.drm_draw.specs.Legend.{legend_of}
@@ -103,18 +105,23 @@ frame_of picture layout = record {
   wide = keys_in_row picture;
 }
 
--- the text of a page with this frame
-unfoldable pub framed_text : Frame → Picture → Layout → List ℕ
-framed_text frame picture layout =
-    top_text picture frame.columns frame.rows frame.above
-    ++ inside_text picture layout
-    ++ keys_text frame.wide frame.legend (legend_of picture)
-    ++ PAGE_END.now
+-- what is in a picture, and the credits of its rings
+unfoldable pub content_text : List ℕ → List Step → List Step → Picture → Layout → List ℕ
+content_text limits before part picture layout = inside_text picture layout ++ credits_text limits picture.armed.items before part layout
+
+-- the text of a page with this frame above its legend, on rings of these limits, of these steps behind others
+unfoldable pub upper_text : Frame → List ℕ → List Step → List Step → Picture → Layout → List ℕ
+upper_text frame limits before part picture layout = top_text picture frame.columns frame.rows frame.above ++ content_text limits before part picture layout
+
+-- its legend, and the end of the page
+unfoldable pub lower_text : Frame → Picture → List ℕ
+lower_text frame picture = keys_text frame.wide frame.legend (legend_of picture) ++ PAGE_END.now
 
 -- the text of the page of a picture that is laid out so
-abbrev pub page_of : Picture → Layout → List ℕ
-page_of picture layout = framed_text (frame_of picture layout) picture layout
+abbrev pub page_of : List ℕ → List Step → List Step → Picture → Layout → List ℕ
+page_of limits before part picture layout =
+    upper_text (frame_of picture layout) limits before part picture layout ++ lower_text (frame_of picture layout) picture
 
 -- the text of a picture that is laid out as it is to be
-abbrev pub IsPage : Picture → List ℕ → Type 0
-IsPage picture text = (layout : Layout) × IsLayout picture layout × (text ≡ page_of picture layout)
+abbrev pub IsPage : List ℕ → List Step → List Step → Picture → List ℕ → Type 0
+IsPage limits before part picture text = (layout : Layout) × IsLayout picture layout × (text ≡ page_of limits before part picture layout)

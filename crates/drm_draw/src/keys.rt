@@ -56,6 +56,9 @@ const WAITING: &str =
 /// The line from a fence to an earlier one.
 const WAIT: &str = "<g class='wait'><path d='M5 1V7'/><circle cx='5' cy='7' r='1'/></g>";
 
+/// The line of the credits in use.
+const LINE: &str = "<g class='credits'><path d='M0 8H3V3H7V6H10'/></g>";
+
 // What an edge and a sign say.
 fn outcome_word(look: Look) -> &'static str
     ensures { result.now ≡ word_of_outcome look }
@@ -95,6 +98,7 @@ fn put_word(out: &mut Vec<u8>, key: Key) -> Result<(), AllocError>
         Key::Lock => put_text(out, "held by a context"),
         Key::Waiting => put_text(out, "waits for the buffer"),
         Key::Wait => put_text(out, "waits for an earlier job"),
+        Key::Credits => put_text(out, "credits in use"),
         Key::Sign(sign) => put_text(out, sign_word(sign)),
     }
 }
@@ -141,6 +145,7 @@ fn put_sample(out: &mut Vec<u8>, key: Key) -> Result<(), AllocError>
         Key::Lock => put_text(out, LOCK),
         Key::Waiting => put_text(out, WAITING),
         Key::Wait => put_text(out, WAIT),
+        Key::Credits => put_text(out, LINE),
         Key::Sign(sign) => put_text(out, sign_shape(sign)),
     }
 }

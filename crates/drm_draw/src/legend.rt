@@ -26,12 +26,14 @@ pub(crate) enum Key {
     Waiting,
     /// The line from a fence to an earlier one.
     Wait,
+    /// The line of the credits in use.
+    Credits,
     /// A mark.
     Sign(Sign),
 }
 
 /// The keys that a picture may have beside those of entities, in their order: outcomes and bars first, and then marks.
-const OTHER_KEYS: [Key; 19] = [
+const OTHER_KEYS: [Key; 20] = [
     Key::Outcome(Look::Good),
     Key::Outcome(Look::Cancelled),
     Key::Outcome(Look::Stopped),
@@ -42,6 +44,7 @@ const OTHER_KEYS: [Key; 19] = [
     Key::Lock,
     Key::Waiting,
     Key::Wait,
+    Key::Credits,
     Key::Sign(Sign::Ran),
     Key::Sign(Sign::Stalled),
     Key::Sign(Sign::Hang),
@@ -157,6 +160,7 @@ fn occurs(picture: &Picture, key: Key) -> bool
         Key::Lock => 0 < picture.locks.len(),
         Key::Waiting => 0 < picture.waiting.len(),
         Key::Wait => 0 < picture.waits.len(),
+        Key::Credits => 0 < picture.jobs.len(),
         Key::Sign(sign) => is_any_sign(sign, &picture.marks),
     }
 }

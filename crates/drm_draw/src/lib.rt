@@ -7,10 +7,12 @@
 //! has more than 5,000 commands. It ends as the engines of `drm_engine` do.
 #![tactic(auto)]
 
+mod credits;
 mod drawing;
 mod heading;
 mod keys;
 mod legend;
+mod levels;
 mod page;
 
 pub use drawing::draw;

@@ -1,15 +1,16 @@
 //! The page of a picture: one SVG, with no script, font, image or style from elsewhere.
 
 ghost use Rattle.std.specs.Prelude.{◌≡◌, ◌<◌, ◌^◌, ◌++◌, IfOk, OnOk, length};
-ghost use Rattle.drm_draw.specs.Page.{IsPage, columns_of, columns_of_text, frame_of, framed_text, greater_of, greatest_of, heading_text, legend_row, moment_rows as moment_rows_of, page_of, pattern_text, patterns_text, rows_above as rows_above_of, rows_of_keys, rule_text, size_text, slant_text, stripes_text, top_text, view_text};
+ghost use Rattle.drm_draw.specs.Page.{IsPage, columns_of, columns_of_text, content_text, frame_of, greater_of, greatest_of, heading_text, legend_row, lower_text, moment_rows as moment_rows_of, page_of, pattern_text, patterns_text, rows_above as rows_above_of, rows_of_keys, rule_text, size_text, slant_text, stripes_text, top_text, upper_text, view_text};
 ghost use Rattle.drm_draw.specs.Heading.{heading_of};
 ghost use Rattle.drm_draw.specs.Legend.{legend_of};
 
+use crate::credits::put_credits;
 use crate::heading::heading;
 use crate::keys::put_keys;
 use crate::legend::{Key, legend};
 use drm_core::Event;
-use drm_picture::{Picture, moment};
+use drm_picture::{Picture, Step, moment};
 use drm_svg::{
     Layout, lay_out, put_entity_class, put_inside, put_number, put_text, put_wide,
 };
@@ -25,7 +26,7 @@ const VIEW: &str = "pc' viewBox='-40 -";
 
 /// What stands behind it: the colours are those of Okabe and Ito, which people with colour blindness tell apart.
 const STYLE: &str =
-    "0'><style>svg{color:#000}.page{fill:#fff;stroke:none}text{fill:currentColor}g text{fill:#000;font-size:5px}g rect{stroke:currentColor;stroke-width:.5}.e0{fill:#e69f00}.e1{fill:#56b4e9}.e2{fill:#009e73}.e3{fill:#f0e442}.e4{fill:#0072b2}.e5{fill:#d55e00}.e6{fill:#cc79a7}.e4+text{fill:#fff}.open{stroke-dasharray:1 1}.cancelled{stroke-dasharray:3 1.5;stroke-width:1}.stopped{stroke-width:1.5}.skipped{mask:url(#hatched)}.lock{fill:#999}.waiting rect{fill-opacity:.4}.waiting text{fill:currentColor}.halt rect{stroke-width:.3}.halt .guilty{fill:#f0e442}.halt .stopped{fill:#d55e00}path,circle{fill:none;stroke:currentColor}path.guilty{fill:#f0e442}.refused{stroke:#d55e00}.given{stroke:#0072b2}.wait path{stroke-width:.5}.wait circle{fill:currentColor}.legend text{fill:currentColor;font-size:6px}@media(prefers-color-scheme:dark){svg{color:#eee}.page{fill:#111}.given{stroke:#56b4e9}}</style><pattern id='stripes' width='3' height='3' patternUnits='userSpaceOnUse' patternTransform='rotate(45)'><path d='M1 0v3' style='stroke:#fff;stroke-width:2'/></pattern><mask id='hatched' maskUnits='userSpaceOnUse' x='-9' y='-9' width='100%' height='100%'><path d='M-9 -9h999999v999999h-999999z' style='fill:#777;stroke:none'/><path d='M-9 -9h999999v999999h-999999z' style='fill:url(#stripes);stroke:none'/></mask><path class='page' d='M-999 -999h999999v999999h-999999z'/>\n";
+    "0'><style>svg{color:#000}.page{fill:#fff;stroke:none}text{fill:currentColor}g text{fill:#000;font-size:5px}g rect{stroke:currentColor;stroke-width:.5}.e0{fill:#e69f00}.e1{fill:#56b4e9}.e2{fill:#009e73}.e3{fill:#f0e442}.e4{fill:#0072b2}.e5{fill:#d55e00}.e6{fill:#cc79a7}.e4+text{fill:#fff}.open{stroke-dasharray:1 1}.cancelled{stroke-dasharray:3 1.5;stroke-width:1}.stopped{stroke-width:1.5}.skipped{mask:url(#hatched)}.lock{fill:#999}.waiting rect{fill-opacity:.4}.waiting text{fill:currentColor}.halt rect{stroke-width:.3}.halt .guilty{fill:#f0e442}.halt .stopped{fill:#d55e00}.credits text{fill:currentColor}.credits path{stroke-width:.7}path,circle{fill:none;stroke:currentColor}path.guilty{fill:#f0e442}.refused{stroke:#d55e00}.given{stroke:#0072b2}.wait path{stroke-width:.5}.wait circle{fill:currentColor}.legend text{fill:currentColor;font-size:6px}@media(prefers-color-scheme:dark){svg{color:#eee}.page{fill:#111}.given{stroke:#56b4e9}}</style><pattern id='stripes' width='3' height='3' patternUnits='userSpaceOnUse' patternTransform='rotate(45)'><path d='M1 0v3' style='stroke:#fff;stroke-width:2'/></pattern><mask id='hatched' maskUnits='userSpaceOnUse' x='-9' y='-9' width='100%' height='100%'><path d='M-9 -9h999999v999999h-999999z' style='fill:#777;stroke:none'/><path d='M-9 -9h999999v999999h-999999z' style='fill:url(#stripes);stroke:none'/></mask><path class='page' d='M-999 -999h999999v999999h-999999z'/>\n";
 
 /// The title.
 const HEADING: &str = "<text class='heading' x='-38' y='-";
@@ -276,22 +277,38 @@ fn measure(picture: &Picture, layout: &Layout, heading: &[u8], keys: usize) -> F
     }
 }
 
-// Puts the page of a picture that is laid out, with this frame.
-#[tactic(auto, unfolding(crate::specs::Page::framed_text))]
-fn put_framed(
+// Puts what is in a picture, and the credits of its rings.
+#[tactic(auto, unfolding(crate::specs::Page::content_text))]
+fn put_content(
+    alloc: Global,
+    out: &mut Vec<u8>,
+    limits: &[u16],
+    before: &[Step],
+    part: &[Step],
+    picture: &Picture,
+    layout: &Layout,
+) -> Result<(), AllocError>
+    ensures { OnOk result (out.new.items ≡ out.old.items ++ content_text limits.now before.now part.now picture.now layout.now) }
+{
+    put_inside(alloc, out, picture, layout)?;
+    put_credits(out, limits, &picture.armed, before, part, layout)
+}
+
+// Puts the page of a picture above its legend.
+#[tactic(auto, unfolding(crate::specs::Page::upper_text))]
+fn put_upper(
     alloc: Global,
     out: &mut Vec<u8>,
     frame: Frame,
     heading: &[u8],
-    legend: &[Key],
+    limits: &[u16],
+    before: &[Step],
+    part: &[Step],
     picture: &Picture,
     layout: &Layout,
 ) -> Result<(), AllocError>
-    requires heading { heading.now ≡ heading_of picture.now }
-    requires legend { legend.now ≡ legend_of picture.now }
-    requires wide { (0 < frame.wide) × (frame.wide < 2 ^ 67) }
-    requires top { frame.legend < 2 ^ 67 }
-    ensures { OnOk result (out.new.items ≡ out.old.items ++ framed_text frame picture.now layout.now) }
+    requires { heading.now ≡ heading_of picture.now }
+    ensures { OnOk result (out.new.items ≡ out.old.items ++ upper_text frame limits.now before.now part.now picture.now layout.now) }
 {
     put_top(
         out,
@@ -301,7 +318,22 @@ fn put_framed(
         frame.rows,
         frame.above,
     )?;
-    put_inside(alloc, out, picture, layout)?;
+    put_content(alloc, out, limits, before, part, picture, layout)
+}
+
+// Puts the legend of a picture, and the end of the page.
+#[tactic(auto, unfolding(crate::specs::Page::lower_text))]
+fn put_lower(
+    out: &mut Vec<u8>,
+    frame: Frame,
+    legend: &[Key],
+    picture: &Picture,
+) -> Result<(), AllocError>
+    requires legend { legend.now ≡ legend_of picture.now }
+    requires wide { (0 < frame.wide) × (frame.wide < 2 ^ 67) }
+    requires top { frame.legend < 2 ^ 67 }
+    ensures { OnOk result (out.new.items ≡ out.old.items ++ lower_text frame picture.now) }
+{
     put_keys(out, frame.wide, frame.legend, legend)?;
     put_text(out, PAGE_END)
 }
@@ -310,23 +342,35 @@ fn put_framed(
 fn put_page(
     alloc: Global,
     out: &mut Vec<u8>,
+    limits: &[u16],
+    before: &[Step],
+    part: &[Step],
     picture: &Picture,
     layout: &Layout,
 ) -> Result<(), AllocError>
-    ensures { OnOk result (out.new.items ≡ out.old.items ++ page_of picture.now layout.now) }
+    ensures { OnOk result (out.new.items ≡ out.old.items ++ page_of limits.now before.now part.now picture.now layout.now) }
 {
     let heading = heading(alloc, picture)?;
     let legend = legend(alloc, picture)?;
     let frame = measure(picture, layout, &heading, legend.len());
-    put_framed(alloc, out, frame, &heading, &legend, picture, layout)
+    put_upper(
+        alloc, out, frame, &heading, limits, before, part, picture, layout,
+    )?;
+    put_lower(out, frame, &legend, picture)
 }
 
-/// Returns the text of a picture.
-pub(crate) fn page(alloc: Global, picture: &Picture) -> Result<Vec<u8>, AllocError>
-    ensures { IfOk result (λ text. IsPage picture.now text.items) }
+/// Returns the text of a picture, on rings of these limits, of a part of the commands behind those before it.
+pub(crate) fn page(
+    alloc: Global,
+    limits: &[u16],
+    before: &[Step],
+    part: &[Step],
+    picture: &Picture,
+) -> Result<Vec<u8>, AllocError>
+    ensures { IfOk result (λ text. IsPage limits.now before.now part.now picture.now text.items) }
 {
     let layout = lay_out(alloc, picture)?;
     let mut out = Vec::new(alloc);
-    put_page(alloc, &mut out, picture, &layout)?;
+    put_page(alloc, &mut out, limits, before, part, picture, &layout)?;
     Ok(out)
 }

@@ -8,16 +8,16 @@ use Rattle.drm_picture.specs.declared.bars.Lane.{Lane}
 use Rattle.drm_picture.specs.declared.picture.Picture.{Picture}
 use Rattle.drm_svg.specs.declared.layout.LaneRows.{LaneRows}
 use Rattle.drm_svg.specs.declared.placing.Placed.{Placed}
-use Rattle.drm_svg.specs.Layout.{AreLanes, AreStacked, IsLaneRows, bars_of_kind}
+use Rattle.drm_svg.specs.Layout.{AreLanes, AreStacked, IsLaneRows, bars_of_kind, below_of}
 use Rattle.drm_svg.specs.Placing.{ArePlaced}
 
-stacked_more : (top : ℕ) (rows : List LaneRows) (middle : ℕ) (next : LaneRows) → AreStacked top rows middle → next.top ≡ middle → AreStacked top (rows ++ next ∷ []) next.bottom
+stacked_more : (top : ℕ) (rows : List LaneRows) (middle : ℕ) (next : LaneRows) → AreStacked top rows middle → next.top ≡ middle → AreStacked top (rows ++ next ∷ []) (below_of next)
 stacked_more top [] middle next so at = (at ∙ sym so, refl)
-stacked_more top (row ∷ rows) middle next so at = (so.0, stacked_more row.bottom rows middle next so.1 at)
+stacked_more top (row ∷ rows) middle next so at = (so.0, stacked_more (below_of row) rows middle next so.1 at)
 
 -- one lane more
 pub lane_more : (picture : Picture) (lanes : List Lane) (lane : Lane) (rows : List LaneRows) (next : LaneRows) (middle : ℕ) → AreLanes picture lanes rows middle
-    → next.lane ≡ lane → next.top ≡ middle → IsLaneRows picture next → AreLanes picture (lanes ++ lane ∷ []) (rows ++ next ∷ []) next.bottom
+    → next.lane ≡ lane → next.top ≡ middle → IsLaneRows picture next → AreLanes picture (lanes ++ lane ∷ []) (rows ++ next ∷ []) (below_of next)
 lane_more picture lanes lane rows next middle so named at each = record {
   named = map-append (λ (r : LaneRows). r.lane) rows (next ∷ []) ∙ ap (λ l. l ++ next.lane ∷ []) so.named ∙ ap (λ (l : Lane). lanes ++ l ∷ []) named;
   stacked = stacked_more 0 rows middle next so.stacked at;
@@ -44,11 +44,11 @@ lane_of_placed picture rows first es begins ends placed =
 
 -- the next lane of a list
 pub next_lane : (picture : Picture) (lanes : List Lane) (k : ℕ) (d : Lane) (rows rows' : List LaneRows) (next : LaneRows) (m n : ℕ) → k < length lanes
-    → AreLanes picture (take k lanes) rows m → next.lane ≡ get_or lanes k d → next.top ≡ m → next.bottom ≡ n → IsLaneRows picture next → rows' ≡ rows ++ next ∷ []
+    → AreLanes picture (take k lanes) rows m → next.lane ≡ get_or lanes k d → next.top ≡ m → below_of next ≡ n → IsLaneRows picture next → rows' ≡ rows ++ next ∷ []
     → AreLanes picture (take (k + 1) lanes) rows' n
 next_lane picture lanes k d rows rows' next m n within so named at ends each put =
     let lane = get_or lanes k d in
-    let more : AreLanes picture (take k lanes ++ lane ∷ []) (rows ++ next ∷ []) next.bottom = lane_more picture (take k lanes) lane rows next m so named at each in
+    let more : AreLanes picture (take k lanes ++ lane ∷ []) (rows ++ next ∷ []) (below_of next) = lane_more picture (take k lanes) lane rows next m so named at each in
     subst (λ (l : List Lane). AreLanes picture l rows' n) (sym (take-more lanes k lane within (get_or_default lanes k d lane within)))
     (subst (λ (r : List LaneRows). AreLanes picture (take k lanes ++ lane ∷ []) r n) (sym put)
     (subst (λ (b : ℕ). AreLanes picture (take k lanes ++ lane ∷ []) (rows ++ next ∷ []) b) ends more))

@@ -1,5 +1,5 @@
 -- Where everything of a picture is drawn: rows of ten pixels, and columns of ten.
-use Rattle.std.specs.Prelude.{◌≡◌, ℕ, zero, suc, Bool, false, ◌+◌, ◌-◌, ◌<◌, ◌≤◌, ◌==◌, List, [], ◌∷◌, ◌++◌, All, AllPairs, Any, filter, find, length, map, min, slice_index_or, take}
+use Rattle.std.specs.Prelude.{◌≡◌, ℕ, zero, suc, Bool, false, ◌+◌, ◌-◌, ◌<◌, ◌≤◌, ◌==◌, List, [], ◌∷◌, ◌++◌, All, AllPairs, Any, filter, find, if◌then◌else◌, length, map, min, nat_lt, slice_index_or, take}
 use Rattle.std.specs.List.{enumerate_from}
 use Rattle.std.specs.Option.{option_map_or}
 use Rattle.drm_picture.specs.declared.bars.Bar.{Bar}
@@ -80,10 +80,19 @@ below lane (suc n) = below lane n ++ lane n ∷ []
 abbrev pub lanes_of : Shape → List Lane
 lanes_of shape = below lane.Ring shape.rings ++ below lane.Entity shape.entities ++ below lane.Buffer shape.buffers
 
+-- a ring that has bars has its credits below them
+abbrev pub has_credits : Lane → List Placed → Bool
+has_credits (lane.Ring ring) bars = nat_lt 0 (length bars)
+has_credits _ bars = false
+
+-- the row below a lane, and below the credits of a ring that has some
+abbrev pub below_of : LaneRows → ℕ
+below_of rows = if has_credits rows.lane rows.bars.items then rows.bottom + 1 else rows.bottom
+
 -- lanes one below another, from a row to before another
 abbrev pub AreStacked : ℕ → List LaneRows → ℕ → Type 0
 AreStacked top [] bottom = top ≡ bottom
-AreStacked top (rows ∷ below) bottom = (rows.top ≡ top) × AreStacked rows.bottom below bottom
+AreStacked top (rows ∷ below) bottom = (rows.top ≡ top) × AreStacked (below_of rows) below bottom
 
 -- the rows of these lanes, in this order, one below another from the top of the picture
 pub record AreLanes (picture : Picture) (lanes : List Lane) (rows : List LaneRows) (bottom : ℕ) : Type 0 where

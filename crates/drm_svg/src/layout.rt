@@ -1,8 +1,8 @@
 //! Where lanes and bars are drawn: rows of ten pixels, and columns of ten.
 
-ghost use Rattle.std.specs.Prelude.{◌≡◌, ◌<◌, ◌^◌, [], IfOk, find, length};
+ghost use Rattle.std.specs.Prelude.{◌≡◌, ◌+◌, ◌<◌, ◌^◌, [], IfOk, OnOk, find, if◌then◌else◌, length};
 ghost use Rattle.std.specs.Option.{option_copied};
-ghost use Rattle.drm_svg.specs.Layout.{AreLanes, IsLaneRows, IsLayout, fences_below, header_of, lanes_of, row_of_fence, row_of_lane, same_lane};
+ghost use Rattle.drm_svg.specs.Layout.{AreLanes, IsLaneRows, IsLayout, below_of, fences_below, has_credits as has_credits_of, header_of, lanes_of, row_of_fence, row_of_lane, same_lane};
 
 use crate::fences::Fences;
 use crate::placing::{Placed, bar_in_row, is_same, place_bars};
@@ -48,6 +48,26 @@ fn lanes(alloc: Global, shape: Shape) -> Result<Vec<Lane>, AllocError>
     Ok(lanes)
 }
 
+/// Returns whether a lane with these bars has credits below them.
+pub fn has_credits(lane: Lane, bars: &[Placed]) -> bool
+    ensures { result ≡ has_credits_of lane bars.now }
+{
+    match lane {
+        Lane::Ring(_) => 0 < bars.len(),
+        _ => false,
+    }
+}
+
+// Adds the row of the credits of a lane, if it has some.
+fn push_credits(lane: Lane, bars: &[Placed], ends: &mut Vec<usize>) -> Result<(), AllocError>
+    ensures { OnOk result (length ends.new.items ≡ (if has_credits_of lane bars.now then length ends.old.items + 1 else length ends.old.items)) }
+{
+    if has_credits(lane, bars) {
+        ends.push(usize::MAX)?;
+    }
+    Ok(())
+}
+
 // The rows of a lane, below those that there are. Of each row is kept where it ends.
 fn lane_rows(
     alloc: Global,
@@ -57,17 +77,19 @@ fn lane_rows(
 ) -> Result<LaneRows, AllocError>
     ensures lane { IfOk result (λ rows. rows.lane ≡ lane) }
     ensures top { IfOk result (λ rows. rows.top ≡ length ends.old.items) }
-    ensures bottom { IfOk result (λ rows. rows.bottom ≡ length ends.new.items) }
+    ensures below { IfOk result (λ rows. below_of rows ≡ length ends.new.items) }
     ensures rows { IfOk result (IsLaneRows picture.now) }
 {
     let top = ends.len();
     ends.push(0)?;
     let bars = place_bars(alloc, picture, lane, ends)?;
+    let bottom = ends.len();
+    push_credits(lane, &bars, ends)?;
     Ok(LaneRows {
         lane,
         top,
         bars,
-        bottom: ends.len(),
+        bottom,
     })
 }
 

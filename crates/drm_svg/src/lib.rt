@@ -21,7 +21,7 @@ mod titles;
 
 pub use bars::put_entity_class;
 pub use fences::Fences;
-pub use layout::{LaneRows, Layout, lay_out};
+pub use layout::{LaneRows, Layout, has_credits, lay_out};
 pub use owners::job;
 pub use placing::Placed;
 pub use signs::{look_sign, look_word, sign_shape, sign_word};
