@@ -8,12 +8,7 @@ use drm_svg::{put_number, put_text, put_wide};
 use std::alloc::{AllocError, Global};
 
 // Puts what of how many commands is drawn: so many from the first on.
-fn put_span(
-    out: &mut Vec<u8>,
-    first: usize,
-    count: usize,
-    total: usize,
-) -> Result<(), AllocError>
+fn put_span(out: &mut Vec<u8>, first: usize, count: usize, total: usize) -> Result<(), AllocError>
     ensures { OnOk result (out.new.items ≡ out.old.items ++ span_of first count total) }
 {
     if count == 0 {

@@ -50,8 +50,7 @@ const HALT_RECT: &str = "' y='4' width='10' height='1'/></g>";
 const LOCK: &str = "<rect class='lock' y='1' width='10' height='8'/>";
 
 /// A job that waits for a buffer.
-const WAITING: &str =
-    "<g class='waiting'><rect fill='#999' y='1' width='10' height='8'/></g>";
+const WAITING: &str = "<g class='waiting'><rect fill='#999' y='1' width='10' height='8'/></g>";
 
 /// The line from a fence to an earlier one.
 const WAIT: &str = "<g class='wait'><path d='M5 1V7'/><circle cx='5' cy='7' r='1'/></g>";
@@ -192,12 +191,7 @@ fn put_key_at(
 }
 
 // Puts keys, so many in a row, from this row on.
-fn put_each_key(
-    out: &mut Vec<u8>,
-    wide: u128,
-    top: u128,
-    keys: &[Key],
-) -> Result<(), AllocError>
+fn put_each_key(out: &mut Vec<u8>, wide: u128, top: u128, keys: &[Key]) -> Result<(), AllocError>
     requires wide { 0 < wide }
     requires small { wide < 2 ^ 67 }
     requires top { top < 2 ^ 67 }

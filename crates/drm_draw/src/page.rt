@@ -11,9 +11,7 @@ use crate::keys::put_keys;
 use crate::legend::{Key, legend};
 use drm_core::Event;
 use drm_picture::{Picture, Step, moment};
-use drm_svg::{
-    Layout, lay_out, put_entity_class, put_inside, put_number, put_text, put_wide,
-};
+use drm_svg::{Layout, lay_out, put_entity_class, put_inside, put_number, put_text, put_wide};
 use drm_types::{EntityId, Moment};
 use std::alloc::{AllocError, Global};
 

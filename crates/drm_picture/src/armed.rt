@@ -45,7 +45,11 @@ pub(crate) fn requests(alloc: Global, run: &[Step]) -> Result<Vec<Request>, Allo
 {
     let mut requests = Vec::new(alloc);
     for (place, step) in run.iter().enumerate() {
-        push_request(alloc, &mut requests, armed_request(run_before(run, place), step))?;
+        push_request(
+            alloc,
+            &mut requests,
+            armed_request(run_before(run, place), step),
+        )?;
     }
     Ok(requests)
 }
