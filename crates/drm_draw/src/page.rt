@@ -24,7 +24,7 @@ const VIEW: &str = "pc' viewBox='-40 -";
 
 /// What stands behind it: the colours are those of Okabe and Ito, which people with colour blindness tell apart.
 const STYLE: &str =
-    "0'><style>svg{color:#000}.page{fill:#fff;stroke:none}text{fill:currentColor}g text{fill:#000;font-size:5px}g rect{stroke:currentColor;stroke-width:.5}.e0{fill:#e69f00}.e1{fill:#56b4e9}.e2{fill:#009e73}.e3{fill:#f0e442}.e4{fill:#0072b2}.e5{fill:#d55e00}.e6{fill:#cc79a7}.e4+text{fill:#fff}.open{stroke-dasharray:1 1}.cancelled{stroke-dasharray:3 1.5;stroke-width:1}.stopped{stroke-width:1.5}.skipped{mask:url(#hatched)}.lock{fill:#999}.waiting rect{fill-opacity:.4}.waiting text{fill:currentColor}.halt rect{stroke-width:.3}.halt .guilty{fill:#f0e442}.halt .stopped{fill:#d55e00}.credits text{fill:currentColor}.credits path{stroke-width:.7}path,circle{fill:none;stroke:currentColor}path.guilty{fill:#f0e442}.refused{stroke:#d55e00}.given{stroke:#0072b2}.wait path{stroke-width:.5}.wait circle{fill:currentColor}.legend text{fill:currentColor;font-size:6px}@media(prefers-color-scheme:dark){svg{color:#eee}.page{fill:#111}.given{stroke:#56b4e9}}</style><pattern id='stripes' width='3' height='3' patternUnits='userSpaceOnUse' patternTransform='rotate(45)'><path d='M1 0v3' style='stroke:#fff;stroke-width:2'/></pattern><mask id='hatched' maskUnits='userSpaceOnUse' x='-9' y='-9' width='100%' height='100%'><path d='M-9 -9h999999v999999h-999999z' style='fill:#777;stroke:none'/><path d='M-9 -9h999999v999999h-999999z' style='fill:url(#stripes);stroke:none'/></mask><path class='page' d='M-999 -999h999999v999999h-999999z'/>\n";
+    "0'><style>svg{color:#000}.page{fill:#fff;stroke:none}text{fill:currentColor}g text{fill:#000;font-size:5px}g rect{stroke:currentColor;stroke-width:.5}.e0{fill:#e69f00}.e1{fill:#56b4e9}.e2{fill:#009e73}.e3{fill:#f0e442}.e4{fill:#0072b2}.e5{fill:#d55e00}.e6{fill:#cc79a7}.e4+text{fill:#fff}.open{stroke-dasharray:1 1}.cancelled{stroke-dasharray:3 1.5;stroke-width:1}.stopped{stroke-width:1.5}.skipped{mask:url(#hatched)}.lock{fill:#999}.waiting rect{fill-opacity:.4}.waiting text{fill:currentColor}.halt rect{stroke-width:.3}.halt .guilty{fill:#f0e442}.halt .stopped{fill:#d55e00}.credits text{fill:currentColor}.credits path{stroke-width:.7}path,circle{fill:none;stroke:currentColor}path.guilty{fill:#f0e442}.refused{stroke:#d55e00}.given{stroke:#0072b2}.wait path{stroke-width:.5}.wait circle{fill:currentColor}.legend text{fill:currentColor;font-size:6px}@media(prefers-color-scheme:dark){svg{color:#eee}.page{fill:#111}.given{stroke:#56b4e9}}</style><pattern id='stripes' width='3' height='3' patternUnits='userSpaceOnUse' patternTransform='rotate(45)'><path d='M1 0v3' style='stroke:#fff;stroke-width:2'/></pattern><mask id='hatched' maskUnits='userSpaceOnUse' x='-9' y='-9' width='100%' height='100%'><path d='M-9 -9h999999v999999h-999999z' style='fill:#999;stroke:none'/><path d='M-9 -9h999999v999999h-999999z' style='fill:url(#stripes);stroke:none'/></mask><path class='page' d='M-999 -999h999999v999999h-999999z'/>\n";
 
 /// The title.
 const HEADING: &str = "<text class='heading' x='-38' y='-";
@@ -41,7 +41,7 @@ const PATTERN_FILL: &str = ")'><path class='";
 
 /// The stripes, and what has the pattern.
 const PATTERN_CLASS: &str =
-    "' d='M-1 -1h5v5h-5z' style='stroke:none'/><path d='M1 0v3' style='stroke:#fff'/></pattern><style>.";
+    "' d='M-1 -1h5v5h-5z' style='stroke:none'/><path d='M1 0v3' style='stroke:#fff;stroke-width:.5'/></pattern><style>.";
 
 /// The rule.
 const PATTERN_RULE: &str = "{fill:url(#";
