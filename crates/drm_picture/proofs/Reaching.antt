@@ -86,31 +86,25 @@ over run place declared bar le =
     ap (λ (b : Bool). (nat_lt bar.from place && b) && conflicts_at declared (job_of run bar)) (not_lt place (end_of bar) le)
     ∙ ap (λ (b : Bool). b && conflicts_at declared (job_of run bar)) (never_both (nat_lt bar.from place))
 
+-- one fence more, which does not end behind the place and the last of the others
+over_by : (run : List Step) (place : ℕ) (declared : ℕ × Access) (bar : Bar) (rest : ℕ) (b : Bool) → nat_lt place (end_of bar) ≡ b → end_of bar ≤ max rest place
+    → cond (holds_up run place declared bar) (max (end_of bar) rest) rest ≡ rest
+over_by run place declared bar rest true is within =
+    let lt : place < end_of bar = ltb-true place (end_of bar) is in
+    either (holds_up run place declared bar) (max (end_of bar) rest) rest (omega (arith, within, lt))
+over_by run place declared bar rest false is within =
+    ap (λ (b : Bool). cond ((nat_lt bar.from place && b) && conflicts_at declared (job_of run bar)) (max (end_of bar) rest) rest) is
+    ∙ ap (λ (b : Bool). cond (b && conflicts_at declared (job_of run bar)) (max (end_of bar) rest) rest) (never_both (nat_lt bar.from place))
+
 -- none of the former fences ends behind the place and the last of the latter
 pub latest-over : (run : List Step) (place : ℕ) (declared : ℕ × Access) (former latter : List Bar) → EndBy (max (latest_end run place declared latter) place) former
     → latest_end run place declared (former ++ latter) ≡ latest_end run place declared latter
 latest-over run place declared [] latter all = refl
-latest-over run place declared (bar ∷ former) latter all = by_end (nat_lt place (end_of bar)) refl
-  where
-    last : ℕ
-    last = latest_end run place declared latter
-
-    rest : latest_end run place declared (former ++ latter) ≡ last
-    rest = latest-over run place declared former latter (All-tail (λ bar. end_of bar ≤ max last place) bar former all)
-
-    within : end_of bar ≤ max last place
-    within = All-head (λ bar. end_of bar ≤ max last place) bar former all
-
-    by_end : (b : Bool) → nat_lt place (end_of bar) ≡ b
-        → cond (holds_up run place declared bar) (max (end_of bar) (latest_end run place declared (former ++ latter))) (latest_end run place declared (former ++ latter)) ≡ last
-    by_end true is =
-        let lt : place < end_of bar = ltb-true place (end_of bar) is in
-        let least : max (end_of bar) (latest_end run place declared (former ++ latter)) ≡ latest_end run place declared (former ++ latter) = omega (arith, rest, within, lt) in
-        either (holds_up run place declared bar) (max (end_of bar) (latest_end run place declared (former ++ latter))) (latest_end run place declared (former ++ latter)) least ∙ rest
-    by_end false is =
-        ap (λ (b : Bool). cond ((nat_lt bar.from place && b) && conflicts_at declared (job_of run bar)) (max (end_of bar) (latest_end run place declared (former ++ latter))) (latest_end run place declared (former ++ latter))) is
-        ∙ ap (λ (b : Bool). cond (b && conflicts_at declared (job_of run bar)) (max (end_of bar) (latest_end run place declared (former ++ latter))) (latest_end run place declared (former ++ latter))) (never_both (nat_lt bar.from place))
-        ∙ rest
+latest-over run place declared (bar ∷ former) latter all =
+    let last = latest_end run place declared latter in
+    let rest = latest-over run place declared former latter (All-tail (λ bar. end_of bar ≤ max last place) bar former all) in
+    ap (λ (n : ℕ). cond (holds_up run place declared bar) (max (end_of bar) n) n) rest
+    ∙ over_by run place declared bar last (nat_lt place (end_of bar)) refl (All-head (λ bar. end_of bar ≤ max last place) bar former all)
 
 pub latest-all : (run : List Step) (place : ℕ) (declared : ℕ × Access) (fences : List Bar) (index latest : ℕ) → latest ≡ latest_end run place declared (drop index fences)
     → EndBy (max latest place) (take index fences) → latest ≡ latest_end run place declared fences
