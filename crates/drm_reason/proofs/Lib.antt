@@ -7,3 +7,4 @@ pub mod Stands
 pub mod Takes
 pub mod Laws
 pub mod Looks
+pub mod RetiredJobs

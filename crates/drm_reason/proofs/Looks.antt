@@ -112,7 +112,7 @@ nothing_known js n test = record {
 
 -- ---- what is known stays so
 
-ended_stays : (p q : Phase) → GoesOn p q → has_ended p ≡ true → has_ended q ≡ true
+pub ended_stays : (p q : Phase) → GoesOn p q → has_ended p ≡ true → has_ended q ≡ true
 ended_stays Queued q goes is = absurd (let never : false ≡ true = is in cc (never))
 ended_stays Scheduled q goes is = absurd (let never : false ≡ true = is in cc (never))
 ended_stays (Ended o) q goes is = ap has_ended goes

@@ -2,3 +2,6 @@ pub mod Reasons
 pub mod Standing
 pub mod Laws
 pub mod Watching
+pub mod Retired
+pub mod Said
+pub mod Released

@@ -4,19 +4,28 @@
 //! job in the queue of its entity; it waits for a fence; another job comes first on its ring; it lacks credits; it is
 //! next; its entity is stopped; it is pending behind another job; it runs a packet, or stalls at one; it is complete;
 //! it has ended. `reason_of` tells it of a device, and a `Watch` tells it again and again without looking at an earlier
-//! job twice.
+//! job twice. A look from a `Retired` begins behind the jobs that have all ended; it also tells which jobs the end of a
+//! fence lets go.
+//!
+//! `said` puts a reason in words. Nothing else spells these.
 #![tactic(auto)]
 
 ghost use Rattle.drm_reason.specs.Laws.{AllCallsGoByReasons, EachHowIsTold, EachJobHasOneReason};
+ghost use Rattle.drm_reason.specs.Retired.{RetiredStay};
 ghost use Rattle.drm_reason.specs.Watching.{KnowledgeStays};
 
 mod looking;
 mod reason;
+mod released;
+mod retired;
+mod sentence;
 mod watch;
 
 use drm_state::choice_is_least;
 pub use looking::reason_of;
 pub use reason::{How, Reason};
+pub use retired::Retired;
+pub use sentence::{Part, Sentence, said};
 pub use watch::Watch;
 
 /// Each job of a device has one reason, and that is told: what `specs/Standing` says of it stands in the device, and of
@@ -46,4 +55,9 @@ pub fn all_calls_go_by_reasons()
 /// What a watch knows of a device stays so, however the device grows.
 pub fn knowledge_stays()
     ensures { KnowledgeStays }
+{}
+
+/// Jobs that have retired stay so, however a device grows.
+pub fn retired_stay()
+    ensures { RetiredStay }
 {}

@@ -69,8 +69,8 @@ fn names(after: &[FenceId], number: FenceId) -> bool
     after.iter().any(|fence| *fence == number)
 }
 
-// Whether the later job comes after the earlier one of this number.
-fn follows(later: &Job, number: FenceId, earlier: &Job) -> bool
+/// Whether the later job comes after the earlier one of this number.
+pub(crate) fn follows(later: &Job, number: FenceId, earlier: &Job) -> bool
     ensures { result ≡ comes_after later.now number earlier.now }
 {
     conflicts(earlier, later) || names(later.after(), number)
