@@ -8,7 +8,8 @@ ghost use Rattle.drm_explain.specs.Rows.{context_rows, device_rows, job_rows, te
 
 /// A row of the table, part by part: the number; how it is written where it is met, with the letters of its fields;
 /// what is said of an answer with it, with `%` in place of each number, once for each case that is told apart; how one
-/// gets there; what to do; the kernel's error or call that it stands for; and further lines, each with its line end.
+/// gets there; what to do; the kernel's error or call that it stands for; and further lines, each with its line end. Of
+/// a fault is said what is wrong, and then what was expected: of a device the first for each part, then the second.
 pub type Row = (
     u32,
     &'static str,
@@ -24,7 +25,26 @@ static JOBS: [Row; 13] = [
     (
         1,
         "refused 1 P I",
-        &[],
+        &[
+            "the header has no buffer, or more than 64",
+            "the buffer of this number has no byte, or more than 4096",
+            "the header has no ring, or more than 8",
+            "the credit limit of the ring of this number is 0",
+            "the timeout of the ring of this number is 0",
+            "the hang limit of the ring of this number is above 1000",
+            "the header has no entity, or more than 64",
+            "the entity of this number lists a ring that is not there, a ring twice, or more than 8 rings",
+            "the number of jobs is 0 or above 65,535",
+            "1 to 64 lines buffer and zero",
+            "1 to 4096 bytes in a buffer",
+            "1 to 8 lines ring",
+            "a credit limit of at least 1",
+            "a timeout of at least 1",
+            "a hang limit of at most 1000",
+            "1 to 64 lines entity",
+            "rings of the header, each once; the first is 0",
+            "a number of jobs of 1 to 65,535",
+        ],
         "not an answer: the header describes no device; drmsim writes it to standard error and ends with status 2",
         "see \"Devices that are refused\"",
         "drm_sched_init and drm_sched_entity_init: -EINVAL for run queues or schedulers that they can't take; most limits are a driver's",
@@ -158,10 +178,10 @@ static DEVICES: [Row; 11] = [
         30,
         "refused 30",
         &[
-            "entity % was cancelled, and takes no more jobs",
-            "the entity of the job that context % has planned was cancelled, and takes no more jobs",
+            "entity % is stopped, and takes no more jobs",
+            "the entity of the job that context % has planned is stopped, and takes no more jobs",
         ],
-        "the job's entity was cancelled",
+        "the job's entity is stopped",
         "use another entity",
         "drm_sched_entity_push_job logs that the entity was killed",
         "",
@@ -218,8 +238,8 @@ static DEVICES: [Row; 11] = [
     (
         43,
         "refused 43",
-        &["entity % was cancelled before"],
-        "the entity was cancelled before",
+        &["entity % is stopped already"],
+        "the entity is stopped already",
         "nothing",
         "drm_sched_entity_kill stops an entity and ends its queued jobs in one call, and a second call finds nothing to do",
         "",
@@ -379,7 +399,10 @@ static TEXTS: [Row; 9] = [
     (
         70,
         "fault 70",
-        &[],
+        &[
+            "this word is unknown, missing, empty, out of its order in a job, or one too many",
+            "the words of a line of a script, with one space between two",
+        ],
         "a word is unknown, missing, empty, out of its order in a job, or one too many; or a packet has an unknown name or a wrong number of fields; or a status of a journal is none of the four",
         "look the line up in the tables of the manual; an empty word comes of two spaces, of a space at an end, or of an empty line",
         "nothing: no text reaches the kernel; a driver answers -EINVAL to a submission that it can't read",
@@ -388,7 +411,10 @@ static TEXTS: [Row; 9] = [
     (
         71,
         "fault 71",
-        &[],
+        &[
+            "this is no number, byte or bytes as they are spelled, or out of their range",
+            "a number with no sign and no leading zeros; for a byte two digits in lower case",
+        ],
         "a number, byte or bytes are not spelled right, or out of their range; or a final text has not its buffer's size",
         "write a number with no sign and no leading zeros, a byte with two digits in lower case",
         "nothing: no text reaches the kernel; a driver answers -EINVAL to a submission that it can't read",
@@ -397,7 +423,10 @@ static TEXTS: [Row; 9] = [
     (
         72,
         "fault 72",
-        &[],
+        &[
+            "there is no ring, entity, buffer or context of this number",
+            "a number counted from 0, in the order of the header's lines; of a context 0 to 63",
+        ],
         "a command names a ring, entity, buffer or context that is not there",
         "count from 0, in the order of the header's lines; a context is 0 to 63",
         "nothing: no text reaches the kernel; a driver answers -EINVAL to a submission that it can't read",
@@ -406,7 +435,10 @@ static TEXTS: [Row; 9] = [
     (
         73,
         "fault 73",
-        &[],
+        &[
+            "this line is not allowed at its place, or the text ends where a line must follow",
+            "the lines of a header up to go, and commands behind it",
+        ],
         "a known line is not allowed at its place, or the text ends where a line must follow",
         "put the lines in order; a header ends with go, a journal with end",
         "nothing: no text reaches the kernel; a driver answers -EINVAL to a submission that it can't read",
@@ -415,7 +447,7 @@ static TEXTS: [Row; 9] = [
     (
         74,
         "fault 74",
-        &[],
+        &["the text has more than 1,048,576 bytes", "a shorter text"],
         "the text has more than 1,048,576 bytes",
         "split the run",
         "nothing: no text reaches the kernel; a driver answers -EINVAL to a submission that it can't read",
@@ -424,7 +456,7 @@ static TEXTS: [Row; 9] = [
     (
         75,
         "fault 75",
-        &[],
+        &["the last line has no line end", "a line feed"],
         "the last line has no line end",
         "end it with a line feed",
         "nothing: no text reaches the kernel; a driver answers -EINVAL to a submission that it can't read",
@@ -433,7 +465,10 @@ static TEXTS: [Row; 9] = [
     (
         76,
         "fault 76",
-        &[],
+        &[
+            "this byte is no printable ASCII character: a tab, a carriage return, a letter with an accent",
+            "printable ASCII characters, and line feeds between lines",
+        ],
         "a byte that is no printable ASCII character: a tab, a carriage return, a letter with an accent",
         "take it out; save the text with line feeds alone",
         "nothing: no text reaches the kernel; a driver answers -EINVAL to a submission that it can't read",
@@ -442,7 +477,10 @@ static TEXTS: [Row; 9] = [
     (
         77,
         "fault 77",
-        &[],
+        &[
+            "the job of this line is none that the device can have taken",
+            "a job that the device takes",
+        ],
         "the job of a journal's line is none that the device can have taken, or that of a line of a script for threads none that they can submit",
         "see \"Journals that are refused\" and \"Scripts for threads\"",
         "nothing: no text reaches the kernel; a driver answers -EINVAL to a submission that it can't read",
