@@ -12,8 +12,7 @@ use Rattle.drm_core.specs.declared.event.Event.{Event}
 use Rattle.drm_core.specs.State.{CoreState, opened}
 use Rattle.drm_core.specs.Headline.{Headline}
 use Rattle.drm_core.specs.Lawful.{IsLawful}
-use Rattle.drm_core.specs.Run.{AllNamesExist, EveryRunIsLawful, LawfulRun, Run}
-use Rattle.drm_core.specs.Step.{Step}
+use Rattle.drm_core.specs.Run.{AllNamesExist, EveryRunIsLawful, Run}
 use Rattle.drm_answer.specs.Answers.{line_of, text_of_answers}
 use Rattle.drm_script.specs.Kept.{AnswersFirst}
 use Rattle.drm_script.specs.Script.{judge_script}
@@ -22,35 +21,57 @@ use Rattle.drm_stream.specs.Streams.{SinkState}
 use Rattle.drm_stream.specs.Transfer.{AppendsFront, WritesOrFails}
 use Rattle.drm_engine.specs.declared.ending.Ending.{Ending}
 use Rattle.drm_engine.specs.declared.ending.Ending.TheVariants as ending
-use Rattle.drm_engine.specs.Replaying.{AppendsPiece, AreAnswers, IsAnswered, IsToldAs, PlaysAs, Replays, ReplaysAs, SpellsScript, Told, ToldFront, ToldSoFar, Written, text_of_lines}
+use Rattle.drm_engine.specs.Replaying.{AnswersScript, AppendsPiece, IsTold, Line, PlaysAs, ReplaysAs, Tells, TellsScript, Told, ToldFront, ToldSoFar, Written}
 
--- whatever run of the rest follows, it makes one of the whole with the answers so far
-abbrev pub GoesOn : CoreState → List (Event Draft) → List Answer → CoreState → List (Event Draft) → Type 0
-GoesOn start events so_far now rest = (more : List Answer) (new : CoreState) → Run now rest more new → Run start events (so_far ++ more) new
+-- whatever lines are told of the rest, with those so far they are the lines of the whole
+abbrev pub GoesOn : Line → CoreState → List (Event Draft) → List Answer → CoreState → List (Event Draft) → List ℕ → Type 0
+GoesOn line start events so_far now rest said =
+    (more : List Answer) (new : CoreState) (text : List ℕ) → Tells line now rest more new text → Tells line start events (so_far ++ more) new (said ++ text)
 
-pub turn : (start now next : CoreState) (events rest : List (Event Draft)) (so_far : List Answer) (event : Event Draft) (answer : Answer) → Step now event answer next
-    → GoesOn start events so_far now (event ∷ rest) → GoesOn start events (so_far ++ answer ∷ []) next rest
-turn start now next events rest so_far event answer step goes_on more new run =
-    subst (λ given. Run start events given new) (sym (append_assoc so_far (answer ∷ []) more)) (goes_on (answer ∷ more) new (next, step, run))
+-- more answers and their lines behind those so far
+goes_behind : (line : Line) (start new : CoreState) (events : List (Event Draft)) (so_far answers more : List Answer) (said told text : List ℕ)
+    → Tells line start events (so_far ++ (answers ++ more)) new (said ++ (told ++ text)) → Tells line start events ((so_far ++ answers) ++ more) new ((said ++ told) ++ text)
+goes_behind line start new events so_far answers more said told text tells =
+    subst (λ (given : List Answer). Tells line start events given new ((said ++ told) ++ text)) (sym (append_assoc so_far answers more))
+    (subst (λ (t : List ℕ). Tells line start events (so_far ++ (answers ++ more)) new t) (sym (append_assoc said told text)) tells)
 
--- the same by the first event that is left
-pub turned : (start now next : CoreState) (events rest left : List (Event Draft)) (so_far : List Answer) (answer : Answer) → AnswersFirst now rest answer next left
-    → GoesOn start events so_far now rest → GoesOn start events (so_far ++ answer ∷ []) next left
-turned start now next events rest left so_far answer first goes_on =
-    turn start now next events left so_far first.0 answer first.2 (subst (GoesOn start events so_far now) first.1 goes_on)
+-- one line more, by the first event that is left
+pub turned : (line : Line) (start now next : CoreState) (events rest left : List (Event Draft)) (so_far : List Answer) (said : List ℕ) (answer : Answer)
+    (first : AnswersFirst now rest answer next left) → IsLawful now → GoesOn line start events so_far now rest said
+    → GoesOn line start events (so_far ++ answer ∷ []) next left (said ++ line now first.0 answer next)
+turned line start now next events rest left so_far said answer first lawful goes_on more new text tells =
+    let told = line now first.0 answer next in
+    let all : Tells line now (first.0 ∷ left) (answer ∷ more) new (told ++ text) = (lawful, (next, text, first.2, tells, refl)) in
+    goes_behind line start new events so_far (answer ∷ []) more said told text
+    (goes_on (answer ∷ more) new (told ++ text) (subst (λ (es : List (Event Draft)). Tells line now es (answer ∷ more) new (told ++ text)) (sym first.1) all))
 
--- a run of some events, and one of those behind them
-run_behind : (start mid new : CoreState) (first rest : List (Event Draft)) (answers more : List Answer) → Run start first answers mid → Run mid rest more new → Run start (first ++ rest) (answers ++ more) new
-run_behind start mid new [] rest [] more one other = subst (λ (s : CoreState). Run s rest more new) one other
-run_behind start mid new [] rest (answer ∷ answers) more one other = absurd one
-run_behind start mid new (event ∷ first) rest [] more one other = absurd one
-run_behind start mid new (event ∷ first) rest (answer ∷ answers) more one other = (one.0, one.1, run_behind one.0 mid new first rest answers more one.2 other)
+-- the lines of some events, and those of the events behind them
+tells_behind : (line : Line) (start mid new : CoreState) (first rest : List (Event Draft)) (answers more : List Answer) (told text : List ℕ) → Tells line start first answers mid told
+    → Tells line mid rest more new text → Tells line start (first ++ rest) (answers ++ more) new (told ++ text)
+tells_behind line start mid new [] rest [] more told text one other =
+    subst (λ (s : CoreState). Tells line s rest more new (told ++ text)) one.1
+    (subst (λ (t : List ℕ). Tells line mid rest more new (t ++ text)) (sym one.2) other)
+tells_behind line start mid new [] rest (answer ∷ answers) more told text one other = absurd one
+tells_behind line start mid new (event ∷ first) rest [] more told text one other = absurd one
+tells_behind line start mid new (event ∷ first) rest (answer ∷ answers) more told text one other =
+    let next = one.1.0 in
+    let behind = one.1.1 in (
+      one.0,
+      (
+        next,
+        behind ++ text,
+        one.1.2,
+        tells_behind line next mid new first rest answers more behind text one.1.3 other,
+        ap (λ (t : List ℕ). t ++ text) one.1.4 ∙ append_assoc (line start event answer next) behind text,
+      ),
+    )
 
--- the same by all events of a chunk
-pub chunk_turned : (start now next : CoreState) (events chunk rest : List (Event Draft)) (so_far answers : List Answer) → Run now chunk answers next
-    → GoesOn start events so_far now (chunk ++ rest) → GoesOn start events (so_far ++ answers) next rest
-chunk_turned start now next events chunk rest so_far answers run goes_on more new behind =
-    subst (λ given. Run start events given new) (sym (append_assoc so_far answers more)) (goes_on (answers ++ more) new (run_behind now next new chunk rest answers more run behind))
+-- the lines of a chunk more
+pub chunk_turned : (line : Line) (start now next : CoreState) (events chunk rest : List (Event Draft)) (so_far answers : List Answer) (said told : List ℕ) → Tells line now chunk answers next told
+    → GoesOn line start events so_far now (chunk ++ rest) said → GoesOn line start events (so_far ++ answers) next rest (said ++ told)
+chunk_turned line start now next events chunk rest so_far answers said told tells goes_on more new text behind =
+    goes_behind line start new events so_far answers more said told text
+    (goes_on (answers ++ more) new (told ++ text) (tells_behind line now next new chunk rest answers more told text tells behind))
 
 -- all events of a chunk name what is there, and so do those behind it
 pub names_first : (spec : DeviceSpec) (chunk rest : List (Event Draft)) → AllNamesExist spec (chunk ++ rest) → AllNamesExist spec chunk
@@ -61,9 +82,21 @@ pub names_behind : (old new : DeviceSpec) (chunk rest : List (Event Draft)) → 
 names_behind old new [] rest same names = subst (λ spec. AllNamesExist spec rest) (sym same) names
 names_behind old new (event ∷ chunk) rest same names = names_behind old new chunk rest same names.1
 
-pub run_ends : (start now : CoreState) (events rest : List (Event Draft)) (so_far : List Answer) → rest ≡ [] → GoesOn start events so_far now rest → Run start events so_far now
-run_ends start now events [] so_far none goes_on = subst (λ given. Run start events given now) (append-nil so_far) (goes_on [] now refl)
-run_ends start now events (event ∷ rest) so_far none goes_on = absurd (cc)
+-- nothing is left
+pub tells_end : (line : Line) (start now : CoreState) (events rest : List (Event Draft)) (so_far : List Answer) (said : List ℕ) → rest ≡ [] → IsLawful now
+    → GoesOn line start events so_far now rest said → Tells line start events so_far now said
+tells_end line start now events [] so_far said none lawful goes_on =
+    subst (λ (given : List Answer). Tells line start events given now said) (append-nil so_far)
+    (subst (λ (t : List ℕ). Tells line start events (so_far ++ []) now t) (append-nil said) (goes_on [] now [] (lawful, refl, refl)))
+tells_end line start now events (event ∷ rest) so_far said none lawful goes_on = absurd (cc)
+
+-- events of which lines are told make a run
+told_run : (line : Line) (start final : CoreState) (events : List (Event Draft)) (answers : List Answer) (text : List ℕ) → Tells line start events answers final text → Run start events answers final
+told_run line start final [] [] text told = told.1
+told_run line start final [] (answer ∷ answers) text never = absurd never
+told_run line start final (event ∷ events) [] text never = absurd never
+told_run line start final (event ∷ events) (answer ∷ answers) text told =
+    (told.1.0, told.1.2, told_run line told.1.0 final events answers told.1.1 told.1.3)
 
 -- what was written first, and then a piece with more behind it
 pub piece_behind : (a b c : Option (List ℕ)) (text piece more left : List ℕ) → AppendsPiece a b text piece → AppendsPiece b c (piece ++ more) left → AppendsPiece a c (text ++ more) left
@@ -105,74 +138,41 @@ told_next a b c (Err e) text more piece left p q = front_next a b c text more pi
 
 -- ---- lines
 
--- whatever answers the rest gets, the lines of the whole are those told so far and the lines of the rest
-abbrev pub LinesSoFar : (Event Draft → Answer → List ℕ) → List (Event Draft) → List Answer → List (Event Draft) → List ℕ → Type 0
-LinesSoFar line events so_far rest said = (more : List Answer) → text_of_lines line events (so_far ++ more) ≡ said ++ text_of_lines line rest more
-
 -- what was answered so far, and told of it
-abbrev pub SaidSoFar : {E : Type 0} → (Event Draft → Answer → List ℕ) → SinkState → SinkState → CoreState → CoreState → List (Event Draft) → List (Event Draft) → Result (Unit {0}) E → List ℕ → Type 0
+abbrev pub SaidSoFar : {E : Type 0} → Line → SinkState → SinkState → CoreState → CoreState → List (Event Draft) → List (Event Draft) → Result (Unit {0}) E → List ℕ → Type 0
 SaidSoFar line old new start now events rest told piece =
-    (given : List Answer) × GoesOn start events given now rest × ((said : List ℕ) × LinesSoFar line events given rest said × Told old new told said piece)
+    (given : List Answer) × (said : List ℕ) × GoesOn line start events given now rest said × Told old new told said piece
 
 -- the same of a part of the events, whatever was told before it
-abbrev pub SaidOfPart : {E : Type 0} → (Event Draft → Answer → List ℕ) → SinkState → SinkState → CoreState → CoreState → List (Event Draft) → List (Event Draft) → Result (Unit {0}) E → Result (Unit {0}) E → List ℕ → List ℕ → Type 0
+abbrev pub SaidOfPart : {E : Type 0} → Line → SinkState → SinkState → CoreState → CoreState → List (Event Draft) → List (Event Draft) → Result (Unit {0}) E → Result (Unit {0}) E → List ℕ → List ℕ → Type 0
 SaidOfPart line from now_at start now events rest before told first piece =
-    (given : List Answer) × GoesOn start events given now rest × ((said : List ℕ) × LinesSoFar line events given rest said
-    × ((old : SinkState) (text : List ℕ) → Told old from before text first → Told old now_at told (text ++ said) piece))
+    (given : List Answer) × (said : List ℕ) × GoesOn line start events given now rest said
+    × ((old : SinkState) (text : List ℕ) → Told old from before text first → Told old now_at told (text ++ said) piece)
 
 -- before the first event nothing is answered, and nothing told
-pub nothing_said : (line : Event Draft → Answer → List ℕ) (a : SinkState) (start : CoreState) (events rest : List (Event Draft)) (piece : List ℕ) → rest ≡ events → piece ≡ []
-    → (given : List Answer) × GoesOn start events given start rest × ((said : List ℕ) × LinesSoFar line events given rest said × ToldSoFar a a said piece)
-nothing_said line a start events rest piece same none =
-    ([], (λ more new run. subst (λ es. Run start es more new) same run), ([], (λ more. ap (λ es. text_of_lines line es more) (sym same)), (([], Appends-nil a.contents, sym none), refl)))
+goes_from : (line : Line) (start : CoreState) (events rest : List (Event Draft)) → rest ≡ events → GoesOn line start events [] start rest []
+goes_from line start events rest same more new text tells = subst (λ (es : List (Event Draft)). Tells line start es more new text) same tells
 
-pub nothing_of_part : {E : Type 0} (line : Event Draft → Answer → List ℕ) (a : SinkState) (start : CoreState) (events rest : List (Event Draft)) (before : Result (Unit {0}) E) (piece : List ℕ) → rest ≡ events
+pub nothing_said : (line : Line) (a : SinkState) (start : CoreState) (events rest : List (Event Draft)) (piece : List ℕ) → rest ≡ events → piece ≡ []
+    → (given : List Answer) × (said : List ℕ) × GoesOn line start events given start rest said × ToldSoFar a a said piece
+nothing_said line a start events rest piece same none =
+    ([], [], goes_from line start events rest same, (([], Appends-nil a.contents, sym none), refl))
+
+pub nothing_of_part : {E : Type 0} (line : Line) (a : SinkState) (start : CoreState) (events rest : List (Event Draft)) (before : Result (Unit {0}) E) (piece : List ℕ) → rest ≡ events
     → SaidOfPart line a a start start events rest before before piece piece
 nothing_of_part line a start events rest before piece same =
-    ([], (λ more new run. subst (λ es. Run start es more new) same run), ([], (λ more. ap (λ es. text_of_lines line es more) (sym same)), λ old text was. subst (λ (t : List ℕ). Told old a before t piece) (sym (append-nil text)) was))
-
--- one line more
-pub line_more : (line : Event Draft → Answer → List ℕ) (events rest left : List (Event Draft)) (so_far : List Answer) (event : Event Draft) (answer : Answer) (said : List ℕ) → rest ≡ event ∷ left
-    → LinesSoFar line events so_far rest said → LinesSoFar line events (so_far ++ answer ∷ []) left (said ++ line event answer)
-line_more line events rest left so_far event answer said split so more =
-    ap (text_of_lines line events) (append_assoc so_far (answer ∷ []) more)
-    ∙ so (answer ∷ more)
-    ∙ ap (λ (es : List (Event Draft)). said ++ text_of_lines line es (answer ∷ more)) split
-    ∙ sym (append_assoc said (line event answer) (text_of_lines line left more))
-
--- the lines of some events that were answered, and then those of the events behind them
-lines_behind : (line : Event Draft → Answer → List ℕ) (now next : CoreState) (chunk rest : List (Event Draft)) (answers more : List Answer) → Run now chunk answers next
-    → text_of_lines line (chunk ++ rest) (answers ++ more) ≡ text_of_lines line chunk answers ++ text_of_lines line rest more
-lines_behind line now next [] rest [] more run = refl
-lines_behind line now next [] rest (answer ∷ answers) more never = absurd never
-lines_behind line now next (event ∷ chunk) rest [] more never = absurd never
-lines_behind line now next (event ∷ chunk) rest (answer ∷ answers) more run =
-    ap (λ (t : List ℕ). line event answer ++ t) (lines_behind line run.0 next chunk rest answers more run.2)
-    ∙ sym (append_assoc (line event answer) (text_of_lines line chunk answers) (text_of_lines line rest more))
-
--- the lines of a chunk more
-pub chunk_said : (line : Event Draft → Answer → List ℕ) (now next : CoreState) (events chunk rest : List (Event Draft)) (so_far answers : List Answer) (said : List ℕ) → Run now chunk answers next
-    → LinesSoFar line events so_far (chunk ++ rest) said → LinesSoFar line events (so_far ++ answers) rest (said ++ text_of_lines line chunk answers)
-chunk_said line now next events chunk rest so_far answers said run so more =
-    ap (text_of_lines line events) (append_assoc so_far answers more)
-    ∙ so (answers ++ more)
-    ∙ ap (λ (t : List ℕ). said ++ t) (lines_behind line now next chunk rest answers more run)
-    ∙ sym (append_assoc said (text_of_lines line chunk answers) (text_of_lines line rest more))
-
--- the lines of all events
-pub lines_end : (line : Event Draft → Answer → List ℕ) (events rest : List (Event Draft)) (so_far : List Answer) (said : List ℕ) → rest ≡ [] → LinesSoFar line events so_far rest said
-    → said ≡ text_of_lines line events so_far
-lines_end line events rest so_far said none so =
-    sym (append-nil said) ∙ sym (ap (λ (es : List (Event Draft)). said ++ text_of_lines line es []) none) ∙ sym (so []) ∙ ap (text_of_lines line events) (append-nil so_far)
+    ([], [], goes_from line start events rest same, λ old text was. subst (λ (t : List ℕ). Told old a before t piece) (sym (append-nil text)) was)
 
 -- those that have the answers alone are the lines of the answers
-pub lines_of_answers : (start final : CoreState) (events : List (Event Draft)) (answers : List Answer) → LawfulRun start events answers final
-    → text_of_lines (λ event answer. line_of answer) events answers ≡ text_of_answers answers
-lines_of_answers start final [] [] run = refl
-lines_of_answers start final [] (answer ∷ answers) never = absurd never
-lines_of_answers start final (event ∷ events) [] never = absurd never
-lines_of_answers start final (event ∷ events) (answer ∷ answers) run =
-    ap (λ (t : List ℕ). line_of answer ++ t) (lines_of_answers run.1.0 final events answers run.1.3)
+abbrev pub bare_line : Line
+bare_line before event answer after = line_of answer
+
+told_answers : (start final : CoreState) (events : List (Event Draft)) (answers : List Answer) (text : List ℕ) → Tells bare_line start events answers final text → text ≡ text_of_answers answers
+told_answers start final [] [] text told = told.2
+told_answers start final [] (answer ∷ answers) text never = absurd never
+told_answers start final (event ∷ events) [] text never = absurd never
+told_answers start final (event ∷ events) (answer ∷ answers) text told =
+    told.1.4 ∙ ap (λ (t : List ℕ). line_of answer ++ t) (told_answers told.1.0 final events answers told.1.1 told.1.3)
 
 -- ---- what was written of them
 
@@ -238,58 +238,51 @@ holds_of_ok (Err e) P is p = absurd (cc)
 pub opened_lawful : (spec : DeviceSpec) → EveryRunIsLawful → IsLawful (opened spec)
 opened_lawful spec lawful = (lawful spec [] [] (opened spec) tt refl).0
 
--- answers to the events of a script by a core that was opened as its device
-pub played : (script : Script) (core final : CoreState) (events : List (Event Draft)) (Hold : List Answer → Type 0) → EveryRunIsLawful → Headline → core ≡ opened script.spec
-    → events ≡ script.lines → AllNamesExist script.spec script.lines → IsAnswered core events final Hold → (answers : List Answer) × AreAnswers script answers × Hold answers
-played script core final events Hold lawful promised core_is events_is names a =
-    let run : Run (opened script.spec) script.lines a.0 final =
-    subst (λ (s : CoreState). Run s script.lines a.0 final) core_is (subst (λ (es : List (Event Draft)). Run core es a.0 final) events_is a.1) in
-    (a.0, (final, lawful script.spec script.lines a.0 final names run, promised script.spec script.lines a.0 final names run), a.2)
+-- the lines of the events of a script by a core that was opened as its device
+pub played : (line : Line) (script : Script) (core final : CoreState) (events : List (Event Draft)) (Hold : List ℕ → Type 0) → EveryRunIsLawful → Headline → core ≡ opened script.spec
+    → events ≡ script.lines → AllNamesExist script.spec script.lines → IsTold line core events final Hold → TellsScript line script Hold
+played line script core final events Hold lawful promised core_is events_is names a =
+    let start = opened script.spec in
+    let tells : Tells line start script.lines a.0 final a.1 =
+    subst (λ (s : CoreState). Tells line s script.lines a.0 final a.1) core_is (subst (λ (es : List (Event Draft)). Tells line core es a.0 final a.1) events_is a.2) in
+    let run = told_run line start final script.lines a.0 a.1 tells in
+    (a.0, (final, lawful script.spec script.lines a.0 final names run, promised script.spec script.lines a.0 final names run), (final, a.1, tells, a.3))
 
 -- what an ending says of a script, it says of the input that spells it
-pub plays_spelled : (text : List (Event Draft) → List Answer → List ℕ) (script : Script) (input old new : Option (List ℕ)) (ended : Ending) → IfSome input (λ bytes. judge_script bytes ≡ Ok script)
-    → PlaysAs text script old new ended → ReplaysAs text input old new ended
-plays_spelled text script input old new ending.Done spelled told = (script, spelled, told)
-plays_spelled text script input old new ending.Differs spelled never = absurd never
-plays_spelled text script input old new (ending.GaveUp worker turns) spelled never = absurd never
-plays_spelled text script input old new ending.NoThread spelled never = absurd never
-plays_spelled text script input old new (ending.Fault fault) spelled never = absurd never
-plays_spelled text script input old new ending.TooMany spelled never = absurd never
-plays_spelled text script input old new ending.NoCount spelled never = absurd never
-plays_spelled text script input old new ending.Stuck spelled never = absurd never
-plays_spelled text script input old new ending.MoreStates spelled never = absurd never
-plays_spelled text script input old new ending.NoStates spelled never = absurd never
-plays_spelled text script input old new (ending.Unexplained word) spelled never = absurd never
-plays_spelled text script input old new ending.NoMemory spelled kept = kept
-plays_spelled text script input old new ending.NoInput spelled never = absurd never
-plays_spelled text script input old new ending.NoOutput spelled told = (script, spelled, told)
-
--- the same text of the same answers
-abbrev AreAlike : (List (Event Draft) → List Answer → List ℕ) → (List (Event Draft) → List Answer → List ℕ) → Type 0
-AreAlike one other = (script : Script) (answers : List Answer) → AreAnswers script answers → one script.lines answers ≡ other script.lines answers
-
-told_alike : (one other : List (Event Draft) → List Answer → List ℕ) (input : Option (List ℕ)) (Hold : List ℕ → Type 0) → AreAlike one other → SpellsScript input (λ script. IsToldAs one script Hold)
-    → SpellsScript input (λ script. IsToldAs other script Hold)
-told_alike one other input Hold alike told = (told.0, told.1, (told.2.0, told.2.1, subst Hold (alike told.0 told.2.0 told.2.1) told.2.2))
-
-replays_alike : (one other : List (Event Draft) → List Answer → List ℕ) (input old new : Option (List ℕ)) (ended : Ending) → AreAlike one other → ReplaysAs one input old new ended → ReplaysAs other input old new ended
-replays_alike one other input old new ending.Done alike told = told_alike one other input (λ text. Appends old new text) alike told
-replays_alike one other input old new ending.Differs alike never = absurd never
-replays_alike one other input old new (ending.GaveUp worker turns) alike never = absurd never
-replays_alike one other input old new ending.NoThread alike never = absurd never
-replays_alike one other input old new (ending.Fault fault) alike kept = kept
-replays_alike one other input old new ending.TooMany alike never = absurd never
-replays_alike one other input old new ending.NoCount alike never = absurd never
-replays_alike one other input old new ending.Stuck alike never = absurd never
-replays_alike one other input old new ending.MoreStates alike never = absurd never
-replays_alike one other input old new ending.NoStates alike never = absurd never
-replays_alike one other input old new (ending.Unexplained word) alike never = absurd never
-replays_alike one other input old new ending.NoMemory alike kept = kept
-replays_alike one other input old new ending.NoInput alike kept = kept
-replays_alike one other input old new ending.NoOutput alike told = told_alike one other input (λ text. AppendsFront old new text) alike told
+pub plays_spelled : (IsToldOf : Script → (List ℕ → Type 0) → Type 0) (script : Script) (input old new : Option (List ℕ)) (ended : Ending) → IfSome input (λ bytes. judge_script bytes ≡ Ok script)
+    → PlaysAs IsToldOf script old new ended → ReplaysAs IsToldOf input old new ended
+plays_spelled IsToldOf script input old new ending.Done spelled told = (script, spelled, told)
+plays_spelled IsToldOf script input old new ending.Differs spelled never = absurd never
+plays_spelled IsToldOf script input old new (ending.GaveUp worker turns) spelled never = absurd never
+plays_spelled IsToldOf script input old new ending.NoThread spelled never = absurd never
+plays_spelled IsToldOf script input old new (ending.Fault fault) spelled never = absurd never
+plays_spelled IsToldOf script input old new ending.TooMany spelled never = absurd never
+plays_spelled IsToldOf script input old new ending.NoCount spelled never = absurd never
+plays_spelled IsToldOf script input old new ending.Stuck spelled never = absurd never
+plays_spelled IsToldOf script input old new ending.MoreStates spelled never = absurd never
+plays_spelled IsToldOf script input old new ending.NoStates spelled never = absurd never
+plays_spelled IsToldOf script input old new (ending.Unexplained word) spelled never = absurd never
+plays_spelled IsToldOf script input old new ending.NoMemory spelled kept = kept
+plays_spelled IsToldOf script input old new ending.NoInput spelled never = absurd never
+plays_spelled IsToldOf script input old new ending.NoOutput spelled told = (script, spelled, told)
 
 -- the lines that have the answers alone
-pub replays_bare : (input old new : Option (List ℕ)) (ended : Ending) → ReplaysAs (text_of_lines (λ event answer. line_of answer)) input old new ended → Replays input old new ended
-replays_bare input old new ended told =
-    replays_alike (text_of_lines (λ event answer. line_of answer)) (λ events answers. text_of_answers answers) input old new ended
-    (λ script answers are. lines_of_answers (opened script.spec) are.0 script.lines answers are.1) told
+bare_script : (script : Script) (Hold : List ℕ → Type 0) → TellsScript bare_line script Hold → AnswersScript script Hold
+bare_script script Hold told =
+    (told.0, told.1, subst Hold (told_answers (opened script.spec) told.2.0 script.lines told.0 told.2.1 told.2.2) told.2.3)
+
+pub plays_bare : (script : Script) (old new : Option (List ℕ)) (ended : Ending) → PlaysAs (TellsScript bare_line) script old new ended → PlaysAs AnswersScript script old new ended
+plays_bare script old new ending.Done told = bare_script script (λ text. Appends old new text) told
+plays_bare script old new ending.Differs never = absurd never
+plays_bare script old new (ending.GaveUp worker turns) never = absurd never
+plays_bare script old new ending.NoThread never = absurd never
+plays_bare script old new (ending.Fault fault) never = absurd never
+plays_bare script old new ending.TooMany never = absurd never
+plays_bare script old new ending.NoCount never = absurd never
+plays_bare script old new ending.Stuck never = absurd never
+plays_bare script old new ending.MoreStates never = absurd never
+plays_bare script old new ending.NoStates never = absurd never
+plays_bare script old new (ending.Unexplained word) never = absurd never
+plays_bare script old new ending.NoMemory kept = kept
+plays_bare script old new ending.NoInput never = absurd never
+plays_bare script old new ending.NoOutput told = bare_script script (λ text. AppendsFront old new text) told

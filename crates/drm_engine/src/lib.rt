@@ -7,7 +7,7 @@
 //! text is judged before anything is written.
 //!
 //! `Ending` has the exit status and the text of each way. An `Engine` is what a word of the command line names, a
-//! `Piece` room for lines. `replay_lines` is `replay` with any other line for each event (`Lines`).
+//! `Piece` room for lines. `play_lines` answers a script that was read by any other line for each event (`Lines`).
 #![tactic(auto)]
 
 mod checking;
@@ -24,5 +24,5 @@ pub use ending::Ending;
 pub use engine::Engine;
 pub use lines::Lines;
 pub use piece::{PIECE, Piece, WriteFailed};
-pub use replaying::{replay, replay_lines};
+pub use replaying::{play_lines, replay};
 pub use serializing::serial;

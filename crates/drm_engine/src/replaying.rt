@@ -2,15 +2,18 @@
 
 ghost use Rattle.std.specs.Prelude.{◌≡◌, ◌+◌, ◌<◌, ◌≤◌, ◌++◌, ℕ, [], List, None, OnOk, length};
 ghost use Rattle.drm_types.specs.Limits.{spec_fault};
+ghost use Rattle.drm_types.specs.declared.spec.DeviceSpec.{DeviceSpec as Description};
 ghost use Rattle.drm_job.specs.declared.Draft.{Draft};
 ghost use Rattle.drm_answer.specs.Lines.{line_room};
 ghost use Rattle.drm_core.specs.Lawful.{IsLawful};
 ghost use Rattle.drm_core.specs.Run.{AllNamesExist};
+ghost use Rattle.drm_core.specs.State.{CoreState, opened};
+ghost use Rattle.drm_core.specs.Step.{Step};
 ghost use Rattle.drm_core.specs.declared.event.Event.{Event as Happening};
 ghost use Rattle.drm_stream.specs.Streams.{NoReadFailed, SinkState, SourceState};
 ghost use Rattle.drm_stream.specs.Transfer.{TakesAtMost};
 ghost use Rattle.drm_engine.specs.Failures.{EndsBy};
-ghost use Rattle.drm_engine.specs.Replaying.{IsAnswered, PlaysAs, Replays, ReplaysAs, Told, Written, text_of_lines};
+ghost use Rattle.drm_engine.specs.Replaying.{IsTold, PlaysAs, Replays, ReplaysAs, TellsScript, Told, Written};
 
 use crate::ending::Ending;
 use crate::lines::{Bare, Lines};
@@ -25,15 +28,18 @@ use std::io::{Read, Write};
 #[inline(always)]
 fn tell<L: Lines, W: Write>(
     lines: &L,
+    core: &Core,
     piece: &mut Piece,
     writer: &mut Sink<W>,
     answer: &Answer,
 ) -> Result<(), WriteFailed>
-    requires { length piece.old + line_room answer.now ≤ 41088 }
-    ensures told { (event : Happening Draft) → L.notes lines.now event → Told writer.old writer.new result (piece.old ++ L.line event answer.now) piece.new }
+    requires known { L.knows lines.now core.now }
+    requires room { length piece.old + line_room answer.now ≤ 41088 }
+    ensures told { (before : CoreState) (event : Happening Draft) → L.notes lines.now before event → Step before event answer.now core.now
+        → Told writer.old writer.new result (piece.old ++ L.line before event answer.now core.now) piece.new }
     ensures short { OnOk result (length piece.new < 32768) }
 {
-    lines.put(piece, writer, answer)?;
+    lines.put(core, piece, writer, answer)?;
     if piece.len() < PIECE {
         return Ok(());
     }
@@ -54,8 +60,10 @@ fn tell_chunk<L: Lines, W: Write>(
     requires names { AllNamesExist core.old.device.spec chunk }
     requires lawful { IsLawful core.old }
     requires limits { spec_fault core.old.device.spec ≡ None }
+    requires known { L.knows lines.old core.old }
     requires short { OnOk before (length piece.old < 32768) }
-    ensures told { (old : SinkState) (text : List ℕ) → Told old writer.old before text piece.old → IsAnswered core.old chunk core.new (λ answers. Told old writer.new result (text ++ text_of_lines L.line chunk answers) piece.new) }
+    ensures told { (old : SinkState) (text : List ℕ) → Told old writer.old before text piece.old → IsTold L.line core.old chunk core.new (λ said. Told old writer.new result (text ++ said) piece.new) }
+    ensures known { L.knows lines.new core.new }
     ensures spec { core.new.device.spec ≡ core.old.device.spec }
     ensures lawful { IsLawful core.new }
     ensures short { OnOk result (length piece.new < 32768) }
@@ -64,7 +72,7 @@ fn tell_chunk<L: Lines, W: Write>(
     let mut rest = chunk.into_left();
     while let Some(answer) = lines.apply_next(alloc, &mut rest, core) {
         if told.is_ok() {
-            told = tell(lines, piece, writer, &answer);
+            told = tell(lines, core, piece, writer, &answer);
         }
     }
     told
@@ -83,8 +91,9 @@ fn tell_answers<L: Lines, W: Write>(
     requires names { AllNamesExist core.old.device.spec events }
     requires lawful { IsLawful core.old }
     requires limits { spec_fault core.old.device.spec ≡ None }
+    requires known { L.knows lines.old core.old }
     requires bare { piece.old ≡ [] }
-    ensures { IsAnswered core.old events core.new (λ answers. Told writer.old writer.new result (text_of_lines L.line events answers) piece.new) }
+    ensures { IsTold L.line core.old events core.new (λ said. Told writer.old writer.new result said piece.new) }
 {
     let mut told = Ok(());
     let mut chunks = events.into_chunks();
@@ -106,16 +115,19 @@ fn write_lines<L: Lines, W: Write>(
     requires names { AllNamesExist core.old.device.spec events }
     requires lawful { IsLawful core.old }
     requires limits { spec_fault core.old.device.spec ≡ None }
+    requires known { L.knows lines.old core.old }
     requires bare { piece.old ≡ [] }
-    ensures { IsAnswered core.old events core.new (λ answers. Written writer.old writer.new result (text_of_lines L.line events answers)) }
+    ensures { IsTold L.line core.old events core.new (λ said. Written writer.old writer.new result said) }
 {
     tell_answers(alloc, lines, core, events, piece, writer)?;
     piece.write_to(writer)
 }
 
-/// Writes the lines of the answers to a script. The script's device passes its check, so only memory can lack, and it
-/// lacks before anything is written.
-fn play<L: Lines, W: Write>(
+/// Writes one of these lines for each event of a script: that of the event, of the cores before and behind it, and of
+/// what it is answered. The core is built for the script's device, and gets the events in their order. The device passes
+/// its check, so only memory can lack, and it lacks before anything is written. If a write fails, the events behind it
+/// happen all the same, and nothing more is written.
+pub fn play_lines<L: Lines, W: Write>(
     alloc: Global,
     lines: &mut L,
     script: Script,
@@ -123,7 +135,8 @@ fn play<L: Lines, W: Write>(
 ) -> Ending
     requires fits { spec_fault script.spec ≡ None }
     requires exist { AllNamesExist script.spec script.lines }
-    ensures ending { PlaysAs (text_of_lines L.line) script writer.old.contents writer.new.contents result }
+    requires known { (spec : Description) → L.knows lines.old (opened spec) }
+    ensures ending { PlaysAs (TellsScript L.line) script writer.old.contents writer.new.contents result }
     ensures failures { (from to : SourceState) → NoReadFailed from to → EndsBy from to writer.old writer.new result }
 {
     every_run_is_lawful();
@@ -141,27 +154,8 @@ fn play<L: Lines, W: Write>(
     }
 }
 
-/// Reads a script to its end, and writes one of these lines for each of its events: that of the event and of what a
-/// core answers that is built for the script's device and gets the events in their order. Nothing is written before the
-/// whole text was read and judged. If a write fails, the events behind it happen all the same, and nothing more is
-/// written.
-pub fn replay_lines<L: Lines, R: Read, W: Write>(
-    alloc: Global,
-    lines: &mut L,
-    reader: &mut Source<R>,
-    writer: &mut Sink<W>,
-) -> Ending
-    ensures ending { ReplaysAs (text_of_lines L.line) reader.old.remaining writer.old.contents writer.new.contents result }
-    ensures most { TakesAtMost 1048577 reader.old reader.new }
-    ensures failures { EndsBy reader.old reader.new writer.old writer.new result }
-{
-    match read_script_from(alloc, reader) {
-        Ok(script) => play(alloc, lines, script, writer),
-        Err(error) => Ending::of_input(error),
-    }
-}
-
-/// Reads a script to its end, and writes the line of each answer alone (`replay_lines`).
+/// Reads a script to its end, and writes the line of each answer alone (`play_lines`). Nothing is written before the
+/// whole text was read and judged.
 pub fn replay<R: Read, W: Write>(
     alloc: Global,
     reader: &mut Source<R>,
@@ -171,5 +165,8 @@ pub fn replay<R: Read, W: Write>(
     ensures most { TakesAtMost 1048577 reader.old reader.new }
     ensures failures { EndsBy reader.old reader.new writer.old writer.new result }
 {
-    replay_lines(alloc, &mut Bare, reader, writer)
+    match read_script_from(alloc, reader) {
+        Ok(script) => play_lines(alloc, &mut Bare, script, writer),
+        Err(error) => Ending::of_input(error),
+    }
 }

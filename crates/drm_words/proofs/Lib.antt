@@ -1,4 +1,9 @@
+pub mod Adding
+pub mod Cuts
 pub mod Ends
 pub mod Fillings
+pub mod Naming
+pub mod Parts
 pub mod Pieces
+pub mod Texts
 pub mod Saying

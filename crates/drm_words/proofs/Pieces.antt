@@ -48,3 +48,20 @@ byte_front a b c start bytes text place piece within is p q =
 pub bytes_told : (a b : SinkState) (start bytes text : List ℕ) (place : ℕ) (piece : List ℕ) → length bytes ≤ place → bytes ≡ text → ToldSoFar a b (start ++ take place bytes) piece → ToldSoFar a b (start ++ text) piece
 bytes_told a b start bytes text place piece all is p =
     subst (λ (t : List ℕ). ToldSoFar a b (start ++ t) piece) (take_all place bytes all ∙ is) p
+
+-- where the first of two texts was told in part, so were both
+pub front_then : (a b : SinkState) (start one two : List ℕ) → ToldFront a b (start ++ one) → ToldFront a b (start ++ (one ++ two))
+front_then a b start one two p = subst (λ (t : List ℕ). ToldFront a b t) (append_assoc start one two) (front_longer a b (start ++ one) two p)
+
+-- two texts behind words of which nothing was written yet
+pub front_behind : (a b : SinkState) (start words one two piece : List ℕ) → piece ≡ start ++ words → ToldFront a b (piece ++ one) → ToldFront a b (start ++ (words ++ (one ++ two)))
+front_behind a b start words one two piece is p =
+    let first : ToldFront a b (start ++ (words ++ one)) = subst (λ (t : List ℕ). ToldFront a b t) (ap (λ (t : List ℕ). t ++ one) is ∙ append_assoc start words one) p in
+    subst (λ (t : List ℕ). ToldFront a b (start ++ t)) (append_assoc words one two) (front_then a b start (words ++ one) two first)
+
+pub told_behind : {E : Type 0} (a b c : SinkState) (next : Result (Unit {0}) E) (start words one two piece mid left : List ℕ) → piece ≡ start ++ words → ToldSoFar a b (piece ++ one) mid
+    → Told b c next (mid ++ two) left → Told a c next (start ++ (words ++ (one ++ two))) left
+told_behind a b c next start words one two piece mid left is p q =
+    let first : ToldSoFar a b (start ++ (words ++ one)) mid =
+    subst (λ (t : List ℕ). ToldSoFar a b t mid) (ap (λ (t : List ℕ). t ++ one) is ∙ append_assoc start words one) p in
+    subst (λ (t : List ℕ). Told a c next (start ++ t) left) (append_assoc words one two) (said_more a b c next start (words ++ one) two mid left first q)

@@ -2,5 +2,10 @@ pub mod Subjects
 pub mod Filling
 pub mod Refused
 pub mod Sentences
+pub mod Holders
+pub mod Because
+pub mod Parts
 pub mod Lines
+pub mod Faults
+pub mod Reading
 pub mod Replaying

@@ -11,8 +11,22 @@ use std::io::Write;
 /// The numbers of a sentence, of which none has more than three: zeros stand behind the last.
 pub(crate) type Numbers = [u64; 3];
 
-// Puts a number.
-fn put_number<W: Write>(
+/// Puts bytes.
+pub(crate) fn put_bytes<W: Write>(
+    piece: &mut Piece,
+    writer: &mut Sink<W>,
+    bytes: &[u8],
+) -> Result<(), WriteFailed>
+    ensures { Told writer.old writer.new result (piece.old ++ bytes.now) piece.new }
+{
+    for byte in bytes {
+        piece.push(writer, *byte)?;
+    }
+    Ok(())
+}
+
+/// Puts a number.
+pub(crate) fn put_number<W: Write>(
     piece: &mut Piece,
     writer: &mut Sink<W>,
     number: u64,
@@ -20,11 +34,7 @@ fn put_number<W: Write>(
     ensures { Told writer.old writer.new result (piece.old ++ decimal number) piece.new }
 {
     let mut buffer = itoa::Buffer::new();
-    let digits = buffer.format(number).as_bytes();
-    for digit in digits {
-        piece.push(writer, *digit)?;
-    }
-    Ok(())
+    put_bytes(piece, writer, buffer.format(number).as_bytes())
 }
 
 // Puts the first of the numbers, if there is one.

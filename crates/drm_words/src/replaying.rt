@@ -1,34 +1,47 @@
-//! The engine `replay` with words: from a script to the answers of the core, and what each means.
+//! The engine `replay` with words: from a script to the answers of the core, what each means, and why it is so.
 
 ghost use Rattle.drm_stream.specs.Transfer.{TakesAtMost};
-ghost use Rattle.drm_engine.specs.Failures.{EndsBy};
-ghost use Rattle.drm_words.specs.Replaying.{ReplaysWithWords};
+ghost use Rattle.drm_words.specs.Replaying.{EndsInWords, ReplaysWithWords};
 
+use crate::fault::FaultInWords;
+use crate::missing::{Missing, missing_buffer};
 use crate::named::subject;
-use crate::sentences::put_worded_line;
+use crate::putting::put_behind;
+use crate::reading::{Unread, read_worded};
+use crate::sentences::put_worded_answer;
 use drm_core::{Answer, Core, Event};
-use drm_engine::{Ending, Lines, Piece, WriteFailed, replay_lines};
+use drm_engine::{Ending, Lines, Piece, WriteFailed, play_lines};
+use drm_reason::{Retired, retired_stay};
 use drm_script::ChunkLeft;
 use drm_stream::{Sink, Source};
 use drm_types::EntityId;
 use std::alloc::Global;
 use std::io::{Read, Write};
 
-/// The lines of answers with what each means behind it, which the command and its answer tell together.
+/// The lines of answers with what each means behind it, and why it is so. The command, its answer and the core tell that
+/// together.
 #[derive(Drop)]
 struct Worded {
     // the command that happened last
     subject: Event<EntityId>,
+    // what its context has not locked, if it is a plan
+    missing: Option<Missing>,
+    // the jobs that have ended
+    retired: Retired,
 }
 
 impl Lines for Worded {
     ghost use Rattle.std.specs.Prelude.{◌≡◌};
-    ghost use Rattle.drm_words.specs.Lines.{worded_line_of};
+    ghost use Rattle.drm_reason.specs.Retired.{AreRetired};
+    ghost use Rattle.drm_words.specs.Because.{NamesThere, missing_of};
+    ghost use Rattle.drm_words.specs.Lines.{worded_line};
     ghost use Rattle.drm_words.specs.Subjects.{subject_of};
 
-    ghost line = { λ event answer. worded_line_of (subject_of event) answer };
+    ghost line = { λ before event answer after. worded_line before event answer after };
 
-    ghost notes = { λ worded event. worded.subject ≡ subject_of event };
+    ghost knows = { λ worded core. AreRetired core.device worded.retired × NamesThere core.device.spec worded.subject };
+
+    ghost notes = { λ worded before event. (worded.subject ≡ subject_of event) × (worded.missing ≡ missing_of before event) };
 
     fn apply_next(
         &mut self,
@@ -36,10 +49,13 @@ impl Lines for Worded {
         rest: &mut ChunkLeft,
         core: &mut Core,
     ) -> Option<Answer> {
+        retired_stay();
         match rest.next() {
             Some(event) => {
                 self.subject = subject(&event);
+                self.missing = missing_buffer(core, &event);
                 let answer = core.apply(alloc, event);
+                self.retired.advance(core.device());
                 Some(answer)
             }
             None => None,
@@ -48,28 +64,51 @@ impl Lines for Worded {
 
     fn put<W: Write>(
         &self,
+        core: &Core,
         piece: &mut Piece,
         writer: &mut Sink<W>,
         answer: &Answer,
     ) -> Result<(), WriteFailed> {
-        put_worded_line(piece, writer, &self.subject, answer)
+        put_worded_answer(piece, writer, &self.subject, answer)?;
+        put_behind(
+            piece,
+            writer,
+            core,
+            self.retired,
+            &self.subject,
+            self.missing,
+            answer,
+        )
     }
 }
 
 /// Reads a script to its end, and writes one line for each of its events, as `drm_engine::replay` does: the answer, and
-/// behind it what it means there. All else is as there.
+/// behind it what it means there and why it is so. All else is as there.
+///
+/// # Errors
+///
+/// The fault of the script, in words. Nothing was written.
 pub fn replay_with_words<R: Read, W: Write>(
     alloc: Global,
     reader: &mut Source<R>,
     writer: &mut Sink<W>,
-) -> Ending
+) -> Result<Ending, FaultInWords>
     ensures ending { ReplaysWithWords reader.old.remaining writer.old.contents writer.new.contents result }
     ensures most { TakesAtMost 1048577 reader.old reader.new }
-    ensures failures { EndsBy reader.old reader.new writer.old writer.new result }
+    ensures failures { EndsInWords reader.old reader.new writer.old writer.new result }
 {
-    let mut lines = Worded {
-        // none happened yet, and nothing is told before one does
-        subject: Event::Step { ring: 0 },
-    };
-    replay_lines(alloc, &mut lines, reader, writer)
+    match read_worded(alloc, reader) {
+        Ok(script) => {
+            let mut lines = Worded {
+                // none happened yet, and nothing is told before one does
+                subject: Event::Step { ring: 0 },
+                missing: None,
+                retired: Retired::none(),
+            };
+            Ok(play_lines(alloc, &mut lines, script, writer))
+        }
+        Err(Unread::NoInput) => Ok(Ending::NoInput),
+        Err(Unread::NoMemory) => Ok(Ending::NoMemory),
+        Err(Unread::Faulty(fault)) => Err(fault),
+    }
 }

@@ -4,10 +4,10 @@ ghost use Rattle.std.specs.Prelude.{◌≡◌, ◌+◌, ◌≤◌, ◌++◌, len
 ghost use Rattle.drm_answer.specs.Answers.{words_of};
 ghost use Rattle.drm_answer.specs.Lines.{line_room};
 ghost use Rattle.drm_engine.specs.Replaying.{Told};
-ghost use Rattle.drm_words.specs.Lines.{worded_line_of};
+ghost use Rattle.drm_words.specs.Lines.{worded_answer};
 ghost use Rattle.drm_words.specs.Sentences.{said_of, said_of_armed, said_of_bytes, said_of_ok, sentence_of, words_of_finished, words_of_picked, words_of_status};
 
-use crate::filling::{Numbers, put_filled};
+use crate::filling::{Numbers, put_bytes, put_filled};
 use crate::named::{buffer_in, ctx_in, entity_in, fence_in, ring_in};
 use crate::refused::said_of_refusal;
 use drm_core::{Answer, Event};
@@ -191,19 +191,18 @@ fn put_answer(piece: &mut Piece, answer: &Answer)
     piece.drop_last();
 }
 
-/// Puts the line of an answer, for which there is room, with what it means behind it.
-#[tactic(auto, unfolding(crate::specs::Lines::worded_line_of))]
-pub(crate) fn put_worded_line<W: Write>(
+/// Puts an answer, for which there is room, with what it means behind it. It has no line end.
+#[tactic(auto, unfolding(crate::specs::Lines::worded_answer))]
+pub(crate) fn put_worded_answer<W: Write>(
     piece: &mut Piece,
     writer: &mut Sink<W>,
     subject: &Event<EntityId>,
     answer: &Answer,
 ) -> Result<(), WriteFailed>
     requires { length piece.old + line_room answer.now ≤ 41088 }
-    ensures { Told writer.old writer.new result (piece.old ++ worded_line_of subject.now answer.now) piece.new }
+    ensures { Told writer.old writer.new result (piece.old ++ worded_answer subject.now answer.now) piece.new }
 {
     put_answer(piece, answer);
-    put_filled(piece, writer, b"  # ", &[])?;
-    put_sentence(piece, writer, subject, answer)?;
-    piece.push(writer, b'\n')
+    put_bytes(piece, writer, b"  # ")?;
+    put_sentence(piece, writer, subject, answer)
 }

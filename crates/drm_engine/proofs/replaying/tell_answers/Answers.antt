@@ -2,8 +2,7 @@ use Rattle.std.proofs.Common.{◌++◌, ◌∙◌, ap, arith, subst, sym}
 use Rattle.drm_types.specs.Limits.{spec_fault}
 use Rattle.drm_core.specs.Run.{AllNamesExist}
 use Rattle.drm_script.specs.Chunks.{all_of}
-use Rattle.drm_engine.specs.Replaying.{Told, text_of_lines}
-use Rattle.drm_engine.proofs.Pieces.{GoesOn, LinesSoFar, chunk_said, chunk_turned, lines_end, names_behind, names_first, nothing_said, run_ends}
+use Rattle.drm_engine.proofs.Pieces.{GoesOn, chunk_turned, names_behind, names_first, nothing_said, tells_end}
 use Rattle.drm_engine.proofs.replaying.tell_answers.Goals as goal
 
 pub tell_chunk-told-requires : goal.tell_chunk-told-requires
@@ -12,6 +11,7 @@ tell_chunk-told-requires g c = record {
       (subst (λ chunks. AllNamesExist c.loop-chunk.core.device.spec (all_of chunks)) c.in-Some.ensures.some c.loop-chunk.invariant.names);
   lawful = c.loop-chunk.invariant.lawful;
   limits = c.loop-chunk.invariant.limits;
+  known = c.loop-chunk.invariant.known;
   short = c.loop-chunk.invariant.short;
 }
 
@@ -20,6 +20,7 @@ loop-chunk-init g c = record {
   names = subst (AllNamesExist c.args.core.now.device.spec) (sym c.into_chunks-chunks.ensures) c.requires.names;
   lawful = c.requires.lawful;
   limits = c.requires.limits;
+  known = c.requires.known;
   short = rw c.requires.bare (omega arith);
   so_far = nothing_said g.L.Lines.line c.args.writer.now c.args.core.now c.args.events (all_of c.into_chunks-chunks.result) c.args.piece.now c.into_chunks-chunks.ensures c.requires.bare;
 }
@@ -27,32 +28,28 @@ loop-chunk-init g c = record {
 pub loop-chunk-preserved : goal.loop-chunk-preserved
 loop-chunk-preserved g c =
     let so = c.loop-chunk.invariant.so_far in
-    let told = c.tell_chunk-told.ensures.told c.args.writer.now so.2.0 so.2.2 in
+    let told = c.tell_chunk-told.ensures.told c.args.writer.now so.1 so.3 in
     record {
       names = names_behind c.loop-chunk.core.device.spec c.tell_chunk-told.new.core.device.spec c.in-Some.chunk (all_of c.next.new.self) c.tell_chunk-told.ensures.spec
           (subst (λ chunks. AllNamesExist c.loop-chunk.core.device.spec (all_of chunks)) c.in-Some.ensures.some c.loop-chunk.invariant.names);
       lawful = c.tell_chunk-told.ensures.lawful;
       limits = ap spec_fault c.tell_chunk-told.ensures.spec ∙ c.loop-chunk.invariant.limits;
+      known = c.tell_chunk-told.ensures.known;
       short = c.tell_chunk-told.ensures.short;
       so_far = (
         so.0 ++ told.0,
-        chunk_turned c.args.core.now c.loop-chunk.core c.tell_chunk-told.new.core c.args.events c.in-Some.chunk (all_of c.next.new.self) so.0 told.0 told.1
-            (subst (λ chunks. GoesOn c.args.core.now c.args.events so.0 c.loop-chunk.core (all_of chunks)) c.in-Some.ensures.some so.1),
-        (
-          so.2.0 ++ text_of_lines g.L.Lines.line c.in-Some.chunk told.0,
-          chunk_said g.L.Lines.line c.loop-chunk.core c.tell_chunk-told.new.core c.args.events c.in-Some.chunk (all_of c.next.new.self) so.0 told.0 so.2.0 told.1
-              (subst (λ chunks. LinesSoFar g.L.Lines.line c.args.events so.0 (all_of chunks) so.2.0) c.in-Some.ensures.some so.2.1),
-          told.2,
-        ),
+        so.1 ++ told.1,
+        chunk_turned g.L.Lines.line c.args.core.now c.loop-chunk.core c.tell_chunk-told.new.core c.args.events c.in-Some.chunk (all_of c.next.new.self) so.0 told.0 so.1 told.1 told.2
+            (subst (λ chunks. GoesOn g.L.Lines.line c.args.core.now c.args.events so.0 c.loop-chunk.core (all_of chunks) so.1) c.in-Some.ensures.some so.2),
+        told.3,
       );
     }
 
 pub returns : goal.returns
 returns g c =
-    let so = c.loop-chunk.invariant.so_far in
-    let none = ap all_of c.in_default.ensures.none in
-    let all = lines_end g.L.Lines.line c.args.events (all_of c.loop-chunk.chunks) so.0 so.2.0 none so.2.1 in (
+    let so = c.loop-chunk.invariant.so_far in (
       so.0,
-      run_ends c.args.core.now c.loop-chunk.core c.args.events (all_of c.loop-chunk.chunks) so.0 none so.1,
-      subst (λ text. Told c.args.writer.now c.loop-chunk.writer c.loop-chunk.told text c.loop-chunk.piece) all so.2.2,
+      so.1,
+      tells_end g.L.Lines.line c.args.core.now c.loop-chunk.core c.args.events (all_of c.loop-chunk.chunks) so.0 so.1 (ap all_of c.in_default.ensures.none) c.loop-chunk.invariant.lawful so.2,
+      so.3,
     )

@@ -12,6 +12,7 @@ invariant-loop-chunk g l = record {
   names : AllNamesExist l.core.device.spec (all_of l.chunks);
   lawful : IsLawful l.core;
   limits : spec_fault l.core.device.spec ≡ None;
+  known : g.L.Lines.knows l.lines l.core;
   short : OnOk l.told (length l.piece < 32768);
   so_far : SaidSoFar g.L.Lines.line l.fn.writer l.writer l.fn.core l.core l.fn.events (all_of l.chunks) l.told l.piece;
 }

@@ -10,6 +10,7 @@ invariant-loop-answer g l = record {
   names : AllNamesExist l.core.device.spec l.rest;
   spec : l.core.device.spec ≡ l.fn.core.device.spec;
   lawful : IsLawful l.core;
+  known : g.L.Lines.knows l.lines l.core;
   short : OnOk l.told (length l.piece < 32768);
   so_far : SaidOfPart g.L.Lines.line l.fn.writer l.writer l.fn.core l.core l.fn.chunk l.rest l.fn.before l.told l.fn.piece l.piece;
 }

@@ -1,5 +1,4 @@
 use Rattle.std.proofs.lemmas.Result.{err_from_is_err_and}
-use Rattle.drm_engine.specs.Replaying.{text_of_lines}
 use Rattle.drm_engine.proofs.Pieces.{all_written, told_written}
 use Rattle.drm_engine.proofs.replaying.write_lines.Goals as goal
 
@@ -9,10 +8,10 @@ returns-in_err-tell_answers g c =
 
 pub returns : goal.returns
 returns g c =
-    let told = c.in_ok-tell_answers.ensures in
-    let text = text_of_lines g.L.Lines.line c.args.events told.0 in (
+    let told = c.in_ok-tell_answers.ensures in (
       told.0,
       told.1,
-      all_written c.args.writer.now c.write_to.new.writer c.write_to.result text c.write_to.new.self c.write_to.ensures.bare
-          (told_written c.args.writer.now c.tell_answers.new.writer c.write_to.new.writer c.write_to.result text c.tell_answers.new.piece c.write_to.new.self told.2 c.write_to.ensures.told),
+      told.2,
+      all_written c.args.writer.now c.write_to.new.writer c.write_to.result told.1 c.write_to.new.self c.write_to.ensures.bare
+          (told_written c.args.writer.now c.tell_answers.new.writer c.write_to.new.writer c.write_to.result told.1 c.tell_answers.new.piece c.write_to.new.self told.3 c.write_to.ensures.told),
     )

@@ -1,5 +1,6 @@
 use Rattle.std.proofs.Common.{◌≡◌, ◌∷◌, ◌∙◌, ap, subst, sym}
 use Rattle.drm_core.specs.Run.{AllNamesExist}
+use Rattle.drm_words.specs.Because.{missing_of}
 use Rattle.drm_words.specs.Subjects.{subject_of}
 use Rattle.drm_words.proofs.replaying.WordedLines.apply_next.Goals as goal
 
@@ -8,7 +9,8 @@ returns-in-Some-clause-some c = (c.in-Some.event, c.in-Some.ensures.some, c.appl
 
 pub returns-in-Some-clause-noted : goal.returns-in-Some-clause-noted
 returns-in-Some-clause-noted c = λ event split.
-    let same : c.in-Some.event ≡ event = cc (c.in-Some.ensures.some, split) in c.subject-self.ensures ∙ ap subject_of same
+    let same : c.in-Some.event ≡ event = cc (c.in-Some.ensures.some, split) in
+    (c.subject-self.ensures ∙ ap subject_of same, c.missing_buffer-self.ensures ∙ ap (missing_of c.args.core.now) same)
 
 pub returns-in-Some-clause-names : goal.returns-in-Some-clause-names
 returns-in-Some-clause-names c =
