@@ -10,7 +10,8 @@ use Rattle.drm_state.specs.Journal.{numbered}
 use Rattle.drm_state.specs.State.{DeviceState}
 use Rattle.drm_reason.specs.declared.reason.Reason.{Reason}
 use Rattle.drm_reason.specs.declared.reason.Reason.TheVariants as reason
-use Rattle.drm_why.specs.Sentences.{one_in, said_of, two_in}
+use Rattle.drm_reason.specs.Said.{said_of}
+use Rattle.drm_why.specs.Sentences.{one_in, two_in}
 use Rattle.drm_why.specs.Longest.{clock_at_end, commands_of, end_of}
 use Rattle.drm_why.specs.Chains.{link_of}
 use Rattle.drm_why.specs.declared.chain.Link.{Link}

@@ -1,13 +1,10 @@
 -- What each ring does, command by command.
-use Rattle.std.specs.Prelude.{◌≡◌, ℕ, ◌&&◌, ◌==◌, List, [], ◌∷◌, Option, Some, None, find, map, option_map}
+use Rattle.std.specs.Prelude.{◌≡◌, ℕ, List, [], ◌∷◌, Option, Some, None, map}
 use Rattle.std.specs.List.{enumerate_from}
-use Rattle.drm_fence.specs.Phases.{is_queued}
 use Rattle.drm_job.specs.declared.Draft.{Draft}
 use Rattle.drm_state.specs.declared.answer.Answer.{Answer}
-use Rattle.drm_state.specs.declared.journal.JobRecord.{JobRecord}
 use Rattle.drm_state.specs.Choice.{choice}
 use Rattle.drm_state.specs.Grows.{Grows}
-use Rattle.drm_state.specs.Journal.{numbered}
 use Rattle.drm_state.specs.Ring.{pending_of}
 use Rattle.drm_state.specs.State.{DeviceState}
 use Rattle.drm_core.specs.declared.event.Event.{Event}
@@ -17,14 +14,11 @@ use Rattle.drm_core.specs.Step.{Step}
 use Rattle.drm_reason.specs.declared.reason.Reason.{Reason}
 use Rattle.drm_reason.specs.declared.reason.Reason.TheVariants as reason
 use Rattle.drm_reason.specs.Reasons.{reason_of}
+use Rattle.drm_reason.specs.Retired.{first_queued_for}
 use Rattle.drm_why.specs.declared.rings.Doing.{Doing}
 use Rattle.drm_why.specs.declared.rings.Doing.TheVariants as doing
 use Rattle.drm_why.specs.declared.rings.Row.{Row}
 use Rattle.drm_why.specs.Seeing.{clock_behind, command_of}
-
--- the first job that is queued for the ring
-abbrev pub first_queued_for : List JobRecord → ℕ → Option ℕ
-first_queued_for journal ring = option_map (λ n. n.0) (find (λ n. (n.1.ring == ring) && is_queued n.1.phase) (numbered journal))
 
 -- an idle ring waits for the fence that its first job waits for, or for the reap of that job, or that job may begin
 abbrev pub doing_by : Reason → Doing

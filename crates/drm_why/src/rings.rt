@@ -1,15 +1,14 @@
 //! What each ring does, command by command.
 
-ghost use Rattle.std.specs.Prelude.{◌≡◌, ◌<◌, ◌&&◌, ◌==◌, IfOk, length};
+ghost use Rattle.std.specs.Prelude.{◌≡◌, ◌<◌, IfOk, length};
 ghost use Rattle.drm_core.specs.Lawful.{IsLawful};
 ghost use Rattle.drm_core.specs.Run.{AllNamesExist};
-ghost use Rattle.drm_fence.specs.Phases.{is_queued};
-ghost use Rattle.drm_why.specs.Rings.{IsRow, SeesRows, doing_by as doing_by_reason, doing_of, doing_queued, doings_of, first_queued_for};
+ghost use Rattle.drm_why.specs.Rings.{IsRow, SeesRows, doing_by as doing_by_reason, doing_of, doing_queued, doings_of};
 
 use crate::seeing::{clock_after, command};
 use drm_core::Core;
-use drm_reason::{Reason, reason_of};
-use drm_sched::{Device, JobRecord, Phase};
+use drm_reason::{Reason, Retired, reason_of};
+use drm_sched::Device;
 use drm_script::Events;
 use drm_types::{FenceId, Moment, RingId, Sequence};
 use std::alloc::{AllocError, Global};
@@ -36,30 +35,6 @@ pub struct Row {
     pub clock: Moment,
     /// What each ring does.
     pub doings: Sequence<Doing>,
-}
-
-// Returns whether the job is queued for the ring.
-fn is_queued_for(job: &JobRecord, ring: RingId) -> bool
-    ensures { result ≡ (job.now.ring == ring) && is_queued job.now.phase }
-{
-    match job.phase {
-        Phase::Queued => job.ring == ring,
-        Phase::Scheduled => false,
-        Phase::Ended(_) => false,
-    }
-}
-
-// Returns the first job that is queued for the ring.
-fn first_queued(device: &Device, ring: RingId) -> Option<FenceId>
-    ensures { result ≡ first_queued_for device.now.state.journal ring }
-{
-    let records = device.records();
-    for number in 0..device.armed() {
-        if is_queued_for(&records[number as usize], ring) {
-            return Some(number);
-        }
-    }
-    None
 }
 
 // Returns what an idle ring does, by the reason of the first job that is queued for it.
@@ -93,7 +68,7 @@ fn doing_at(device: &Device, ring: RingId) -> Doing
     }
     match device.choice(ring) {
         Some(_) => Doing::Ready,
-        None => queued(device, first_queued(device, ring)),
+        None => queued(device, Retired::none().first_queued(device, ring)),
     }
 }
 
