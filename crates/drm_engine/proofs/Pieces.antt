@@ -13,6 +13,7 @@ use Rattle.drm_core.specs.State.{CoreState, opened}
 use Rattle.drm_core.specs.Headline.{Headline}
 use Rattle.drm_core.specs.Lawful.{IsLawful}
 use Rattle.drm_core.specs.Run.{AllNamesExist, EveryRunIsLawful, Run}
+use Rattle.drm_core.specs.Step.{Step}
 use Rattle.drm_answer.specs.Answers.{line_of, text_of_answers}
 use Rattle.drm_script.specs.Kept.{AnswersFirst}
 use Rattle.drm_script.specs.Script.{judge_script}
@@ -21,29 +22,42 @@ use Rattle.drm_stream.specs.Streams.{SinkState}
 use Rattle.drm_stream.specs.Transfer.{AppendsFront, WritesOrFails}
 use Rattle.drm_engine.specs.declared.ending.Ending.{Ending}
 use Rattle.drm_engine.specs.declared.ending.Ending.TheVariants as ending
-use Rattle.drm_engine.specs.Replaying.{AnswersScript, AppendsPiece, IsTold, Line, PlaysAs, ReplaysAs, Tells, TellsScript, Told, ToldFront, ToldSoFar, Written}
+use Rattle.drm_engine.specs.Replaying.{AnswersScript, AppendsPiece, AreAnswers, IsAnswered, IsTold, Line, PlaysAs, ReplaysAs, Tells, TellsScript, Told, ToldFront, ToldSoFar, Written}
+
+-- whatever run of the rest follows, it makes one of the whole with the answers so far
+abbrev pub GoesOn : CoreState → List (Event Draft) → List Answer → CoreState → List (Event Draft) → Type 0
+GoesOn start events so_far now rest = (more : List Answer) (new : CoreState) → Run now rest more new → Run start events (so_far ++ more) new
+
+pub turn : (start now next : CoreState) (events rest : List (Event Draft)) (so_far : List Answer) (event : Event Draft) (answer : Answer) → Step now event answer next
+    → GoesOn start events so_far now (event ∷ rest) → GoesOn start events (so_far ++ answer ∷ []) next rest
+turn start now next events rest so_far event answer step goes_on more new run =
+    subst (λ given. Run start events given new) (sym (append_assoc so_far (answer ∷ []) more)) (goes_on (answer ∷ more) new (next, step, run))
+
+pub run_ends : (start now : CoreState) (events rest : List (Event Draft)) (so_far : List Answer) → rest ≡ [] → GoesOn start events so_far now rest → Run start events so_far now
+run_ends start now events [] so_far none goes_on = subst (λ given. Run start events given now) (append-nil so_far) (goes_on [] now refl)
+run_ends start now events (event ∷ rest) so_far none goes_on = absurd (cc)
 
 -- whatever lines are told of the rest, with those so far they are the lines of the whole
-abbrev pub GoesOn : Line → CoreState → List (Event Draft) → List Answer → CoreState → List (Event Draft) → List ℕ → Type 0
-GoesOn line start events so_far now rest said =
+abbrev pub TellsOn : Line → CoreState → List (Event Draft) → List Answer → CoreState → List (Event Draft) → List ℕ → Type 0
+TellsOn line start events so_far now rest said =
     (more : List Answer) (new : CoreState) (text : List ℕ) → Tells line now rest more new text → Tells line start events (so_far ++ more) new (said ++ text)
 
 -- more answers and their lines behind those so far
-goes_behind : (line : Line) (start new : CoreState) (events : List (Event Draft)) (so_far answers more : List Answer) (said told text : List ℕ)
+tells_on : (line : Line) (start new : CoreState) (events : List (Event Draft)) (so_far answers more : List Answer) (said told text : List ℕ)
     → Tells line start events (so_far ++ (answers ++ more)) new (said ++ (told ++ text)) → Tells line start events ((so_far ++ answers) ++ more) new ((said ++ told) ++ text)
-goes_behind line start new events so_far answers more said told text tells =
+tells_on line start new events so_far answers more said told text tells =
     subst (λ (given : List Answer). Tells line start events given new ((said ++ told) ++ text)) (sym (append_assoc so_far answers more))
     (subst (λ (t : List ℕ). Tells line start events (so_far ++ (answers ++ more)) new t) (sym (append_assoc said told text)) tells)
 
 -- one line more, by the first event that is left
 pub turned : (line : Line) (start now next : CoreState) (events rest left : List (Event Draft)) (so_far : List Answer) (said : List ℕ) (answer : Answer)
-    (first : AnswersFirst now rest answer next left) → IsLawful now → GoesOn line start events so_far now rest said
-    → GoesOn line start events (so_far ++ answer ∷ []) next left (said ++ line now first.0 answer next)
-turned line start now next events rest left so_far said answer first lawful goes_on more new text tells =
+    (first : AnswersFirst now rest answer next left) → IsLawful now → TellsOn line start events so_far now rest said
+    → TellsOn line start events (so_far ++ answer ∷ []) next left (said ++ line now first.0 answer next)
+turned line start now next events rest left so_far said answer first lawful tells_more more new text tells =
     let told = line now first.0 answer next in
     let all : Tells line now (first.0 ∷ left) (answer ∷ more) new (told ++ text) = (lawful, (next, text, first.2, tells, refl)) in
-    goes_behind line start new events so_far (answer ∷ []) more said told text
-    (goes_on (answer ∷ more) new (told ++ text) (subst (λ (es : List (Event Draft)). Tells line now es (answer ∷ more) new (told ++ text)) (sym first.1) all))
+    tells_on line start new events so_far (answer ∷ []) more said told text
+    (tells_more (answer ∷ more) new (told ++ text) (subst (λ (es : List (Event Draft)). Tells line now es (answer ∷ more) new (told ++ text)) (sym first.1) all))
 
 -- the lines of some events, and those of the events behind them
 tells_behind : (line : Line) (start mid new : CoreState) (first rest : List (Event Draft)) (answers more : List Answer) (told text : List ℕ) → Tells line start first answers mid told
@@ -68,10 +82,10 @@ tells_behind line start mid new (event ∷ first) rest (answer ∷ answers) more
 
 -- the lines of a chunk more
 pub chunk_turned : (line : Line) (start now next : CoreState) (events chunk rest : List (Event Draft)) (so_far answers : List Answer) (said told : List ℕ) → Tells line now chunk answers next told
-    → GoesOn line start events so_far now (chunk ++ rest) said → GoesOn line start events (so_far ++ answers) next rest (said ++ told)
-chunk_turned line start now next events chunk rest so_far answers said told tells goes_on more new text behind =
-    goes_behind line start new events so_far answers more said told text
-    (goes_on (answers ++ more) new (told ++ text) (tells_behind line now next new chunk rest answers more told text tells behind))
+    → TellsOn line start events so_far now (chunk ++ rest) said → TellsOn line start events (so_far ++ answers) next rest (said ++ told)
+chunk_turned line start now next events chunk rest so_far answers said told tells tells_more more new text behind =
+    tells_on line start new events so_far answers more said told text
+    (tells_more (answers ++ more) new (told ++ text) (tells_behind line now next new chunk rest answers more told text tells behind))
 
 -- all events of a chunk name what is there, and so do those behind it
 pub names_first : (spec : DeviceSpec) (chunk rest : List (Event Draft)) → AllNamesExist spec (chunk ++ rest) → AllNamesExist spec chunk
@@ -84,11 +98,11 @@ names_behind old new (event ∷ chunk) rest same names = names_behind old new ch
 
 -- nothing is left
 pub tells_end : (line : Line) (start now : CoreState) (events rest : List (Event Draft)) (so_far : List Answer) (said : List ℕ) → rest ≡ [] → IsLawful now
-    → GoesOn line start events so_far now rest said → Tells line start events so_far now said
-tells_end line start now events [] so_far said none lawful goes_on =
+    → TellsOn line start events so_far now rest said → Tells line start events so_far now said
+tells_end line start now events [] so_far said none lawful tells_more =
     subst (λ (given : List Answer). Tells line start events given now said) (append-nil so_far)
-    (subst (λ (t : List ℕ). Tells line start events (so_far ++ []) now t) (append-nil said) (goes_on [] now [] (lawful, refl, refl)))
-tells_end line start now events (event ∷ rest) so_far said none lawful goes_on = absurd (cc)
+    (subst (λ (t : List ℕ). Tells line start events (so_far ++ []) now t) (append-nil said) (tells_more [] now [] (lawful, refl, refl)))
+tells_end line start now events (event ∷ rest) so_far said none lawful tells_more = absurd (cc)
 
 -- events of which lines are told make a run
 told_run : (line : Line) (start final : CoreState) (events : List (Event Draft)) (answers : List Answer) (text : List ℕ) → Tells line start events answers final text → Run start events answers final
@@ -141,27 +155,27 @@ told_next a b c (Err e) text more piece left p q = front_next a b c text more pi
 -- what was answered so far, and told of it
 abbrev pub SaidSoFar : {E : Type 0} → Line → SinkState → SinkState → CoreState → CoreState → List (Event Draft) → List (Event Draft) → Result (Unit {0}) E → List ℕ → Type 0
 SaidSoFar line old new start now events rest told piece =
-    (given : List Answer) × (said : List ℕ) × GoesOn line start events given now rest said × Told old new told said piece
+    (given : List Answer) × (said : List ℕ) × TellsOn line start events given now rest said × Told old new told said piece
 
 -- the same of a part of the events, whatever was told before it
 abbrev pub SaidOfPart : {E : Type 0} → Line → SinkState → SinkState → CoreState → CoreState → List (Event Draft) → List (Event Draft) → Result (Unit {0}) E → Result (Unit {0}) E → List ℕ → List ℕ → Type 0
 SaidOfPart line from now_at start now events rest before told first piece =
-    (given : List Answer) × (said : List ℕ) × GoesOn line start events given now rest said
+    (given : List Answer) × (said : List ℕ) × TellsOn line start events given now rest said
     × ((old : SinkState) (text : List ℕ) → Told old from before text first → Told old now_at told (text ++ said) piece)
 
 -- before the first event nothing is answered, and nothing told
-goes_from : (line : Line) (start : CoreState) (events rest : List (Event Draft)) → rest ≡ events → GoesOn line start events [] start rest []
-goes_from line start events rest same more new text tells = subst (λ (es : List (Event Draft)). Tells line start es more new text) same tells
+tells_from : (line : Line) (start : CoreState) (events rest : List (Event Draft)) → rest ≡ events → TellsOn line start events [] start rest []
+tells_from line start events rest same more new text tells = subst (λ (es : List (Event Draft)). Tells line start es more new text) same tells
 
 pub nothing_said : (line : Line) (a : SinkState) (start : CoreState) (events rest : List (Event Draft)) (piece : List ℕ) → rest ≡ events → piece ≡ []
-    → (given : List Answer) × (said : List ℕ) × GoesOn line start events given start rest said × ToldSoFar a a said piece
+    → (given : List Answer) × (said : List ℕ) × TellsOn line start events given start rest said × ToldSoFar a a said piece
 nothing_said line a start events rest piece same none =
-    ([], [], goes_from line start events rest same, (([], Appends-nil a.contents, sym none), refl))
+    ([], [], tells_from line start events rest same, (([], Appends-nil a.contents, sym none), refl))
 
 pub nothing_of_part : {E : Type 0} (line : Line) (a : SinkState) (start : CoreState) (events rest : List (Event Draft)) (before : Result (Unit {0}) E) (piece : List ℕ) → rest ≡ events
     → SaidOfPart line a a start start events rest before before piece piece
 nothing_of_part line a start events rest before piece same =
-    ([], [], goes_from line start events rest same, λ old text was. subst (λ (t : List ℕ). Told old a before t piece) (sym (append-nil text)) was)
+    ([], [], tells_from line start events rest same, λ old text was. subst (λ (t : List ℕ). Told old a before t piece) (sym (append-nil text)) was)
 
 -- those that have the answers alone are the lines of the answers
 abbrev pub bare_line : Line
@@ -238,10 +252,18 @@ holds_of_ok (Err e) P is p = absurd (cc)
 pub opened_lawful : (spec : DeviceSpec) → EveryRunIsLawful → IsLawful (opened spec)
 opened_lawful spec lawful = (lawful spec [] [] (opened spec) tt refl).0
 
+-- answers to the events of a script by a core that was opened as its device
+pub played : (script : Script) (core final : CoreState) (events : List (Event Draft)) (Hold : List Answer → Type 0) → EveryRunIsLawful → Headline → core ≡ opened script.spec
+    → events ≡ script.lines → AllNamesExist script.spec script.lines → IsAnswered core events final Hold → (answers : List Answer) × AreAnswers script answers × Hold answers
+played script core final events Hold lawful promised core_is events_is names a =
+    let run : Run (opened script.spec) script.lines a.0 final =
+    subst (λ (s : CoreState). Run s script.lines a.0 final) core_is (subst (λ (es : List (Event Draft)). Run core es a.0 final) events_is a.1) in
+    (a.0, (final, lawful script.spec script.lines a.0 final names run, promised script.spec script.lines a.0 final names run), a.2)
+
 -- the lines of the events of a script by a core that was opened as its device
-pub played : (line : Line) (script : Script) (core final : CoreState) (events : List (Event Draft)) (Hold : List ℕ → Type 0) → EveryRunIsLawful → Headline → core ≡ opened script.spec
+pub played_lines : (line : Line) (script : Script) (core final : CoreState) (events : List (Event Draft)) (Hold : List ℕ → Type 0) → EveryRunIsLawful → Headline → core ≡ opened script.spec
     → events ≡ script.lines → AllNamesExist script.spec script.lines → IsTold line core events final Hold → TellsScript line script Hold
-played line script core final events Hold lawful promised core_is events_is names a =
+played_lines line script core final events Hold lawful promised core_is events_is names a =
     let start = opened script.spec in
     let tells : Tells line start script.lines a.0 final a.1 =
     subst (λ (s : CoreState). Tells line s script.lines a.0 final a.1) core_is (subst (λ (es : List (Event Draft)). Tells line core es a.0 final a.1) events_is a.2) in

@@ -23,6 +23,18 @@ const ROOM: usize = PIECE + 8_320;
 #[derive(Clone, Copy, Debug)]
 pub struct WriteFailed;
 
+// Puts bytes into the room from a place on, and returns the place behind them.
+fn place(room: &mut [u8], at: usize, bytes: &[u8]) -> usize
+    requires { at + length bytes.now ≤ length room.old }
+    ensures text { take result room.new ≡ take at room.old ++ bytes.now }
+    ensures end { result ≡ at + length bytes.now }
+{
+    'bytes: for place in 0..bytes.len() {
+        room[at + place] = bytes[place];
+    }
+    at + bytes.len()
+}
+
 /// Text on its way to a sink, in room that does not grow. Contracts see the text.
 #[derive(Drop)]
 pub struct Piece {
@@ -99,7 +111,23 @@ impl Piece {
         if is_written { Ok(()) } else { Err(WriteFailed) }
     }
 
+    /// Returns for how many bytes there is room.
+    pub fn room(&self) -> usize
+        ensures { result ≡ 41088 - length self.now }
+    {
+        ROOM.saturating_sub(self.len())
+    }
+
+    /// Puts bytes behind the text, where there is room for them.
+    pub fn put_all(&mut self, bytes: &[u8])
+        requires { length self.old + length bytes.now ≤ 41088 }
+        ensures { self.new ≡ self.old ++ bytes.now }
+    {
+        self.len = place(self.room.as_mut_slice(), self.len, bytes);
+    }
+
     /// Puts a byte behind the text. A piece without room for it is written before.
+    #[inline]
     pub fn push<W: Write>(&mut self, writer: &mut Sink<W>, byte: u8) -> Result<(), WriteFailed>
         ensures { Told writer.old writer.new result (self.old ++ byte ∷ []) self.new }
     {

@@ -19,6 +19,11 @@ pub(crate) fn put_bytes<W: Write>(
 ) -> Result<(), WriteFailed>
     ensures { Told writer.old writer.new result (piece.old ++ bytes.now) piece.new }
 {
+    let count = bytes.len();
+    if 0 < count && count <= piece.room() {
+        piece.put_all(bytes);
+        return Ok(());
+    }
     for byte in bytes {
         piece.push(writer, *byte)?;
     }
@@ -67,14 +72,15 @@ pub(crate) fn put_filled<W: Write>(
 ) -> Result<(), WriteFailed>
     ensures { Told writer.old writer.new result (piece.old ++ filled words.now numbers.now) piece.new }
 {
+    let mut start = 0;
     let mut left = numbers;
-    for byte in words {
-        if *byte == b'%' {
+    for place in 0..words.len() {
+        if words[place] == b'%' {
+            put_bytes(piece, writer, &words[start..place])?;
             put_first(piece, writer, left)?;
             left = behind_first(left);
-        } else {
-            piece.push(writer, *byte)?;
+            start = place + 1;
         }
     }
-    Ok(())
+    put_bytes(piece, writer, &words[start..])
 }

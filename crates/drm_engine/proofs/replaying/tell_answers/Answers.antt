@@ -2,7 +2,7 @@ use Rattle.std.proofs.Common.{◌++◌, ◌∙◌, ap, arith, subst, sym}
 use Rattle.drm_types.specs.Limits.{spec_fault}
 use Rattle.drm_core.specs.Run.{AllNamesExist}
 use Rattle.drm_script.specs.Chunks.{all_of}
-use Rattle.drm_engine.proofs.Pieces.{GoesOn, chunk_turned, names_behind, names_first, nothing_said, tells_end}
+use Rattle.drm_engine.proofs.Pieces.{TellsOn, chunk_turned, names_behind, names_first, nothing_said, tells_end}
 use Rattle.drm_engine.proofs.replaying.tell_answers.Goals as goal
 
 pub tell_chunk-told-requires : goal.tell_chunk-told-requires
@@ -40,7 +40,7 @@ loop-chunk-preserved g c =
         so.0 ++ told.0,
         so.1 ++ told.1,
         chunk_turned g.L.Lines.line c.args.core.now c.loop-chunk.core c.tell_chunk-told.new.core c.args.events c.in-Some.chunk (all_of c.next.new.self) so.0 told.0 so.1 told.1 told.2
-            (subst (λ chunks. GoesOn g.L.Lines.line c.args.core.now c.args.events so.0 c.loop-chunk.core (all_of chunks) so.1) c.in-Some.ensures.some so.2),
+            (subst (λ chunks. TellsOn g.L.Lines.line c.args.core.now c.args.events so.0 c.loop-chunk.core (all_of chunks) so.1) c.in-Some.ensures.some so.2),
         told.3,
       );
     }

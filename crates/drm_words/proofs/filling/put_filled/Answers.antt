@@ -1,64 +1,74 @@
-use Rattle.std.proofs.Common.{◌∷◌, ◌++◌, ◌+◌, ◌∙◌, [], drop, flat_map, get_or, refl, take}
+use Rattle.std.proofs.Common.{◌++◌, ◌+◌, [], ℕ, List, drop, length, flat_map, subst, take}
 use Rattle.std.specs.Fmt.{decimal}
 use Rattle.std.proofs.lemmas.Result.{err_from_is_err_and}
+use Rattle.drm_engine.specs.Replaying.{Told}
 use Rattle.drm_words.specs.Filling.{filled}
-use Rattle.drm_words.proofs.Fillings.{all_filled, byte_next, number_next}
-use Rattle.drm_words.proofs.Pieces.{said_front, said_so_far, told_nothing}
+use Rattle.drm_words.proofs.Fillings.{all_filled, between, byte_more, filled_first, number_more, number_next, words_next}
+use Rattle.drm_words.proofs.Pieces.{said_front, said_more, said_so_far, told_nothing}
 use Rattle.drm_words.proofs.filling.put_filled.Goals as goal
-use Rattle.drm_words.proofs.filling.put_filled.Goals.{then-byte-eq37+in_ok-put_first, else-byte-eq37+in_ok-push}
+use Rattle.drm_words.proofs.filling.put_filled.Goals.{then-words-place-eq37+in_ok-put_bytes+in_ok-put_first, else-words-place-eq37}
 
-pub loop-byte-init : goal.loop-byte-init
-loop-byte-init g c = ([], refl, told_nothing c.args.writer.now c.args.piece.now)
+pub loop-place-init : goal.loop-place-init
+loop-place-init g c = ([], filled_first c.args.words.now c.args.numbers.now, told_nothing c.args.writer.now c.args.piece.now)
 
-pub loop-byte-preserved : goal.loop-byte-preserved
-loop-byte-preserved g c =
+pub loop-place-preserved : goal.loop-place-preserved
+loop-place-preserved g c =
     let words = c.args.words.now in
-    let place = c.loop-byte.byte-index in
-    let left = c.loop-byte.left.now in
-    let said = c.loop-byte.invariant.0 in
-    let so = c.loop-byte.invariant.1 in
-    let told = c.loop-byte.invariant.2 in
-    let byte = get_or words place 0 in
+    let numbers = c.args.numbers.now in
+    let start = c.loop-place.start in
+    let place = c.loop-place.place in
+    let left = c.loop-place.left.now in
+    let said = c.loop-place.invariant.0 in
+    let is = c.loop-place.invariant.1 in
+    let told = c.loop-place.invariant.2 in
     let number = flat_map decimal (take 1 left) in
-    elim c.if-byte-eq37.branch [
-      | then-byte-eq37+in_ok-put_first w ↦ rw (w.left-is, w.piece-is, w.writer-is) (
-        said ++ number,
-        number_next words place byte said (said ++ number) left w.behind_first-left.result.now c.loop-byte-test.true refl w.if-byte-eq37.true refl w.behind_first-left.ensures ∙ so,
-        said_so_far c.args.writer.now c.loop-byte.writer w.put_first.new.writer c.args.piece.now said number c.loop-byte.piece w.put_first.new.piece told w.in_ok-put_first.ensures,
+    elim c.if-words-place-eq37.branch [
+      | then-words-place-eq37+in_ok-put_bytes+in_ok-put_first w ↦ rw (w.start-is, w.left-is, w.piece-is, w.writer-is, w.behind_first-left.ensures) (
+        (said ++ between words start place) ++ number,
+        number_more words numbers left said start place c.loop-place-test.true w.if-words-place-eq37.true is,
+        said_so_far c.args.writer.now w.put_bytes.new.writer w.put_first.new.writer c.args.piece.now (said ++ between words start place) number w.put_bytes.new.piece w.put_first.new.piece
+            (said_so_far c.args.writer.now c.loop-place.writer w.put_bytes.new.writer c.args.piece.now said (between words start place) c.loop-place.piece w.put_bytes.new.piece told w.in_ok-put_bytes.ensures)
+            w.in_ok-put_first.ensures,
       )
-      | else-byte-eq37+in_ok-push w ↦ rw (w.left-is, w.piece-is, w.writer-is) (
-        said ++ byte ∷ [],
-        byte_next words place byte said (said ++ byte ∷ []) left c.loop-byte-test.true refl w.if-byte-eq37.false refl ∙ so,
-        said_so_far c.args.writer.now c.loop-byte.writer w.push.new.writer c.args.piece.now said (byte ∷ []) c.loop-byte.piece w.push.new.self told w.in_ok-push.ensures,
+      | else-words-place-eq37 w ↦ rw (w.start-is, w.left-is, w.piece-is, w.writer-is) (
+        said,
+        byte_more words numbers left said start place c.loop-place-test.true w.if-words-place-eq37.false is,
+        told,
       )
     ]
 
-pub returns-in_err-put_first : goal.returns-in_err-put_first
-returns-in_err-put_first g c =
+pub returns-in_err-put_bytes : goal.returns-in_err-put_bytes
+returns-in_err-put_bytes g c =
     let p = err_from_is_err_and c.from_residual.result c.from_residual.ensures.1 in
     let words = c.args.words.now in
-    let place = c.loop-byte.byte-index in
-    let left = c.loop-byte.left.now in
-    let said = c.loop-byte.invariant.0 in
-    let number = flat_map decimal (take 1 left) in
-    rw p.1 (said_front c.args.writer.now c.loop-byte.writer c.put_first.new.writer c.args.piece.now said number (filled (drop (place + 1) words) (drop 1 left)) _ c.loop-byte.piece
-    c.loop-byte.invariant.2 c.in_err-put_first.ensures
-    (number_next words place (get_or words place 0) said (said ++ number) left (drop 1 left) c.loop-byte-test.true refl c.if-byte-eq37.true refl refl ∙ c.loop-byte.invariant.1))
+    let start = c.loop-place.start in
+    let place = c.loop-place.place in
+    let left = c.loop-place.left.now in
+    let said = c.loop-place.invariant.0 in
+    rw p.1 (said_front c.args.writer.now c.loop-place.writer c.put_bytes.new.writer c.args.piece.now said (between words start place) (filled (drop place words) left) _ c.loop-place.piece
+    c.loop-place.invariant.2 c.in_err-put_bytes.ensures (words_next words c.args.numbers.now left said start place c.loop-place.invariant.1))
 
-pub returns-in_err-push : goal.returns-in_err-push
-returns-in_err-push g c =
-    let p = err_from_is_err_and c.from_residual-in_err-push.result c.from_residual-in_err-push.ensures.1 in
+pub returns-in_err-put_first : goal.returns-in_err-put_first
+returns-in_err-put_first g c =
+    let p = err_from_is_err_and c.from_residual-in_err-put_first.result c.from_residual-in_err-put_first.ensures.1 in
     let words = c.args.words.now in
-    let place = c.loop-byte.byte-index in
-    let left = c.loop-byte.left.now in
-    let said = c.loop-byte.invariant.0 in
-    let byte = get_or words place 0 in
-    rw p.1 (said_front c.args.writer.now c.loop-byte.writer c.push.new.writer c.args.piece.now said (byte ∷ []) (filled (drop (place + 1) words) left) _ c.loop-byte.piece
-    c.loop-byte.invariant.2 c.in_err-push.ensures
-    (byte_next words place byte said (said ++ byte ∷ []) left c.loop-byte-test.true refl c.if-byte-eq37.false refl ∙ c.loop-byte.invariant.1))
+    let start = c.loop-place.start in
+    let place = c.loop-place.place in
+    let left = c.loop-place.left.now in
+    let said = c.loop-place.invariant.0 in
+    rw p.1 (said_front c.args.writer.now c.put_bytes.new.writer c.put_first.new.writer c.args.piece.now (said ++ between words start place) (flat_map decimal (take 1 left))
+    (filled (drop (place + 1) words) (drop 1 left)) _ c.put_bytes.new.piece
+    (said_so_far c.args.writer.now c.loop-place.writer c.put_bytes.new.writer c.args.piece.now said (between words start place) c.loop-place.piece c.put_bytes.new.piece c.loop-place.invariant.2
+    c.in_ok-put_bytes.ensures)
+    c.in_err-put_first.ensures
+    (number_next words c.args.numbers.now left said start place c.loop-place-test.true c.if-words-place-eq37.true c.loop-place.invariant.1))
 
 pub returns : goal.returns
 returns g c =
-    let said = c.loop-byte.invariant.0 in
-    let all = all_filled c.args.words.now said c.loop-byte.left.now _ c.loop-byte.byte-index c.loop-byte-test.false c.loop-byte.invariant.1 in
-    rw (← all) c.loop-byte.invariant.2
+    let words = c.args.words.now in
+    let start = c.loop-place.start in
+    let said = c.loop-place.invariant.0 in
+    let all = all_filled words c.args.numbers.now c.loop-place.left.now said start c.loop-place.place c.loop-place-test.false c.loop-place.invariant.1 in
+    subst (λ (t : List ℕ). Told c.args.writer.now c.put_bytes-2.new.writer c.put_bytes-2.result (c.args.piece.now ++ t) c.put_bytes-2.new.piece) all
+    (said_more c.args.writer.now c.loop-place.writer c.put_bytes-2.new.writer c.put_bytes-2.result c.args.piece.now said (between words start (length words)) c.loop-place.piece c.put_bytes-2.new.piece
+    c.loop-place.invariant.2 c.put_bytes-2.ensures)

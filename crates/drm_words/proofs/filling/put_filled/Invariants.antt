@@ -1,8 +1,8 @@
-use Rattle.std.proofs.Common.{◌≡◌, ℕ, List, ◌++◌, drop}
+use Rattle.std.proofs.Common.{ℕ, List, ◌++◌}
 use Rattle.drm_engine.specs.Replaying.{ToldSoFar}
-use Rattle.drm_words.specs.Filling.{filled}
+use Rattle.drm_words.proofs.Fillings.{IsFilled}
 use Rattle.drm_words.proofs.filling.put_filled.Given as goal
 
-abbrev pub invariant-loop-byte : goal.invariant-loop-byte
-invariant-loop-byte g l =
-    (said : List ℕ) × (said ++ filled (drop l.byte-index l.words) l.left ≡ filled l.words l.numbers) × ToldSoFar l.fn.writer l.writer (l.fn.piece ++ said) l.piece
+abbrev pub invariant-loop-place : goal.invariant-loop-place
+invariant-loop-place g l =
+    (said : List ℕ) × IsFilled l.words l.numbers l.left said l.start l.place × ToldSoFar l.fn.writer l.writer (l.fn.piece ++ said) l.piece
