@@ -61,7 +61,7 @@ tested_without_memory false source sink = inr (inr refl, untouched sink.contents
 -- and whatever is asked for
 done_without_memory : (asked : Request) (source : SourceState) (sink : SinkState) → Does asked source source sink sink (outcome.Ended ending.NoMemory)
 done_without_memory (request.Run engine) source sink = runs_without_memory engine source.remaining sink.contents
-done_without_memory request.ReplayWithWords source sink = untouched sink.contents
+done_without_memory request.ReplayWithWords source sink = (untouched sink.contents, tt)
 done_without_memory request.ReplayAsJournal source sink = untouched sink.contents
 done_without_memory (request.Work submitters turns) source sink = untouched sink.contents
 done_without_memory (request.Explain word) source sink = (refl, untouched sink.contents)

@@ -31,7 +31,7 @@ use Rattle.drm_perfetto.specs.declared.clock.Clock.TheVariants as clock
 use Rattle.drm_command_line.specs.CommandLine.{IsAsked, most_submitters}
 use Rattle.drm_command_line.specs.declared.request.Request.{Request}
 use Rattle.drm_command_line.specs.declared.request.Request.TheVariants as request
-use Rattle.drmsim.specs.Outcomes.{Ends, EndsSo, status_of_outcome}
+use Rattle.drmsim.specs.Outcomes.{Ends, EndsInWords, EndsSo, status_of_outcome}
 use Rattle.drmsim.specs.declared.outcome.Outcome.{Outcome}
 use Rattle.drmsim.specs.declared.outcome.Outcome.TheVariants as outcome
 
@@ -125,7 +125,7 @@ clock_asked false = clock.Moment
 -- first word, and to the last where there is no second, and an exploration takes a million states where there is no word
 abbrev pub Does : Request → SourceState → SourceState → SinkState → SinkState → Outcome → Type 0
 Does (request.Run engine) before after old new came = Ends (Runs engine before.remaining old.contents new.contents) came
-Does request.ReplayWithWords before after old new came = Ends (ReplaysWithWords before.remaining old.contents new.contents) came
+Does request.ReplayWithWords before after old new came = EndsInWords (ReplaysWithWords before.remaining old.contents new.contents) came
 Does request.ReplayAsJournal before after old new came = Ends (Records before.remaining old.contents new.contents) came
 Does (request.Work submitters turns) before after old new came = Ends (worked.Runs submitters turns before.remaining old.contents new.contents) came
 Does (request.Explain word) before after old new came = (after ≡ before) × Ends (Tells (option_map (λ w. w.now) word) old.contents new.contents) came

@@ -3,7 +3,8 @@
 ghost use Rattle.std.specs.Prelude.{◌<◌, ◌≡◌, ◌^◌, option_map, IfSome};
 ghost use Rattle.drm_conform.specs.Asked.{options_asked};
 ghost use Rattle.drm_engine.specs.Failures.{EndsBy};
-ghost use Rattle.drmsim.specs.Outcomes.{EndsSo};
+ghost use Rattle.drm_words.specs.Replaying.{ReplaysWithWords};
+ghost use Rattle.drmsim.specs.Outcomes.{EndsInWords, EndsSo};
 ghost use Rattle.drmsim.specs.Statuses.{DrawsBetween, ExploresAsked, JudgesAsked, WhysAsked, number_of_word, question_asked, wanted_asked};
 
 use crate::outcome::Outcome;
@@ -14,6 +15,7 @@ use drm_explore::{Options, Wanted, explore};
 use drm_stream::{Sink, Source};
 use drm_text::read_number;
 use drm_why::{Question, why};
+use drm_words::replay_with_words;
 use std::alloc::Global;
 use std::io::{Read, Write};
 
@@ -25,6 +27,21 @@ fn number_or(other: u32, word: Option<&str>) -> Option<u64>
     match word {
         Some(word) => read_number(word.as_bytes(), u64::from(u32::MAX)),
         None => Some(u64::from(other)),
+    }
+}
+
+/// Answers a script with words beside the answers, or tells its fault in words.
+pub(crate) fn replay_in_words<R: Read, W: Write>(
+    alloc: Global,
+    reader: &mut Source<R>,
+    writer: &mut Sink<W>,
+) -> Outcome
+    ensures outcome { EndsInWords (ReplaysWithWords reader.old.remaining writer.old.contents writer.new.contents) result }
+    ensures failures { EndsSo reader.old reader.new writer.old writer.new result }
+{
+    match replay_with_words(alloc, reader, writer) {
+        Ok(ending) => Outcome::Ended(ending),
+        Err(fault) => Outcome::Faulty(fault),
     }
 }
 

@@ -23,7 +23,7 @@ mod asking;
 mod outcome;
 mod progress;
 
-use asking::{Exploration, draw_part, explore_orders, judge_log, tell_why};
+use asking::{Exploration, draw_part, explore_orders, judge_log, replay_in_words, tell_why};
 use clap::error::ErrorKind as WordsError;
 use drm_command_line::{Request, read_words};
 use drm_engine::Ending;
@@ -33,7 +33,6 @@ use drm_perfetto::{Clock, trace};
 use drm_run::run;
 use drm_script_writer::replay_journal;
 use drm_stream::{Sink, Source};
-use drm_words::replay_with_words;
 use outcome::Outcome;
 use progress::ProgressLine;
 use std::alloc::Global;
@@ -154,7 +153,7 @@ fn fulfil<H: Threads + Wait + Sync, R: Read, W: Write>(
     let alloc = rt.alloc();
     match request {
         Request::Run(engine) => Outcome::Ended(engine.run(alloc, reader, writer)),
-        Request::ReplayWithWords => Outcome::Ended(replay_with_words(alloc, reader, writer)),
+        Request::ReplayWithWords => replay_in_words(alloc, reader, writer),
         Request::ReplayAsJournal => Outcome::Ended(replay_journal(alloc, reader, writer)),
         Request::Work { submitters, turns } => Outcome::Ended(work(
             rt, threads, submitters, turns, reader, writer,

@@ -5,6 +5,7 @@ ghost use Rattle.drmsim.specs.Outcomes.{is_told as is_told_of, status_of_outcome
 
 use drm_conform::Judged;
 use drm_engine::Ending;
+use drm_words::FaultInWords;
 use std::fmt;
 
 /// How what was asked for ended.
@@ -12,6 +13,8 @@ use std::fmt;
 pub enum Outcome {
     /// As an engine ends.
     Ended(Ending),
+    /// The script of a replay with words has a fault, which is told in words. Nothing was written.
+    Faulty(FaultInWords),
     /// As the judging of a log ends.
     Judged(Judged),
     /// The words behind the options of `conform` spell no limits or no tolerance. Nothing was read, and nothing written.
@@ -29,6 +32,7 @@ impl Outcome {
     {
         match self {
             Outcome::Ended(ending) => ending.is_told(),
+            Outcome::Faulty(_) => false,
             Outcome::Judged(judged) => judged.ending.is_told(),
             Outcome::NoLimits | Outcome::NoFinal | Outcome::NoFence => false,
         }
@@ -40,6 +44,7 @@ impl Outcome {
     {
         match self {
             Outcome::Ended(ending) => ending.status(),
+            Outcome::Faulty(_) => 2,
             Outcome::Judged(judged) => judged.ending.status(),
             Outcome::NoLimits | Outcome::NoFinal | Outcome::NoFence => 2,
         }
@@ -52,6 +57,7 @@ impl fmt::Display for Outcome {
     fn fmt<W: fmt::Write>(&self, f: &mut fmt::Formatter<W>) -> fmt::Result {
         match self {
             Outcome::Ended(ending) => write!(f, "{ending}"),
+            Outcome::Faulty(fault) => write!(f, "{fault}"),
             Outcome::Judged(judged) => write!(f, "{judged}"),
             Outcome::NoLimits => write!(
                 f,
