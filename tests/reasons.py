@@ -189,6 +189,67 @@ class Device:
         return "held", self.reason(queued[0].fence)[1]
 
 
+class Words:
+    """What `replay --words` tells behind the sentence of each answer: names and reasons, command by command."""
+
+    def __init__(self, spec):
+        self.device, self.holders = Device(spec), {}
+
+    def job(self, fence, role):
+        return f": fence {fence} of entity {self.device.jobs[fence].entity}{role} {self.device.reason(fence)[0]}"
+
+    def heads(self):
+        """The first job in the queue of each entity."""
+        queues = map(self.device.queue, range(len(self.device.spec.entities)))
+        return [it[0].fence for it in queues if it]
+
+    def missing(self, command):
+        """The first buffer that the job of a plan declares and its context does not hold."""
+        context, command.next = int(command.words[1]), 2
+        declared = second_reader.Job(command).declared
+        return next((buffer for _, buffer in declared if self.holders.get(buffer) != context), None)
+
+    def waiting_for(self, fence):
+        """The first jobs of queues that wait for this fence."""
+        return [it for it in self.heads() if self.device.reason(it)[0].startswith(f"waits for fence {fence},")]
+
+    def refused(self, command, answer):
+        """Why the command is refused, where that is told."""
+        name, number = command.words[0].decode(), int(command.words[1])
+        if (answer[1], name) == ("40", "pick"):
+            queued = [it.fence for it in self.device.jobs if it.phase == "queued" and it.ring == number]
+            return self.job(queued[0], ", first in line,") if queued else ": none is queued for it"
+        if answer[1] == "41":
+            return self.job(self.device.choice(number).fence, ", next in line,")
+        if answer[1] == "44":
+            return f": {self.device.line(self.device.queue(number)[0].fence)[:-1]}"
+        if answer[1] == "46":
+            return f", which {self.device.reason(int(answer[2]))[0]}"
+        if answer[1] == "53":
+            buffer = self.missing(command)
+            holder = self.holders.get(buffer)
+            return f": no context holds buffer {buffer}" if holder is None else f": context {holder} holds buffer {buffer}"
+        if answer[1] == "57":
+            return f": context {self.holders[int(answer[2])]} holds it"
+        return ""
+
+    def take(self, command, answer):
+        """Takes a command with the words of its answer, and returns what is told behind the sentence of that."""
+        if answer[0] == "refused":
+            return self.refused(command, answer)
+        waited = self.waiting_for(int(answer[1])) if answer[0] == "finished" else []
+        self.device.take(command, answer)
+        if answer[0] == "held":
+            self.holders[int(command.words[2])] = int(command.words[1])
+        if command.words[0] == b"drop":
+            self.holders[int(command.words[2])] = None
+        if answer[0] == "armed":
+            fence = int(answer[1])
+            return f" for ring {self.device.jobs[fence].ring}: it {self.device.reason(fence)[0]}"
+        free = [it for it in waited if not self.device.reason(it)[0].startswith("waits for fence")]
+        return "".join(f", and lets fence {it} of entity {self.device.jobs[it].entity} go" for it in free)
+
+
 def moment(command):
     """The moment that a command tells, if it tells one."""
     return int(command.words[2]) if command.words[0] in (b"pick", b"finish", b"timeout") else None
