@@ -12,6 +12,7 @@ use Rattle.drm_state.specs.Journal.{is_complete}
 use Rattle.drm_state.specs.Choice.{choice}
 use Rattle.drm_state.specs.Chosen.{ChoiceIsLeast, GoesBefore, IsFirstQueued, IsLeast, MayBegin, rank_at}
 use Rattle.drm_state.specs.Lawful.{IsLawfulDevice}
+use Rattle.drm_state.specs.Order.{is_ready}
 use Rattle.drm_state.specs.Ring.{credits_of, current_of, free_credits, head_of, is_stopped, pending_of}
 use Rattle.drm_state.specs.Steady.{IsSteady}
 use Rattle.drm_lists.proofs.Searches.{find_first}
@@ -78,6 +79,17 @@ module _ (d : DeviceState) (n : ℕ) where
   next_told choices steady ring least =
       turn_told ring least.entity n least.may (((choices d ring steady).some n).1 least)
       ∙ ap (λ b. cond b (fit_reason d ring n) (reason.BehindRingHead ring n)) (eq-eqb n n refl)
+
+  -- so of a job that its ring takes next: it is the first in its queue, and waits for no fence
+  pub chosen_told : ChoiceIsLeast → IsSteady d → (job : JobRecord) → slice_get d.journal n ≡ Some job → choice d job.ring ≡ Some n
+      → head_reason d n job ≡ fit_reason d job.ring n
+  chosen_told choices steady job at is =
+      let least = ((choices d job.ring steady).some n).0 is in
+      let same : least.may.head ≡ job = cc (least.may.first.at, at) in
+      let ready = subst (λ (q : JobRecord). is_ready d.journal n q ≡ true) same least.may.ready in
+      ap (λ o. option_map_or (unmet_reason job) o (ready_reason d job.ring n)) (none_where_ready d.journal n job ready)
+      ∙ (ap (λ o. turn_reason d job.ring n (unwrap_or o n)) is
+      ∙ ap (λ b. cond b (fit_reason d job.ring n) (reason.BehindRingHead job.ring n)) (eq-eqb n n refl))
 
   pending_told : (job : JobRecord) (b : Bool) → slice_get d.journal n ≡ Some job → job.phase ≡ Scheduled → is_complete job ≡ b
       → reason_of d n

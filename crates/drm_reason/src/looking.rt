@@ -1,6 +1,6 @@
 //! The reason of a job, looked up in its device.
 
-ghost use Rattle.std.specs.Prelude.{◌≡◌, ◌<◌, ◌==◌, Some, length, option_map, slice_get};
+ghost use Rattle.std.specs.Prelude.{◌≡◌, ◌<◌, ◌==◌, IsTrue, Some, length, option_map, slice_get};
 ghost use Rattle.std.specs.List.{list_any};
 ghost use Rattle.drm_fence.specs.Phases.{is_queued as is_queued_phase};
 ghost use Rattle.drm_job.specs.Conflicts.{must_wait as must_wait_for};
@@ -15,7 +15,9 @@ use crate::reason::{How, Reason};
 use crate::watch::Watch;
 use drm_job::{Job, conflicts};
 use drm_sched::Device;
-use drm_state::{JobRecord, Phase, counted_credits, is_complete, is_met, must_stall};
+use drm_state::{
+    JobRecord, Phase, choice_is_least, counted_credits, is_complete, is_met, must_stall,
+};
 use drm_types::{Access, BufferId, FenceId, RingId, RingSpec, adds, wanted};
 
 // ---- what holds a job up
@@ -200,6 +202,21 @@ fn ready(device: &Device, ring: RingId, fence: FenceId) -> Reason
     }
 }
 
+// Returns whether the ring of a job takes it next. The device knows that without a look at any other job, and a job
+// that a ring takes next waits for no fence.
+fn is_chosen(device: &Device, fence: FenceId, job: &JobRecord) -> bool
+    requires at { slice_get device.now.state.journal fence ≡ Some job.now }
+    requires ring { job.now.ring < length device.now.state.spec.rings }
+    ensures { IsTrue result → head_reason device.now.state fence job.now ≡ fit_reason device.now.state job.now.ring fence }
+{
+    device.facts();
+    choice_is_least();
+    match device.choice(job.ring) {
+        Some(next) => next == fence,
+        None => false,
+    }
+}
+
 // ---- a pending job
 
 // Whether the next packet of the job waits for more resets.
@@ -281,6 +298,9 @@ impl Watch {
         ensures known { IsKnownBelow device.now.state.journal self.old.fence is_unmet self.new.met }
         ensures others { self.new ≡ record self.old { met = self.new.met } }
     {
+        if is_chosen(device, self.fence, job) {
+            return fit(device, job.ring, self.fence);
+        }
         let records = device.records();
         let unmet = first_unmet(records, job, self.fence, self.met);
         self.met = unmet.unwrap_or(self.fence);
@@ -314,9 +334,10 @@ impl Watch {
 
     /// Looks at the job, and answers its reason.
     ///
-    /// All looks of a watch together go once over the earlier jobs, and each look begins with the one at which the last
-    /// ended. For each it asks whether its declarations, at most 16, and those of this job, at most 16, conflict. Where
-    /// the job is ready, a look asks beside that what its ring takes next, which goes through the heads on that ring.
+    /// A look asks first what the ring of the job takes next, which goes through the heads on that ring. If that is the
+    /// job, it looks at no other. All looks of a watch together go once over the earlier jobs, and each look begins with
+    /// the one at which the last ended. For each it asks whether its declarations, at most 16, and those of this job, at
+    /// most 16, conflict.
     pub fn look(&mut self, device: &Device) -> Reason
         requires known { Knows device.now.state self.old }
         ensures reason { result ≡ reason_in device.now.state self.old.fence }

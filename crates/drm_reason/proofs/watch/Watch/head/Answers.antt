@@ -41,3 +41,6 @@ returns-in-None-clause-known c =
     ∙ ap (λ (o : Option ℕ). unwrap_or o c.args.self.now.fence)
     (c.first_unmet-unmet.ensures ∙ ap (λ (js : List JobRecord). option_map (λ (m : ℕ × JobRecord). m.0) (least_unmet js c.args.self.now.fence c.args.job.now)) c.records-records.ensures) in
     subst (λ (k : ℕ). IsKnownBelow d.journal c.args.self.now.fence is_unmet k) (sym known) (known_met d.journal c.args.self.now.fence c.args.job.now c.requires.at)
+
+pub returns-then-is_chosen-clause-reason : goal.returns-then-is_chosen-clause-reason
+returns-then-is_chosen-clause-reason c = c.fit.ensures ∙ sym (c.is_chosen.ensures c.if-is_chosen.true)
