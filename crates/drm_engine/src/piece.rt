@@ -29,10 +29,9 @@ fn place(room: &mut [u8], at: usize, bytes: &[u8]) -> usize
     ensures text { take result room.new ≡ take at room.old ++ bytes.now }
     ensures end { result ≡ at + length bytes.now }
 {
-    'bytes: for place in 0..bytes.len() {
-        room[at + place] = bytes[place];
-    }
-    at + bytes.len()
+    let end = at + bytes.len();
+    room[at..end].copy_from_slice(bytes);
+    end
 }
 
 /// Text on its way to a sink, in room that does not grow. Contracts see the text.

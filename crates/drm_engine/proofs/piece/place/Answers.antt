@@ -1,6 +1,0 @@
-use Rattle.std.proofs.Common.{arith}
-use Rattle.drm_answer.proofs.Placed.{byte_placed}
-use Rattle.drm_engine.proofs.piece.place.Goals as goal
-
-pub bytes-preserved : goal.bytes-preserved
-bytes-preserved c = byte_placed c.args.room.now c.bytes.room c.args.bytes.now c.args.at c.bytes.place (omega arith) (omega arith) c.bytes.invariant

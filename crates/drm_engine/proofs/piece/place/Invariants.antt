@@ -1,5 +1,0 @@
-use Rattle.std.proofs.Common.{◌≡◌, ◌+◌, ◌++◌, take}
-use Rattle.drm_engine.proofs.piece.place.Given as goal
-
-abbrev pub invariant-bytes : goal.invariant-bytes
-invariant-bytes l = take (l.at + l.place) l.room ≡ take l.at l.fn.room ++ take l.place l.bytes
