@@ -26,10 +26,10 @@ verb_of access.Move = codes ", moves "
 
 -- the same by a letter
 abbrev pub letter_of : Access → List ℕ
-letter_of access.Read = codes " r"
-letter_of access.Write = codes " w"
-letter_of access.Hold = codes " h"
-letter_of access.Move = codes " m"
+letter_of access.Read = codes " r:"
+letter_of access.Write = codes " w:"
+letter_of access.Hold = codes " h:"
+letter_of access.Move = codes " m:"
 
 -- each buffer that a job declares, with what it does with it
 abbrev pub uses_text : Option Request → List ℕ

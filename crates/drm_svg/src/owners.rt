@@ -44,10 +44,10 @@ fn letter(access: Access) -> &'static str
     ensures { result.now ≡ letter_of access }
 {
     match access {
-        Access::Read => " r",
-        Access::Write => " w",
-        Access::Hold => " h",
-        Access::Move => " m",
+        Access::Read => " r:",
+        Access::Write => " w:",
+        Access::Hold => " h:",
+        Access::Move => " m:",
     }
 }
 
