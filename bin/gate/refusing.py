@@ -22,6 +22,8 @@ GOOD = (trial.REFUSED, trial.LIMIT)
 PASSING = (*GOOD, trial.NAME)
 # The part of the memory of a check from nothing that a check of some functions takes, at most.
 PART = 0.6
+# What the reading of a library below costs, in lines of the crate, and what a check costs, in wrong bodies.
+A_LIBRARY, A_CHECK = 50, 30
 # The checks that run, and whether they were ended for good.
 RUNNING, STOPPED = set(), threading.Event()
 
@@ -163,9 +165,14 @@ def run(crates, options):
 
 
 def weight(tries):
-    """Returns a guess of what the tries of a crate cost, by which the dearest begin first."""
+    """Returns a guess of what the tries of a crate cost, by which the dearest begin first.
+
+    A check reads the crates below and the lines of the crate, and a wrong body that is tried alone has a check of its own.
+    """
+    sources = wrong_bodies.Sources(tries.crate)
+    alone = sum(not wrong_bodies.WrongBody(sources, it).symbol for it in tries.files)
     lines = sum(len(toolchain.library.text_of(it).split("\n")) for it in toolchain.library.files_of(tries.crate.folder))
-    return len(tries.files) * lines
+    return (lines + A_LIBRARY * len(tries.crate.below())) * (len(tries.files) + A_CHECK * alone + A_CHECK)
 
 
 def in_lanes(left, lanes):
