@@ -20,7 +20,7 @@ pub right_true : (a b : Bool) → (a && b) ≡ true → b ≡ true
 right_true true b h = h
 right_true false b h = cc
 
-either : (b : Bool) (x y : ℕ) → x ≡ y → cond b x y ≡ y
+pub either : (b : Bool) (x y : ℕ) → x ≡ y → cond b x y ≡ y
 either true x y same = same
 either false x y same = refl
 

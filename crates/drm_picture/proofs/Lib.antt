@@ -3,3 +3,4 @@ pub mod Lasts
 pub mod Latest
 pub mod Nexts
 pub mod Places
+pub mod Reaching

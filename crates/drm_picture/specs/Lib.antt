@@ -6,5 +6,6 @@ pub mod Marks
 pub mod Waits
 pub mod Waiting
 pub mod Latest
+pub mod Reach
 pub mod Lasts
 pub mod Pictures

@@ -14,6 +14,7 @@ mod conflict;
 mod ends;
 mod marks;
 mod picture;
+mod reach;
 mod waiting;
 mod waits;
 

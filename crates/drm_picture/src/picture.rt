@@ -7,6 +7,7 @@ use crate::armed::requests;
 use crate::bars::{Bar, Kind, bars};
 use crate::command::{Request, Step, commands, run_before};
 use crate::marks::{Mark, marks};
+use crate::reach::reaches;
 use crate::waiting::waiting;
 use crate::waits::{Wait, waits};
 use drm_core::Event;
@@ -72,8 +73,9 @@ pub fn picture_of(
 {
     let run = run_before(steps, to);
     let fences = bars(alloc, Kind::Fence, from, run)?;
-    let waiting = waiting(alloc, from, run, &fences)?;
-    let waits = waits(alloc, from, run, &fences)?;
+    let reaches = reaches(alloc, run, &fences)?;
+    let waiting = waiting(alloc, from, run, &fences, &reaches)?;
+    let waits = waits(alloc, from, run, &fences, &reaches)?;
     Ok(Picture {
         shape,
         first: from,

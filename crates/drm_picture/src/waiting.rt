@@ -7,12 +7,14 @@ ghost use Rattle.std.specs.List.Sorted.{IsNonDecreasingBy};
 ghost use Rattle.std.specs.Prelude.{◌≡◌, ◌≤◌, ◌++◌, filter_map, max, if◌then◌else◌, IfOk, OnOk};
 ghost use Rattle.drm_picture.specs.Bars.{bars_of};
 ghost use Rattle.drm_picture.specs.Latest.{EndsIn, end_of, latest_end as latest_end_of, look_until as look_of_end, moment_until as moment_of_end, wait_to as wait_to_end};
+ghost use Rattle.drm_picture.specs.Reach.{AreReaches};
 ghost use Rattle.drm_picture.specs.Waiting.{conflicts_at, holds_up, waiting_at, waiting_from, waiting_of};
 ghost use Rattle.drm_picture.specs.declared.bars.Kind.TheVariants as kind;
 
 use crate::bars::{Bar, Kind, Lane, Look, Opening, armed_job, push_bar};
 use crate::command::{Request, Step, moment, run_before};
 use crate::conflict::is_conflict;
+use crate::reach::is_within;
 use crate::waits::{armed_before, is_open, job_of};
 use drm_state::Answer;
 use drm_types::{Access, BufferId, FenceId, Moment};
@@ -55,14 +57,21 @@ fn later_end(
 }
 
 // Where the last of the fences ends that hold up a job which is armed at this place and declares this buffer, or 0. The
-// search goes from the last fence on, and stops where none can end later.
-fn latest_end(run: &[Step], fences: &[Bar], place: usize, declared: &(BufferId, Access)) -> usize
-    requires { All (EndsIn run.now) fences.now }
+// search goes from the last fence on, and stops where none is open or can end later.
+fn latest_end(
+    run: &[Step],
+    fences: &[Bar],
+    reaches: &[usize],
+    place: usize,
+    declared: &(BufferId, Access),
+) -> usize
+    requires ends { All (EndsIn run.now) fences.now }
+    requires reach { AreReaches fences.now reaches.now }
     ensures { result ≡ latest_end_of run.now place declared.now fences.now }
 {
     let mut latest = 0;
     for index in (0..fences.len()).rev() {
-        if latest == run.len() {
+        if is_within(reaches, index, latest.max(place)) {
             return latest;
         }
         latest = later_end(run, place, declared, &fences[index], latest);
@@ -115,14 +124,16 @@ fn wait_to(run: &[Step], place: usize, fence: FenceId, buffer: u32, end: usize) 
 fn longest_wait(
     run: &[Step],
     fences: &[Bar],
+    reaches: &[usize],
     place: usize,
     fence: FenceId,
     declared: &(BufferId, Access),
 ) -> Option<Bar>
-    requires { All (EndsIn run.now) fences.now }
+    requires ends { All (EndsIn run.now) fences.now }
+    requires reach { AreReaches fences.now reaches.now }
     ensures { result ≡ waiting_at run.now fences.now place fence declared.now }
 {
-    let end = latest_end(run, fences, place, declared);
+    let end = latest_end(run, fences, reaches, place, declared);
     if place < end {
         Some(wait_to(run, place, fence, declared.0.number(), end))
     } else {
@@ -135,15 +146,20 @@ fn push_waiting(
     bars: &mut Vec<Bar>,
     run: &[Step],
     fences: &[Bar],
+    reaches: &[usize],
     place: usize,
     fence: FenceId,
     declared: &[(BufferId, Access)],
 ) -> Result<(), AllocError>
-    requires { All (EndsIn run.now) fences.now }
+    requires ends { All (EndsIn run.now) fences.now }
+    requires reach { AreReaches fences.now reaches.now }
     ensures { OnOk result (bars.new.items ≡ bars.old.items ++ filter_map (waiting_at run.now fences.now place fence) declared.now) }
 {
     for declaration in declared {
-        push_bar(bars, longest_wait(run, fences, place, fence, declaration))?;
+        push_bar(
+            bars,
+            longest_wait(run, fences, reaches, place, fence, declaration),
+        )?;
     }
     Ok(())
 }
@@ -153,16 +169,18 @@ fn push_waits(
     bars: &mut Vec<Bar>,
     run: &[Step],
     fences: &[Bar],
+    reaches: &[usize],
     place: usize,
     fence: FenceId,
     declared: &[(BufferId, Access)],
 ) -> Result<(), AllocError>
     requires ends { All (EndsIn run.now) fences.now }
+    requires reach { AreReaches fences.now reaches.now }
     requires rise { IsNonDecreasingBy (λ bar. bar.from) fences.now }
     ensures { OnOk result (bars.new.items ≡ bars.old.items ++ filter_map (waiting_at run.now fences.now place fence) declared.now) }
 {
     let before = armed_before(fences, place);
-    push_waiting(bars, run, before, place, fence, declared)?;
+    push_waiting(bars, run, before, reaches, place, fence, declared)?;
     Ok(())
 }
 
@@ -171,16 +189,21 @@ fn push_waiting_from(
     bars: &mut Vec<Bar>,
     run: &[Step],
     fences: &[Bar],
+    reaches: &[usize],
     place: usize,
     step: &Step,
 ) -> Result<(), AllocError>
     requires ends { All (EndsIn run.now) fences.now }
+    requires reach { AreReaches fences.now reaches.now }
     requires rise { IsNonDecreasingBy (λ bar. bar.from) fences.now }
     ensures { OnOk result (bars.new.items ≡ bars.old.items ++ waiting_from run.now fences.now (place, step.now)) }
 {
     match &step.answer {
         Answer::Armed { fence } => match armed_job(run_before(run, place), step) {
-            Some(job) => push_waits(bars, run, fences, place, *fence, job.declared.as_slice()),
+            Some(job) => {
+                let declared = job.declared.as_slice();
+                push_waits(bars, run, fences, reaches, place, *fence, declared)
+            }
             None => Ok(()),
         },
         _ => Ok(()),
@@ -193,13 +216,15 @@ pub(crate) fn waiting(
     from: usize,
     run: &[Step],
     fences: &[Bar],
+    reaches: &[usize],
 ) -> Result<Vec<Bar>, AllocError>
-    requires { fences.now ≡ bars_of kind.Fence from run.now }
+    requires fences { fences.now ≡ bars_of kind.Fence from run.now }
+    requires reach { AreReaches fences.now reaches.now }
     ensures { IfOk result (λ bars. bars.items ≡ waiting_of from run.now) }
 {
     let mut bars = Vec::new(alloc);
     for (place, step) in run.iter().enumerate() {
-        push_waiting_from(&mut bars, run, fences, place, step)?;
+        push_waiting_from(&mut bars, run, fences, reaches, place, step)?;
     }
     Ok(bars)
 }

@@ -6,11 +6,13 @@ ghost use Rattle.std.specs.List.Sorted.{IsNonDecreasingBy};
 ghost use Rattle.std.specs.Prelude.{◌≡◌, ◌==◌, ◌<◌, ◌≤◌, ◌++◌, ℕ, [], drop, length, reverse, take, true, Option, IfOk, OnOk};
 ghost use Rattle.drm_picture.specs.Bars.{bars_of};
 ghost use Rattle.drm_picture.specs.Lasts.{any_of, is_listed as is_listed_of, unseen};
+ghost use Rattle.drm_picture.specs.Reach.{AreReaches};
 ghost use Rattle.drm_picture.specs.Waits.{earlier_job, earlier_of, is_open_at, job_of as job_of_bar, last_of_each, waits_at, waits_of, waits_on};
 ghost use Rattle.drm_picture.specs.declared.bars.Kind.TheVariants as kind;
 
 use crate::bars::{Bar, armed_job};
 use crate::command::{Request, Step, run_before};
+use crate::reach::is_within;
 use drm_state::Answer;
 use drm_types::{EntityId, FenceId};
 use std::alloc::{AllocError, Global};
@@ -163,20 +165,25 @@ fn push_earlier(
 }
 
 // Of the jobs that the later one comes after, and whose fences have no outcome at this place, the last of each entity,
-// the last first. The search goes from the last fence on, and stops where each entity has one.
+// the last first. The search goes from the last fence on, and stops where none is open or each entity has one.
 fn lasts_from_end(
     alloc: Global,
     run: &[Step],
     fences: &[Bar],
+    reaches: &[usize],
     place: usize,
     later: &Request,
     entities: &[EntityId],
 ) -> Result<Vec<Earlier>, AllocError>
-    requires { All (λ bar. is_listed_of entities.now (job_of_bar run.now bar) ≡ true) fences.now }
+    requires reach { AreReaches fences.now reaches.now }
+    requires listed { All (λ bar. is_listed_of entities.now (job_of_bar run.now bar) ≡ true) fences.now }
     ensures { IfOk result (λ jobs. reverse jobs.items ≡ last_of_each (filter_map (earlier_of run.now place later.now) fences.now)) }
 {
     let mut jobs = Vec::new(alloc);
     for index in (0..fences.len()).rev() {
+        if is_within(reaches, index, place) {
+            return Ok(jobs);
+        }
         if entities.len() <= jobs.len() && has_all(entities, &jobs) {
             return Ok(jobs);
         }
@@ -190,16 +197,18 @@ fn last_jobs(
     alloc: Global,
     run: &[Step],
     fences: &[Bar],
+    reaches: &[usize],
     place: usize,
     later: &Request,
     entities: &[EntityId],
 ) -> Result<Vec<Earlier>, AllocError>
+    requires reach { AreReaches fences.now reaches.now }
     requires rise { IsNonDecreasingBy (λ bar. bar.from) fences.now }
     requires listed { All (λ bar. is_listed_of entities.now (job_of_bar run.now bar) ≡ true) fences.now }
     ensures { IfOk result (λ jobs. jobs.items ≡ last_of_each (filter_map (earlier_of run.now place later.now) fences.now)) }
 {
     let before = armed_before(fences, place);
-    let mut jobs = lasts_from_end(alloc, run, before, place, later, entities)?;
+    let mut jobs = lasts_from_end(alloc, run, before, reaches, place, later, entities)?;
     jobs.reverse();
     Ok(jobs)
 }
@@ -230,10 +239,12 @@ fn push_waits_at(
     from: usize,
     run: &[Step],
     fences: &[Bar],
+    reaches: &[usize],
     entities: &[EntityId],
     place: usize,
     step: &Step,
 ) -> Result<(), AllocError>
+    requires reach { AreReaches fences.now reaches.now }
     requires rise { IsNonDecreasingBy (λ bar. bar.from) fences.now }
     requires listed { All (λ bar. is_listed_of entities.now (job_of_bar run.now bar) ≡ true) fences.now }
     ensures { OnOk result (waits.new.items ≡ waits.old.items ++ waits_at from run.now fences.now (place, step.now)) }
@@ -244,7 +255,7 @@ fn push_waits_at(
     match &step.answer {
         Answer::Armed { fence } => match armed_job(run_before(run, place), step) {
             Some(later) => {
-                let jobs = last_jobs(alloc, run, fences, place, later, entities)?;
+                let jobs = last_jobs(alloc, run, fences, reaches, place, later, entities)?;
                 push_waits(waits, *fence, place, &jobs)
             }
             None => Ok(()),
@@ -259,14 +270,18 @@ pub(crate) fn waits(
     from: usize,
     run: &[Step],
     fences: &[Bar],
+    reaches: &[usize],
 ) -> Result<Vec<Wait>, AllocError>
-    requires { fences.now ≡ bars_of kind.Fence from run.now }
+    requires reach { AreReaches fences.now reaches.now }
+    requires fences { fences.now ≡ bars_of kind.Fence from run.now }
     ensures { IfOk result (λ waits. waits.items ≡ waits_of from run.now) }
 {
     let entities = distinct_entities(alloc, run, fences)?;
     let mut waits = Vec::new(alloc);
     for (place, step) in run.iter().enumerate() {
-        push_waits_at(alloc, &mut waits, from, run, fences, &entities, place, step)?;
+        push_waits_at(
+            alloc, &mut waits, from, run, fences, reaches, &entities, place, step,
+        )?;
     }
     Ok(waits)
 }

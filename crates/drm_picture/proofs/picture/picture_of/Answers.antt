@@ -1,12 +1,18 @@
-use Rattle.std.proofs.Common.{◌∙◌, ap, map, refl}
+use Rattle.std.proofs.Common.{◌∙◌, ap, map, refl, subst, sym}
+use Rattle.std.specs.List.{All}
 use Rattle.drm_picture.specs.Armed.{requests_of}
 use Rattle.drm_picture.specs.Bars.{bars_of}
+use Rattle.drm_picture.specs.Latest.{EndsIn}
 use Rattle.drm_picture.specs.Marks.{marks_of}
 use Rattle.drm_picture.specs.Waiting.{waiting_of}
 use Rattle.drm_picture.specs.Waits.{waits_of}
 use Rattle.drm_picture.specs.declared.bars.Kind.TheVariants as kind
 use Rattle.drm_picture.specs.declared.command.Step.{Step}
+use Rattle.drm_picture.proofs.Fences.{fences-end}
 use Rattle.drm_picture.proofs.picture.picture_of.Goals as goal
+
+pub reaches-requires : goal.reaches-requires
+reaches-requires c = subst (All (EndsIn c.run_before-run.result.now)) (sym c.in_ok-fences.ensures) (fences-end c.args.from c.run_before-run.result.now)
 
 pub returns : goal.returns
 returns c =

@@ -14,7 +14,7 @@ loop-place-preserved c =
     ∙ joined_more (waiting_from c.args.run.now c.args.fences.now) c.args.run.now c.loop-place.place c.index-run-place.result c.loop-place.bars.items (omega arith) c.index-run-place.is c.loop-place.invariant
 
 pub push_waiting_from-requires-clause-ends : goal.push_waiting_from-requires-clause-ends
-push_waiting_from-requires-clause-ends c = subst (All (EndsIn c.args.run.now)) (sym c.requires) (fences-end c.args.from c.args.run.now)
+push_waiting_from-requires-clause-ends c = subst (All (EndsIn c.args.run.now)) (sym c.requires.fences) (fences-end c.args.from c.args.run.now)
 
 pub push_waiting_from-requires-clause-rise : goal.push_waiting_from-requires-clause-rise
-push_waiting_from-requires-clause-rise c = subst (IsNonDecreasingBy (λ (bar : Bar). bar.from)) (sym c.requires) (fences-rise c.args.from c.args.run.now)
+push_waiting_from-requires-clause-rise c = subst (IsNonDecreasingBy (λ (bar : Bar). bar.from)) (sym c.requires.fences) (fences-rise c.args.from c.args.run.now)

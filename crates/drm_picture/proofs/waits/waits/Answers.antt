@@ -12,4 +12,4 @@ loop-place-preserved c =
     ∙ joined_more (waits_at c.args.from c.args.run.now c.args.fences.now) c.args.run.now c.loop-place.place c.index-run-place.result c.loop-place.waits.items (omega arith) c.index-run-place.is c.loop-place.invariant
 
 pub push_waits_at-requires-clause-rise : goal.push_waits_at-requires-clause-rise
-push_waits_at-requires-clause-rise c = subst (IsNonDecreasingBy (λ (bar : Bar). bar.from)) (sym c.requires) (fences-rise c.args.from c.args.run.now)
+push_waits_at-requires-clause-rise c = subst (IsNonDecreasingBy (λ (bar : Bar). bar.from)) (sym c.requires.fences) (fences-rise c.args.from c.args.run.now)
