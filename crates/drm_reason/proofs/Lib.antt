@@ -8,3 +8,4 @@ pub mod Takes
 pub mod Laws
 pub mod Looks
 pub mod RetiredJobs
+pub mod Awaits

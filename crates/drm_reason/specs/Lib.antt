@@ -5,3 +5,4 @@ pub mod Watching
 pub mod Retired
 pub mod Said
 pub mod Released
+pub mod Awaited

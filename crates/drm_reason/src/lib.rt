@@ -4,8 +4,8 @@
 //! job in the queue of its entity; it waits for a fence; another job comes first on its ring; it lacks credits; it is
 //! next; its entity is stopped; it is pending behind another job; it runs a packet, or stalls at one; it is complete;
 //! it has ended. `reason_of` tells it of a device, and a `Watch` tells it again and again without looking at an earlier
-//! job twice. A look from a `Retired` begins behind the jobs that have all ended; it also tells which jobs the end of a
-//! fence lets go.
+//! job twice, or tells only which fence the job waits for. A look from a `Retired` begins behind the jobs that have all
+//! ended; it also tells which jobs the end of a fence lets go.
 //!
 //! `said` puts a reason in words. Nothing else spells these.
 #![tactic(auto)]
@@ -14,6 +14,7 @@ ghost use Rattle.drm_reason.specs.Laws.{AllCallsGoByReasons, EachHowIsTold, Each
 ghost use Rattle.drm_reason.specs.Retired.{RetiredStay};
 ghost use Rattle.drm_reason.specs.Watching.{KnowledgeStays};
 
+mod awaiting;
 mod looking;
 mod reason;
 mod released;

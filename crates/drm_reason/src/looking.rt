@@ -85,8 +85,8 @@ fn must_follow(job: &JobRecord, number: FenceId, earlier: &JobRecord) -> bool
     follows(&job.job, number, &earlier.job) || earlier.job.entity() == job.job.entity()
 }
 
-// Whether the job waits for this fence, and it is not met.
-fn waits_for(records: &[JobRecord], job: &JobRecord, number: FenceId) -> bool
+/// Whether the job waits for this fence, and it is not met.
+pub(crate) fn waits_for(records: &[JobRecord], job: &JobRecord, number: FenceId) -> bool
     ensures { result ≡ is_at records.now number (λ earlier. is_unmet job.now (number, earlier)) }
 {
     match records.get(number as usize) {
@@ -106,8 +106,8 @@ fn ends_after(records: &[JobRecord], job: &JobRecord, number: FenceId) -> bool
     }
 }
 
-// Of the fences that the job waits for and that are not met the least. There is none below the known number.
-fn first_unmet(
+/// Of the fences that the job waits for and that are not met the least. There is none below the known number.
+pub(crate) fn first_unmet(
     records: &[JobRecord],
     job: &JobRecord,
     fence: FenceId,

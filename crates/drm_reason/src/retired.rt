@@ -54,8 +54,8 @@ impl Retired {
         }
     }
 
-    // Makes a watch of the job of this number.
-    fn watch(self, device: &Device, fence: FenceId) -> Watch
+    /// Makes a watch of the job of this number, which looks at no job that has retired.
+    pub fn watch(self, device: &Device, fence: FenceId) -> Watch
         requires { AreRetired device.now.state self }
         ensures known { Knows device.now.state result }
         ensures fence { result.fence ≡ fence }
