@@ -1,5 +1,7 @@
 pub mod Fillings
+pub mod Known
 pub mod Pens
 pub mod Pieces
+pub mod Refused
 pub mod RowFacts
 pub mod Traced

@@ -1,4 +1,5 @@
 pub mod Filling
+pub mod Watches
 pub mod Entries
 pub mod Tracks
 pub mod Steps

@@ -7,6 +7,7 @@ use Rattle.drm_perfetto.specs.declared.lanes.Lane.TheVariants as lane
 use Rattle.drm_perfetto.specs.declared.lanes.Row.{Row}
 use Rattle.drm_perfetto.specs.declared.rows.Rows.{Rows}
 use Rattle.drm_perfetto.specs.Tracks.{count_of, shown}
+use Rattle.drm_perfetto.specs.Watches.{AreKnown}
 
 -- the row of this number
 abbrev pub row_at : List (Option Row) → ℕ → Option Row
@@ -17,7 +18,7 @@ abbrev pub AreRows : CoreState → Lane → List (Option Row) → Type 0
 AreRows core kind rows =
     (length rows ≡ count_of core.device.spec kind) × ((number : ℕ) → number < count_of core.device.spec kind → row_at rows number ≡ shown core kind number)
 
--- they are what all lanes show
+-- they are what all lanes show, and what is known of the first jobs in the queues is so
 pub record AllRows (core : CoreState) (rows : Rows) : Type 0 where
   pub wait : AreRows core lane.Wait rows.wait.items
   pub queue : AreRows core lane.Queue rows.queue.items
@@ -25,6 +26,7 @@ pub record AllRows (core : CoreState) (rows : Rows) : Type 0 where
   pub buffer : AreRows core lane.Buffer rows.buffer.items
   pub credits : AreRows core lane.Credits rows.credits.items
   pub queued : AreRows core lane.Queued rows.queued.items
+  pub known : AreKnown core.device rows.watches
 
 -- there are as many as lanes
 pub record HaveRoom (spec : DeviceSpec) (rows : Rows) : Type 0 where

@@ -44,6 +44,11 @@ named_of _ = naming_nothing
 
 -- ---- instants
 
+-- a command that was refused, which changes nothing
+abbrev pub is_refused : Answer → Bool
+is_refused (gives.Refused why) = true
+is_refused other = false
+
 -- a job that left its ring
 abbrev pub ended_instant : ℕ → ℕ → ℕ → Outcome → Entry
 ended_instant ring at fence outcome.Good = entry.Done ring at fence

@@ -7,8 +7,7 @@ use Rattle.drm_state.specs.declared.journal.JobRecord.{JobRecord}
 use Rattle.drm_state.specs.Arming.{load}
 use Rattle.drm_state.specs.Choice.{queue_of}
 use Rattle.drm_state.specs.Ring.{credit_limit_of, free_credits, head_of, pending_of}
-use Rattle.drm_reason.specs.declared.reason.Reason.{Reason}
-use Rattle.drm_reason.specs.declared.reason.Reason.TheVariants as reason
+use Rattle.drm_reason.specs.Awaited.{awaited_by}
 use Rattle.drm_reason.specs.Reasons.{reason_of}
 use Rattle.drm_core.specs.State.{CoreState}
 use Rattle.drm_core.specs.Context.{holder_of}
@@ -39,16 +38,15 @@ shown_in_queue core entity =
     (λ fence. record { what = fence; of = ring_of core.device.journal fence })
     (option_map (λ n. n.0) (first (queue_of entity core.device.journal)))
 
--- the row of a job that waits for a fence, if that is its reason: of those that are not met the least
-abbrev pub wait_row : ℕ → Reason → Option Row
-wait_row fence (reason.Waits earlier how ring queued) = Some (record { what = fence; of = earlier })
-wait_row fence _ = None
+-- the row of a job that waits for a fence
+abbrev pub wait_row : ℕ → Option ℕ → Option Row
+wait_row fence awaited = option_map (λ earlier. record { what = fence; of = earlier }) awaited
 
--- the first job in the queue of an entity, if it waits for a fence
+-- the first job in the queue of an entity, if it waits for a fence: of those that are not met the least
 abbrev pub shown_wait : CoreState → ℕ → Option Row
 shown_wait core entity =
     option_and_then
-    (λ fence. wait_row fence (reason_of core.device fence))
+    (λ fence. wait_row fence (awaited_by (reason_of core.device fence)))
     (option_map (λ n. n.0) (first (queue_of entity core.device.journal)))
 
 -- the context that holds a buffer

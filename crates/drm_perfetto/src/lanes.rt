@@ -3,9 +3,10 @@
 ghost use Rattle.std.specs.Prelude.{◌≡◌, ◌<◌, length};
 ghost use Rattle.drm_perfetto.specs.Tracks.{count_of, owner_of, ring_of, shown, shown_on_buffer, shown_in_queue, shown_on_ring, shown_credits, shown_queued, shown_wait, wait_row};
 ghost use Rattle.drm_core.specs.Context.{holder_of};
+ghost use Rattle.drm_perfetto.specs.Watches.{AreKnown};
 
+use crate::watches::Watches;
 use drm_core::Core;
-use drm_reason::{Reason, reason_of};
 use drm_types::{CtxId, EntityId, FenceId, RingId};
 
 /// The most entities or buffers of a device, which has fewer rings.
@@ -85,26 +86,31 @@ fn in_queue(core: &Core, entity: u32) -> Option<Row>
     }
 }
 
-// The row of a job that waits for a fence, if that is its reason.
-fn wait_row(fence: FenceId, reason: Reason) -> Option<Row>
-    ensures { result ≡ wait_row fence reason }
+// The row of a job that waits for a fence.
+fn wait_row(fence: FenceId, awaited: Option<FenceId>) -> Option<Row>
+    ensures { result ≡ wait_row fence awaited }
 {
-    match reason {
-        Reason::Waits { fence: earlier, .. } => Some(Row {
+    match awaited {
+        Some(earlier) => Some(Row {
             what: fence,
             of: earlier,
         }),
-        _ => None,
+        None => None,
     }
 }
 
 // The first job in the queue of an entity, if it waits for a fence.
-fn waiting(core: &Core, entity: u32) -> Option<Row>
-    requires { entity < length core.now.device.spec.entities }
-    ensures { result ≡ shown_wait core.now entity }
+fn waiting(core: &Core, watches: &mut Watches, entity: u32) -> Option<Row>
+    requires there { entity < length core.now.device.spec.entities }
+    requires known { AreKnown core.now.device watches.old }
+    ensures row { result ≡ shown_wait core.now entity }
+    ensures known { AreKnown core.now.device watches.new }
 {
     match core.device().head(entity) {
-        Some(fence) => wait_row(fence, reason_of(core.device(), fence)),
+        Some(fence) => {
+            let awaited = watches.awaited(core.device(), entity, fence);
+            wait_row(fence, awaited)
+        }
         None => None,
     }
 }
@@ -165,12 +171,14 @@ pub(crate) fn count(core: &Core, lane: Lane) -> u32
 }
 
 /// What a lane shows.
-pub(crate) fn shown(core: &Core, lane: Lane, number: u32) -> Option<Row>
-    requires { number < count_of core.now.device.spec lane }
-    ensures { result ≡ shown core.now lane number }
+pub(crate) fn shown(core: &Core, watches: &mut Watches, lane: Lane, number: u32) -> Option<Row>
+    requires there { number < count_of core.now.device.spec lane }
+    requires known { AreKnown core.now.device watches.old }
+    ensures row { result ≡ shown core.now lane number }
+    ensures known { AreKnown core.now.device watches.new }
 {
     match lane {
-        Lane::Wait => waiting(core, number),
+        Lane::Wait => waiting(core, watches, number),
         Lane::Queue => in_queue(core, number),
         Lane::Ring => on_ring(core, number),
         Lane::Buffer => on_buffer(core, number),

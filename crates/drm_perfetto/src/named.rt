@@ -1,7 +1,7 @@
 //! What a command names, and what an instant tells of it and its answer.
 
 ghost use Rattle.std.specs.Prelude.{◌≡◌};
-ghost use Rattle.drm_perfetto.specs.Steps.{cause_of, done_instant, ended_instant, instant_of, named_of, naming_nothing};
+ghost use Rattle.drm_perfetto.specs.Steps.{cause_of, done_instant, ended_instant, instant_of, is_refused as is_refused_in, named_of, naming_nothing};
 ghost use Rattle.drm_perfetto.specs.Tracks.{owner_of};
 
 use crate::entry::{Entry, Track};
@@ -97,6 +97,16 @@ fn done_instant(named: Named, at: u64) -> Option<Entry>
         })
     } else {
         None
+    }
+}
+
+/// Whether a command was refused.
+pub(crate) fn is_refused(answer: &Answer) -> bool
+    ensures { result ≡ is_refused_in answer.now }
+{
+    match answer {
+        Answer::Refused(_) => true,
+        _ => false,
     }
 }
 

@@ -6,11 +6,13 @@ ghost use Rattle.drm_perfetto.specs.Pens.{AddsEntries};
 ghost use Rattle.drm_perfetto.specs.Rows.{AllRows, AreRows, HaveRoom, row_at};
 ghost use Rattle.drm_perfetto.specs.Steps.{all_changes, arrow, arrow_between, begun, changed, credits_entry, each, ended, is_same, queued_entry, recounted, turned};
 ghost use Rattle.drm_perfetto.specs.Tracks.{count_of, shown};
+ghost use Rattle.drm_perfetto.specs.Watches.{AreKnown};
 ghost use Rattle.drm_perfetto.specs.declared.lanes.Lane.TheVariants as kind;
 
 use crate::entry::{Entry, Track, When};
 use crate::lanes::{Lane, Row, count, shown};
 use crate::pen::Pen;
+use crate::watches::Watches;
 use drm_core::Core;
 use drm_stream::Sink;
 use std::alloc::{AllocError, Global};
@@ -25,15 +27,25 @@ pub struct Rows {
     pub buffer: Vec<Option<Row>>,
     pub credits: Vec<Option<Row>>,
     pub queued: Vec<Option<Row>>,
+    /// What is known of the first job in the queue of each entity.
+    pub watches: Watches,
 }
 
 // What the lanes of a kind show.
-fn rows_of(alloc: Global, core: &Core, lane: Lane) -> Result<Vec<Option<Row>>, AllocError>
-    ensures { IfOk result (λ rows. AreRows core.now lane rows.items) }
+fn rows_of(
+    alloc: Global,
+    core: &Core,
+    watches: &mut Watches,
+    lane: Lane,
+) -> Result<Vec<Option<Row>>, AllocError>
+    requires { AreKnown core.now.device watches.old }
+    ensures rows { IfOk result (λ rows. AreRows core.now lane rows.items) }
+    ensures known { AreKnown core.now.device watches.new }
 {
     let mut rows = Vec::new(alloc);
     for number in 0..count(core, lane) {
-        rows.push(shown(core, lane, number))?;
+        let row = shown(core, watches, lane, number);
+        rows.push(row)?;
     }
     Ok(rows)
 }
@@ -245,16 +257,19 @@ fn follow<W: Write>(
     core: &Core,
     when: When,
     cause: Option<Track>,
+    watches: &mut Watches,
     lane: Lane,
     rows: &mut Vec<Option<Row>>,
 )
     requires room { length rows.old.items ≡ count_of core.now.device.spec lane }
+    requires known { AreKnown core.now.device watches.old }
     ensures entries { AddsEntries pen.old writer.old (each (count_of core.now.device.spec lane) (λ n. changed lane when cause n (row_at rows.old.items n) (shown core.now lane n))) pen.new writer.new }
     ensures rows { AreRows core.now lane rows.new.items }
+    ensures known { AreKnown core.now.device watches.new }
 {
     for number in 0..count(core, lane) {
         let old = row_at(rows.as_slice(), number);
-        let new = shown(core, lane, number);
+        let new = shown(core, watches, lane, number);
         put_changed(pen, writer, lane, when, cause, number, old, new);
         rows[number as usize] = new;
     }
@@ -265,13 +280,15 @@ impl Rows {
     pub(crate) fn of(alloc: Global, core: &Core) -> Result<Rows, AllocError>
         ensures { IfOk result (λ rows. AllRows core.now rows) }
     {
+        let mut watches = Watches::of(alloc, count(core, Lane::Wait))?;
         Ok(Rows {
-            wait: rows_of(alloc, core, Lane::Wait)?,
-            queue: rows_of(alloc, core, Lane::Queue)?,
-            ring: rows_of(alloc, core, Lane::Ring)?,
-            buffer: rows_of(alloc, core, Lane::Buffer)?,
-            credits: rows_of(alloc, core, Lane::Credits)?,
-            queued: rows_of(alloc, core, Lane::Queued)?,
+            wait: rows_of(alloc, core, &mut watches, Lane::Wait)?,
+            queue: rows_of(alloc, core, &mut watches, Lane::Queue)?,
+            ring: rows_of(alloc, core, &mut watches, Lane::Ring)?,
+            buffer: rows_of(alloc, core, &mut watches, Lane::Buffer)?,
+            credits: rows_of(alloc, core, &mut watches, Lane::Credits)?,
+            queued: rows_of(alloc, core, &mut watches, Lane::Queued)?,
+            watches,
         })
     }
 
@@ -285,18 +302,49 @@ impl Rows {
         cause: Option<Track>,
     )
         requires room { HaveRoom core.now.device.spec self.old }
+        requires known { AreKnown core.now.device self.old.watches }
         ensures entries { (old : CoreState) → old.device.spec ≡ core.now.device.spec → AllRows old self.old → AddsEntries pen.old writer.old (all_changes when cause old core.now) pen.new writer.new }
         ensures rows { AllRows core.now self.new }
     {
-        follow(pen, writer, core, when, cause, Lane::Wait, &mut self.wait);
-        follow(pen, writer, core, when, cause, Lane::Queue, &mut self.queue);
-        follow(pen, writer, core, when, cause, Lane::Ring, &mut self.ring);
+        let watches = &mut self.watches;
+        watches.advance(core.device());
         follow(
             pen,
             writer,
             core,
             when,
             cause,
+            watches,
+            Lane::Wait,
+            &mut self.wait,
+        );
+        follow(
+            pen,
+            writer,
+            core,
+            when,
+            cause,
+            watches,
+            Lane::Queue,
+            &mut self.queue,
+        );
+        follow(
+            pen,
+            writer,
+            core,
+            when,
+            cause,
+            watches,
+            Lane::Ring,
+            &mut self.ring,
+        );
+        follow(
+            pen,
+            writer,
+            core,
+            when,
+            cause,
+            watches,
             Lane::Buffer,
             &mut self.buffer,
         );
@@ -306,6 +354,7 @@ impl Rows {
             core,
             when,
             cause,
+            watches,
             Lane::Credits,
             &mut self.credits,
         );
@@ -315,6 +364,7 @@ impl Rows {
             core,
             when,
             cause,
+            watches,
             Lane::Queued,
             &mut self.queued,
         );

@@ -1,6 +1,6 @@
 //! The engine `trace`: from a script to the trace of what its commands do.
 
-ghost use Rattle.std.specs.Prelude.{◌≡◌, ◌++◌, [], None, flat_map};
+ghost use Rattle.std.specs.Prelude.{◌≡◌, ◌++◌, [], IsTrue, None, flat_map};
 ghost use Rattle.drm_types.specs.Limits.{spec_fault};
 ghost use Rattle.drm_job.specs.declared.Draft.{Draft};
 ghost use Rattle.drm_core.specs.Run.{AllNamesExist};
@@ -14,17 +14,19 @@ ghost use Rattle.drm_perfetto.specs.Entries.{text_of};
 ghost use Rattle.drm_perfetto.specs.Pens.{Adds, AddsEntries};
 ghost use Rattle.drm_perfetto.specs.Rows.{AllRows, HaveRoom};
 ghost use Rattle.drm_perfetto.specs.Runs.{IsTracedAs};
-ghost use Rattle.drm_perfetto.specs.Steps.{all_changes, cause_of, instant_of, named_of, step_entries};
+ghost use Rattle.drm_perfetto.specs.Steps.{all_changes, cause_of, instant_of, is_refused, named_of, step_entries};
+ghost use Rattle.drm_perfetto.specs.Watches.{AreKnown};
 ghost use Rattle.drm_perfetto.specs.Traces.{Traces, TracesScript, names_of, names_of_lane, text_of_trace, track_of};
 
 use crate::clock::Clock;
 use crate::entry::{Entry, Track, When};
 use crate::lanes::{Lane, count};
-use crate::named::{Named, cause, instant, names};
+use crate::named::{Named, cause, instant, is_refused, names};
 use crate::pen::Pen;
 use crate::rows::Rows;
 use drm_core::{Answer, Core, every_run_is_lawful, headline};
 use drm_engine::{Ending, Piece, WriteFailed};
+use drm_reason::{knowledge_stays, retired_stay};
 use drm_script::{Events, Script, read_script_from};
 use drm_stream::{Sink, Source};
 use std::alloc::Global;
@@ -73,7 +75,8 @@ fn put_all_names<W: Write>(pen: &mut Pen, writer: &mut Sink<W>, core: &Core)
     put_names(pen, writer, core, Lane::Buffer);
 }
 
-// Puts what a step adds: the core has taken the command, and the rows are still those of before.
+// Puts what a step adds: the core has taken the command, and the rows are still those of before. A command that was
+// refused has changed nothing.
 fn put_step<W: Write>(
     pen: &mut Pen,
     writer: &mut Sink<W>,
@@ -84,9 +87,14 @@ fn put_step<W: Write>(
     answer: &Answer,
 )
     requires room { HaveRoom core.now.device.spec rows.old }
-    ensures entries { (old : CoreState) (event : Happening Draft) → old.device.spec ≡ core.now.device.spec → AllRows old rows.old → named ≡ named_of event → AddsEntries pen.old writer.old (step_entries when old event answer.now core.now) pen.new writer.new }
+    requires known { AreKnown core.now.device rows.old.watches }
+    requires refused { IsTrue (is_refused answer.now) → AllRows core.now rows.old }
+    ensures entries { (old : CoreState) (event : Happening Draft) → old.device.spec ≡ core.now.device.spec → AllRows old rows.old → named ≡ named_of event → (IsTrue (is_refused answer.now) → core.now ≡ old) → AddsEntries pen.old writer.old (step_entries when old event answer.now core.now) pen.new writer.new }
     ensures rows { AllRows core.now rows.new }
 {
+    if is_refused(answer) {
+        return;
+    }
     pen.put_any(writer, instant(named, when.at, answer));
     let cause = cause(core, named, answer);
     rows.put_changes(pen, writer, core, when, cause);
@@ -106,6 +114,8 @@ fn put_steps<W: Write>(
     requires rows { AllRows core.old rows.old }
     ensures { IsTracedAs by core.old events core.new (λ entries. AddsEntries pen.old writer.old entries pen.new writer.new) }
 {
+    knowledge_stays();
+    retired_stay();
     let mut command = 0u64;
     let mut at = 0u64;
     let mut rest = events.into_left();

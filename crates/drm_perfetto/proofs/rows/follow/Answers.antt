@@ -11,6 +11,7 @@ use Rattle.drm_perfetto.proofs.rows.follow.Goals as goal
 pub loop-number-init : goal.loop-number-init
 loop-number-init g c = record {
   room = c.requires.room;
+  known = c.requires.known;
   done = λ n lt. absurd (omega (arith, lt));
   left = λ n from. refl;
   entries = entries_none c.args.pen.now c.args.writer.now;
@@ -27,10 +28,11 @@ loop-number-preserved g c =
     let told = λ (n : ℕ). changed lane c.args.when c.args.cause n (row_at was n) (shown core lane n) in
     let within : k < length rows = omega (arith, c.loop-number.invariant.room, c.count-number-end.ensures, c.loop-number-test.true) in
     let old : c.row_at-old.result ≡ row_at was k = c.row_at-old.ensures ∙ ap (λ (rs : _). row_at rs k) c.as_slice.ensures.value ∙ c.loop-number.invariant.left k (omega arith) in
-    let put = ap (λ (r : Option Row). changed lane c.args.when c.args.cause k r now) old ∙ ap (λ (r : Option Row). changed lane c.args.when c.args.cause k (row_at was k) r) c.shown-new.ensures in
+    let put = ap (λ (r : Option Row). changed lane c.args.when c.args.cause k r now) old ∙ ap (λ (r : Option Row). changed lane c.args.when c.args.cause k (row_at was k) r) c.shown-new.ensures.row in
     record {
       room = length-set rows k now ∙ c.loop-number.invariant.room;
-      done = rows_done rows now (shown core lane) k within c.loop-number.invariant.done c.shown-new.ensures;
+      known = c.shown-new.ensures.known;
+      done = rows_done rows now (shown core lane) k within c.loop-number.invariant.done c.shown-new.ensures.row;
       left = rows_left rows was now k c.loop-number.invariant.left;
       entries = entries_same (each_more k told) (entries_more c.loop-number.invariant.entries (entries_same put c.put_changed.ensures));
     }

@@ -25,4 +25,5 @@ returns-clause-rows g c = record {
   buffer = c.follow-4.ensures.rows;
   credits = c.follow-5.ensures.rows;
   queued = c.follow-6.ensures.rows;
+  known = c.follow-6.ensures.known;
 }
