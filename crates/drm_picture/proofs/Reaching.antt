@@ -5,7 +5,7 @@ use Rattle.std.specs.List.{All, cons_option, filter_map}
 use Rattle.std.specs.Option.{option_map_or}
 use Rattle.std.proofs.lemmas.Bool.{leb-true, ltb-true}
 use Rattle.std.proofs.lemmas.List.{take-append-drop}
-use Rattle.std.proofs.lemmas.List.Elements.{All-append, All-head, All-tail, All-take, filter_map-append}
+use Rattle.std.proofs.lemmas.List.Elements.{All-head, All-more, All-tail, All-take, filter_map-append}
 use Rattle.drm_types.specs.declared.access.Access.{Access}
 use Rattle.drm_core.proofs.Lists.{get_push_cases}
 use Rattle.drm_picture.specs.Latest.{end_of, latest_end}
@@ -17,7 +17,6 @@ use Rattle.drm_picture.specs.declared.command.Request.{Request}
 use Rattle.drm_picture.specs.declared.command.Step.{Step}
 use Rattle.drm_picture.specs.declared.waits.Earlier.{Earlier}
 use Rattle.drm_picture.proofs.Latest.{either, not_lt}
-use Rattle.drm_picture.proofs.Places.{take-more}
 
 -- none of these bars ends behind this place
 abbrev pub EndBy : ℕ → List Bar → Type 0
@@ -43,16 +42,11 @@ reaches_front bars front reaches n is are place reach at =
     subst (λ (l : List Bar). EndBy reach (take (place + 1) l)) (sym is)
     (subst (EndBy reach) (sym (take-swap (place + 1) n bars)) (All-take (λ bar. end_of bar ≤ reach) n (take (place + 1) bars) (are place reach at)))
 
-single : (bar : Bar) (reach : ℕ) → end_of bar ≤ reach → EndBy reach (bar ∷ [])
-single bar reach le zero d within = le
-single bar reach le (suc k) d within = absurd (omega (arith, within))
-
 -- one bar more
-pub reach_more : (bars : List Bar) (place : ℕ) (bar : Bar) (reach next : ℕ) → place < length bars → bar ≡ get_or bars place bar → next ≡ max (end_of bar) reach
+pub reach_more : (bars : List Bar) (place : ℕ) (d : Bar) (reach next : ℕ) → place < length bars → next ≡ max (end_of (get_or bars place d)) reach
     → EndBy reach (take place bars) → EndBy next (take (place + 1) bars)
-reach_more bars place bar reach next within found is all =
-    subst (EndBy next) (sym (take-more bars place bar within found))
-    (All-append (λ bar. end_of bar ≤ next) (take place bars) (bar ∷ []) (end_by_later reach next (take place bars) (omega (arith, is)) all) (single bar next (omega (arith, is))))
+reach_more bars place d reach next within is all =
+    All-more (λ (bar : Bar). end_of bar ≤ next) bars place d within (end_by_later reach next (take place bars) (omega (arith, is)) all) (omega (arith, is))
 
 pub reaches_more : (bars : List Bar) (reaches : List ℕ) (place next : ℕ) → length reaches ≡ place → EndBy next (take (place + 1) bars) → AreReaches bars reaches
     → AreReaches bars (reaches ++ next ∷ [])

@@ -12,7 +12,7 @@ use Rattle.drm_picture.proofs.Fences.{fences-end}
 use Rattle.drm_picture.proofs.picture.picture_of.Goals as goal
 
 pub reaches-requires : goal.reaches-requires
-reaches-requires c = subst (All (EndsIn c.run_before-run.result.now)) (sym c.in_ok-fences.ensures) (fences-end c.args.from c.run_before-run.result.now)
+reaches-requires c = subst (All (EndsIn c.run_before-run.result.now)) (sym (c.deref.ensures.value ∙ c.in_ok-fences.ensures)) (fences-end c.args.from c.run_before-run.result.now)
 
 pub returns : goal.returns
 returns c =

@@ -12,7 +12,7 @@ loop-bar-preserved c =
     let reaches = c.loop-bar.reaches.items in
     let so = c.loop-bar.invariant in
     let pushed : c.push.new.self.items ≡ reaches ++ next ∷ [] = c.in_ok-push.ensures.items in
-    let all = reach_more fences i c.bar-item.result c.loop-bar.reach next (omega arith) c.bar-item.is c.later-reach.ensures so.all in
+    let all = reach_more fences i _ c.loop-bar.reach next (omega arith) c.later-reach.ensures so.all in
     record {
       count = rw pushed (omega (arith, so.count, length-append reaches (next ∷ [])));
       all = all;
