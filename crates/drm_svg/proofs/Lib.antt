@@ -3,3 +3,4 @@ pub mod Places
 pub mod Columns
 pub mod Rows
 pub mod Lanes
+pub mod Plain

@@ -62,10 +62,18 @@ abbrev pub packets_text : Kind → ℕ → List ℕ
 packets_text kind.Job packets = PACKETS.now ++ decimal packets
 packets_text _ packets = []
 
--- what a bar of a job or of none tells: what it is of, whose job it is and what that does with which buffers, the commands that begin and
--- end it and their moments, and how it ended
-unfoldable pub title_of : Option Request → Bar → List ℕ
-title_of job bar =
+-- what a bar of a job or of none tells up to how it ended: what it is of, whose job it is and what that does with which buffers, and the
+-- commands that begin and end it and their moments
+unfoldable pub front_of : Option Request → Bar → List ℕ
+front_of job bar =
     subject_text bar.kind bar.opening.lane bar.opening.number ++ owner_text bar.kind job ++ uses_text job
     ++ begins_of bar.kind ++ decimal bar.from ++ moment_text bar.began
-    ++ last_text bar.kind bar ++ packets_text bar.kind bar.packets ++ codes " -> " ++ word_of_look bar.look
+    ++ last_text bar.kind bar ++ packets_text bar.kind bar.packets
+
+-- the same, and how it ended
+unfoldable pub title_of : Option Request → Bar → List ℕ
+title_of job bar = front_of job bar ++ (codes " -> " ++ word_of_look bar.look)
+
+-- how it ended, with what stands for the arrow in markup
+unfoldable pub arrow_text : Look → List ℕ
+arrow_text look = codes " -&gt; " ++ word_of_look look

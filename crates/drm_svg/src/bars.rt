@@ -5,13 +5,12 @@ ghost use Rattle.std.specs.Prelude.{◌≡◌, ◌++◌, IfOk, OnOk};
 ghost use Rattle.drm_svg.specs.Bars.{bar_text, bars_text, class_of, class_of_entity, colour_text, entity_label, fits, halt_place_text, halt_text, halts_text, label_of, label_text, line_of, paint_text, place_text, text_at, title_text};
 ghost use Rattle.drm_svg.specs.Owners.{job_of, letters_text};
 
-use crate::escape::put_escaped;
 use crate::layout::Layout;
 use crate::owners::{job, put_letters};
 use crate::placing::{Placed, bar_in_row};
 use crate::signs::{kind_class, look_sign, look_word};
 use crate::text::{put_number, put_text};
-use crate::titles::title;
+use crate::titles::put_told;
 use drm_picture::{Bar, Kind, Look, Picture, Request};
 use drm_types::EntityId;
 use std::alloc::{AllocError, Global};
@@ -27,6 +26,9 @@ const HEIGHT: &str = "0' height='8'/>";
 
 /// The height of the bar of an entity that was stopped, which leaves room for marks.
 const HALT_HEIGHT: &str = "0' height='1'/></g>\n";
+
+/// The room for a label, which most find enough.
+const LABEL: usize = 64;
 
 /// The end of a bar.
 const GROUP_END: &str = "</g>\n";
@@ -49,7 +51,7 @@ fn put_entity(out: &mut Vec<u8>, kind: Kind, job: Option<&Request>) -> Result<()
 fn label(alloc: Global, job: Option<&Request>, bar: &Bar) -> Result<Vec<u8>, AllocError>
     ensures { IfOk result (λ label. label.items ≡ label_of (option_copied job.entry) bar.now) }
 {
-    let mut label = Vec::new(alloc);
+    let mut label = Vec::with_capacity(alloc, LABEL)?;
     put_number(&mut label, u64::from(bar.opening.number))?;
     put_entity(&mut label, bar.kind, job)?;
     put_text(&mut label, look_sign(bar.look))?;
@@ -120,18 +122,16 @@ fn skipped(bar: &Bar) -> &'static str
 // Puts what a bar tells, as its title.
 #[tactic(auto, unfolding(crate::specs::Bars::title_text))]
 fn put_title(
-    alloc: Global,
     out: &mut Vec<u8>,
     job: Option<&Request>,
     bar: &Bar,
 ) -> Result<(), AllocError>
     ensures { OnOk result (out.new.items ≡ out.old.items ++ title_text (option_copied job.entry) bar.now) }
 {
-    let told = title(alloc, job, bar)?;
     put_text(out, "<g class='")?;
     put_text(out, kind_class(bar.kind))?;
     put_text(out, TITLE)?;
-    put_escaped(out, &told)
+    put_told(out, job, bar)
 }
 
 // Puts the place and the size of a bar.
@@ -189,7 +189,7 @@ fn put_bar(
 ) -> Result<(), AllocError>
     ensures { OnOk result (out.new.items ≡ out.old.items ++ bar_text (option_copied job.entry) bar.now) }
 {
-    put_title(alloc, out, job, &bar.bar)?;
+    put_title(out, job, &bar.bar)?;
     put_colour(out, job, &bar.bar)?;
     put_place(out, bar)?;
     put_label(alloc, out, job, bar)?;
@@ -250,17 +250,16 @@ fn put_halt_place(out: &mut Vec<u8>, bar: &Placed) -> Result<(), AllocError>
 
 // Puts the bar of an entity that was stopped.
 #[tactic(auto, unfolding(crate::specs::Bars::halt_text))]
-fn put_halt(alloc: Global, out: &mut Vec<u8>, bar: &Placed) -> Result<(), AllocError>
+fn put_halt(out: &mut Vec<u8>, bar: &Placed) -> Result<(), AllocError>
     ensures { OnOk result (out.new.items ≡ out.old.items ++ halt_text bar.now) }
 {
-    put_title(alloc, out, None, &bar.bar)?;
+    put_title(out, None, &bar.bar)?;
     put_colour(out, None, &bar.bar)?;
     put_halt_place(out, bar)
 }
 
 /// Puts the bars of the entities that were stopped, each in the header of its lane.
 pub(crate) fn put_halts(
-    alloc: Global,
     out: &mut Vec<u8>,
     picture: &Picture,
     layout: &Layout,
@@ -269,7 +268,7 @@ pub(crate) fn put_halts(
 {
     for bar in &picture.stopped {
         let row = layout.row(bar.opening.lane);
-        put_halt(alloc, out, &bar_in_row(picture, row, bar))?;
+        put_halt(out, &bar_in_row(picture, row, bar))?;
     }
     Ok(())
 }

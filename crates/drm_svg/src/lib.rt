@@ -8,7 +8,6 @@
 #![tactic(auto)]
 
 mod bars;
-mod escape;
 mod fences;
 mod head;
 mod layout;

@@ -166,6 +166,6 @@ pub fn put_inside(
     put_fences(alloc, out, picture, layout)?;
     put_columns(out, picture.first, &picture.columns)?;
     put_waits(out, picture, layout)?;
-    put_halts(alloc, out, picture, layout)?;
+    put_halts(out, picture, layout)?;
     put_marks(out, picture, layout)
 }

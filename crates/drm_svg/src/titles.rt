@@ -1,16 +1,17 @@
 //! What the browser tells of a bar where the mouse rests on it.
 
 ghost use Rattle.std.specs.Option.{option_copied};
-ghost use Rattle.std.specs.Prelude.{◌≡◌, ◌++◌, IfOk, OnOk, decimal};
+ghost use Rattle.std.specs.Prelude.{◌≡◌, ◌++◌, OnOk, decimal};
+ghost use Rattle.drm_svg.specs.Escape.{escaped};
 ghost use Rattle.drm_svg.specs.Signs.{name_of};
-ghost use Rattle.drm_svg.specs.Titles.{begins_of, end_text, ends_of, last_text, moment_text, owner_text, packets_text, subject_text, title_of};
+ghost use Rattle.drm_svg.specs.Titles.{arrow_text, begins_of, end_text, ends_of, front_of, last_text, moment_text, owner_text, packets_text, subject_text, title_of};
 
 use crate::owners::put_uses;
 use crate::signs::look_word;
 use crate::text::{put_later, put_name, put_number, put_text};
 use drm_picture::{Bar, Kind, Lane, Look, Request};
 use drm_types::Moment;
-use std::alloc::{AllocError, Global};
+use std::alloc::AllocError;
 
 /// How many packets ran.
 const PACKETS: &str = ", packets run: ";
@@ -129,21 +130,39 @@ fn put_packets(out: &mut Vec<u8>, kind: Kind, packets: usize) -> Result<(), Allo
     }
 }
 
-// What a bar tells, of a job or of none.
-#[tactic(auto, unfolding(crate::specs::Titles::title_of))]
-pub(crate) fn title(alloc: Global, job: Option<&Request>, bar: &Bar) -> Result<Vec<u8>, AllocError>
-    ensures { IfOk result (λ text. text.items ≡ title_of (option_copied job.entry) bar.now) }
+// Puts what a bar tells up to how it ended. No byte of it has to be escaped.
+#[tactic(auto, unfolding(crate::specs::Titles::front_of))]
+fn put_front(out: &mut Vec<u8>, job: Option<&Request>, bar: &Bar) -> Result<(), AllocError>
+    ensures { OnOk result (out.new.items ≡ out.old.items ++ front_of (option_copied job.entry) bar.now) }
 {
-    let mut text = Vec::new(alloc);
-    put_subject(&mut text, bar.kind, bar.opening.lane, bar.opening.number)?;
-    put_owner(&mut text, bar.kind, job)?;
-    put_uses(&mut text, job)?;
-    put_text(&mut text, begins(bar.kind))?;
-    put_number(&mut text, bar.from as u64)?;
-    put_moment(&mut text, bar.began)?;
-    put_last(&mut text, bar)?;
-    put_packets(&mut text, bar.kind, bar.packets)?;
-    put_text(&mut text, " -> ")?;
-    put_text(&mut text, look_word(bar.look))?;
-    Ok(text)
+    put_subject(out, bar.kind, bar.opening.lane, bar.opening.number)?;
+    put_owner(out, bar.kind, job)?;
+    put_uses(out, job)?;
+    put_text(out, begins(bar.kind))?;
+    put_number(out, bar.from as u64)?;
+    put_moment(out, bar.began)?;
+    put_last(out, bar)?;
+    put_packets(out, bar.kind, bar.packets)
+}
+
+// Puts how a bar ended, behind an arrow that is escaped.
+#[tactic(auto, unfolding(crate::specs::Titles::arrow_text))]
+fn put_arrow(out: &mut Vec<u8>, look: Look) -> Result<(), AllocError>
+    ensures { OnOk result (out.new.items ≡ out.old.items ++ arrow_text look) }
+{
+    put_text(out, " -&gt; ")?;
+    put_text(out, look_word(look))
+}
+
+/// Puts what a bar tells, of a job or of none, as a text of markup. Of all its bytes only the head of the arrow has to be
+/// escaped, so nothing is put twice.
+pub(crate) fn put_told(
+    out: &mut Vec<u8>,
+    job: Option<&Request>,
+    bar: &Bar,
+) -> Result<(), AllocError>
+    ensures { OnOk result (out.new.items ≡ out.old.items ++ escaped (title_of (option_copied job.entry) bar.now)) }
+{
+    put_front(out, job, bar)?;
+    put_arrow(out, bar.look)
 }
