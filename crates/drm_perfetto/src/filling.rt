@@ -6,9 +6,10 @@ ghost use Rattle.drm_perfetto.specs.Filling.{filled};
 
 use drm_engine::{Piece, WriteFailed};
 use drm_stream::Sink;
+use memchr::memchr;
 use std::io::Write;
 
-/// Puts these bytes.
+/// Puts these bytes, all at once where there is room for them.
 pub(crate) fn put_bytes<W: Write>(
     piece: &mut Piece,
     writer: &mut Sink<W>,
@@ -16,6 +17,11 @@ pub(crate) fn put_bytes<W: Write>(
 ) -> Result<(), WriteFailed>
     ensures { Told writer.old writer.new result (piece.old ++ bytes.now) piece.new }
 {
+    let count = bytes.len();
+    if 0 < count && count <= piece.room() {
+        piece.put_all(bytes);
+        return Ok(());
+    }
     for byte in bytes {
         piece.push(writer, *byte)?;
     }
@@ -65,14 +71,14 @@ pub(crate) fn put_filled<W: Write>(
 ) -> Result<(), WriteFailed>
     ensures { Told writer.old writer.new result (piece.old ++ filled words.now numbers.now) piece.new }
 {
+    let mut start = 0;
     let mut left = numbers;
-    for byte in words {
-        if *byte == b'%' {
-            put_first(piece, writer, left)?;
-            left = behind_first(left);
-        } else {
-            piece.push(writer, *byte)?;
-        }
+    while let Some(more) = memchr(b'%', &words[start..]) {
+        let place = start + more;
+        put_bytes(piece, writer, &words[start..place])?;
+        put_first(piece, writer, left)?;
+        left = behind_first(left);
+        start = place + 1;
     }
-    Ok(())
+    put_bytes(piece, writer, &words[start..])
 }

@@ -1,64 +1,83 @@
-use Rattle.std.proofs.Common.{◌∷◌, ◌++◌, ◌+◌, ◌∙◌, [], drop, flat_map, get_or, refl, take}
+use Rattle.std.proofs.Common.{◌≡◌, ◌++◌, ◌+◌, ◌<◌, ◌∙◌, [], ℕ, List, ap, arith, drop, length, flat_map, refl, subst, take, length-drop}
 use Rattle.std.specs.Fmt.{decimal}
 use Rattle.std.proofs.lemmas.Result.{err_from_is_err_and}
+use Rattle.drm_engine.specs.Replaying.{Told}
 use Rattle.drm_perfetto.specs.Filling.{filled}
-use Rattle.drm_perfetto.proofs.Fillings.{all_filled, byte_next, number_next}
-use Rattle.drm_perfetto.proofs.Pieces.{said_front, said_so_far, told_nothing}
+use Rattle.drm_perfetto.proofs.Fillings.{all_filled, are_words, between, is_marked, number_next, words_from, words_next}
+use Rattle.drm_perfetto.proofs.Pieces.{said_front, said_more, said_so_far, told_nothing}
 use Rattle.drm_perfetto.proofs.filling.put_filled.Goals as goal
-use Rattle.drm_perfetto.proofs.filling.put_filled.Goals.{then-byte-eq37+in_ok-put_first, else-byte-eq37+in_ok-push}
 
-pub loop-byte-init : goal.loop-byte-init
-loop-byte-init g c = ([], refl, told_nothing c.args.writer.now c.args.piece.now)
+pub loop-more-init : goal.loop-more-init
+loop-more-init g c = ([], refl, told_nothing c.args.writer.now c.args.piece.now, omega arith)
 
-pub loop-byte-preserved : goal.loop-byte-preserved
-loop-byte-preserved g c =
+pub loop-more-preserved : goal.loop-more-preserved
+loop-more-preserved g c =
     let words = c.args.words.now in
-    let place = c.loop-byte.byte-index in
-    let left = c.loop-byte.left.now in
-    let said = c.loop-byte.invariant.0 in
-    let so = c.loop-byte.invariant.1 in
-    let told = c.loop-byte.invariant.2 in
-    let byte = get_or words place 0 in
+    let start = c.loop-more.start in
+    let more = c.in-Some.more in
+    let place = start + more in
+    let left = c.loop-more.left.now in
+    let said = c.loop-more.invariant.0 in
+    let hay = words_from words start in
+    let inside : place < length words = omega (arith, c.in-Some.ensures.0.high, ap length hay, length-drop start words) in
+    let none = are_words words (between words start (length words)) start more place hay refl c.in-Some.ensures.0.before in
+    let mark = is_marked words (between words start (length words)) start more place hay refl c.in-Some.ensures.1 in
     let number = flat_map decimal (take 1 left) in
-    elim c.if-byte-eq37.branch [
-      | then-byte-eq37+in_ok-put_first w ↦ rw (w.left-is, w.piece-is, w.writer-is) (
-        said ++ number,
-        number_next words place byte said (said ++ number) left w.behind_first-left.result.now c.loop-byte-test.true refl w.if-byte-eq37.true refl w.behind_first-left.ensures ∙ so,
-        said_so_far c.args.writer.now c.loop-byte.writer w.put_first.new.writer c.args.piece.now said number c.loop-byte.piece w.put_first.new.piece told w.in_ok-put_first.ensures,
-      )
-      | else-byte-eq37+in_ok-push w ↦ rw (w.left-is, w.piece-is, w.writer-is) (
-        said ++ byte ∷ [],
-        byte_next words place byte said (said ++ byte ∷ []) left c.loop-byte-test.true refl w.if-byte-eq37.false refl ∙ so,
-        said_so_far c.args.writer.now c.loop-byte.writer w.push.new.writer c.args.piece.now said (byte ∷ []) c.loop-byte.piece w.push.new.self told w.in_ok-push.ensures,
-      )
-    ]
+    rw c.behind_first-left.ensures (
+      (said ++ between words start place) ++ number,
+      number_next words c.args.numbers.now left said start more place refl inside none mark c.loop-more.invariant.1,
+      said_so_far c.args.writer.now c.put_bytes.new.writer c.put_first.new.writer c.args.piece.now (said ++ between words start place) number c.put_bytes.new.piece c.put_first.new.piece
+          (said_so_far c.args.writer.now c.loop-more.writer c.put_bytes.new.writer c.args.piece.now said (between words start place) c.loop-more.piece c.put_bytes.new.piece c.loop-more.invariant.2
+          c.in_ok-put_bytes.ensures)
+          c.in_ok-put_first.ensures,
+      omega (arith, inside),
+    )
+
+pub returns-in_err-put_bytes : goal.returns-in_err-put_bytes
+returns-in_err-put_bytes g c =
+    let p = err_from_is_err_and c.from_residual.result c.from_residual.ensures.1 in
+    let words = c.args.words.now in
+    let start = c.loop-more.start in
+    let more = c.in-Some.more in
+    let place = start + more in
+    let left = c.loop-more.left.now in
+    let said = c.loop-more.invariant.0 in
+    let hay = words_from words start in
+    let inside : place < length words = omega (arith, c.in-Some.ensures.0.high, ap length hay, length-drop start words) in
+    let none = are_words words (between words start (length words)) start more place hay refl c.in-Some.ensures.0.before in
+    rw p.1 (said_front c.args.writer.now c.loop-more.writer c.put_bytes.new.writer c.args.piece.now said (between words start place) (filled (drop place words) left) _ c.loop-more.piece
+    c.loop-more.invariant.2 c.in_err-put_bytes.ensures
+    (words_next words c.args.numbers.now left said start more place refl (omega (arith, inside)) none c.loop-more.invariant.1))
 
 pub returns-in_err-put_first : goal.returns-in_err-put_first
 returns-in_err-put_first g c =
-    let p = err_from_is_err_and c.from_residual.result c.from_residual.ensures.1 in
+    let p = err_from_is_err_and c.from_residual-in_err-put_first.result c.from_residual-in_err-put_first.ensures.1 in
     let words = c.args.words.now in
-    let place = c.loop-byte.byte-index in
-    let left = c.loop-byte.left.now in
-    let said = c.loop-byte.invariant.0 in
-    let number = flat_map decimal (take 1 left) in
-    rw p.1 (said_front c.args.writer.now c.loop-byte.writer c.put_first.new.writer c.args.piece.now said number (filled (drop (place + 1) words) (drop 1 left)) _ c.loop-byte.piece
-    c.loop-byte.invariant.2 c.in_err-put_first.ensures
-    (number_next words place (get_or words place 0) said (said ++ number) left (drop 1 left) c.loop-byte-test.true refl c.if-byte-eq37.true refl refl ∙ c.loop-byte.invariant.1))
-
-pub returns-in_err-push : goal.returns-in_err-push
-returns-in_err-push g c =
-    let p = err_from_is_err_and c.from_residual-in_err-push.result c.from_residual-in_err-push.ensures.1 in
-    let words = c.args.words.now in
-    let place = c.loop-byte.byte-index in
-    let left = c.loop-byte.left.now in
-    let said = c.loop-byte.invariant.0 in
-    let byte = get_or words place 0 in
-    rw p.1 (said_front c.args.writer.now c.loop-byte.writer c.push.new.writer c.args.piece.now said (byte ∷ []) (filled (drop (place + 1) words) left) _ c.loop-byte.piece
-    c.loop-byte.invariant.2 c.in_err-push.ensures
-    (byte_next words place byte said (said ++ byte ∷ []) left c.loop-byte-test.true refl c.if-byte-eq37.false refl ∙ c.loop-byte.invariant.1))
+    let start = c.loop-more.start in
+    let more = c.in-Some.more in
+    let place = start + more in
+    let left = c.loop-more.left.now in
+    let said = c.loop-more.invariant.0 in
+    let hay = words_from words start in
+    let inside : place < length words = omega (arith, c.in-Some.ensures.0.high, ap length hay, length-drop start words) in
+    let none = are_words words (between words start (length words)) start more place hay refl c.in-Some.ensures.0.before in
+    let mark = is_marked words (between words start (length words)) start more place hay refl c.in-Some.ensures.1 in
+    rw p.1 (said_front c.args.writer.now c.put_bytes.new.writer c.put_first.new.writer c.args.piece.now (said ++ between words start place) (flat_map decimal (take 1 left))
+    (filled (drop (place + 1) words) (drop 1 left)) _ c.put_bytes.new.piece
+    (said_so_far c.args.writer.now c.loop-more.writer c.put_bytes.new.writer c.args.piece.now said (between words start place) c.loop-more.piece c.put_bytes.new.piece c.loop-more.invariant.2
+    c.in_ok-put_bytes.ensures)
+    c.in_err-put_first.ensures
+    (number_next words c.args.numbers.now left said start more place refl inside none mark c.loop-more.invariant.1))
 
 pub returns : goal.returns
 returns g c =
-    let said = c.loop-byte.invariant.0 in
-    let all = all_filled c.args.words.now said c.loop-byte.left.now _ c.loop-byte.byte-index c.loop-byte-test.false c.loop-byte.invariant.1 in
-    rw (← all) c.loop-byte.invariant.2
+    let words = c.args.words.now in
+    let start = c.loop-more.start in
+    let said = c.loop-more.invariant.0 in
+    let hay = words_from words start in
+    let whole : length words ≡ start + length (between words start (length words)) = omega (arith, ap length hay, length-drop start words, c.loop-more.invariant.3) in
+    let none = are_words words (between words start (length words)) start (length (between words start (length words))) (length words) hay whole c.in_default.ensures in
+    let all = all_filled words c.args.numbers.now c.loop-more.left.now said start c.loop-more.invariant.3 none c.loop-more.invariant.1 in
+    subst (λ (t : List ℕ). Told c.args.writer.now c.put_bytes-2.new.writer c.put_bytes-2.result (c.args.piece.now ++ t) c.put_bytes-2.new.piece) all
+    (said_more c.args.writer.now c.loop-more.writer c.put_bytes-2.new.writer c.put_bytes-2.result c.args.piece.now said (between words start (length words)) c.loop-more.piece c.put_bytes-2.new.piece
+    c.loop-more.invariant.2 c.put_bytes-2.ensures)
