@@ -7,6 +7,7 @@ use Rattle.std.proofs.lemmas.List.{drop_more, take-append-drop}
 use Rattle.std.proofs.lemmas.List.Elements.{All-head, All-tail, All-take, filter_map-append}
 use Rattle.std.proofs.lemmas.List.Sorted.{IsPermutation-reverse, list_any-IsPermutation}
 use Rattle.drm_picture.specs.Lasts.{any_of, is_listed, unseen}
+use Rattle.drm_picture.specs.Users.{AreSettled}
 use Rattle.drm_picture.specs.Waits.{comes_after, earlier_job, earlier_of, is_open_at, job_of, last_of, last_of_each}
 use Rattle.drm_picture.specs.declared.bars.Bar.{Bar}
 use Rattle.drm_picture.specs.declared.command.Request.{Request}
@@ -77,7 +78,7 @@ covered_by : (test : ℕ → Bool) (n entity : ℕ) (listed others : Bool) (b : 
 covered_by test n entity listed others true is some all rest = subst (λ (k : ℕ). test k ≡ true) (eqb-true entity n is) (left_true (test entity) others all)
 covered_by test n entity listed others false is some all rest = rest some (right_true (test entity) others all)
 
-covered : (test : ℕ → Bool) (n : ℕ) (entities : List ℕ) → list_any (λ entity. entity == n) entities ≡ true → list_all test entities ≡ true → test n ≡ true
+pub covered : (test : ℕ → Bool) (n : ℕ) (entities : List ℕ) → list_any (λ entity. entity == n) entities ≡ true → list_all test entities ≡ true → test n ≡ true
 covered test n [] some all = cc
 covered test n (entity ∷ entities) some all =
     covered_by test n entity (list_any (λ entity. entity == n) entities) (list_all test entities) (entity == n) refl some all (covered test n entities)
@@ -90,7 +91,7 @@ new_by jobs fence entity false is = refl
 pub none_seen : (jobs : List Earlier) (later : Request) (fence : ℕ) (request : Request) → any_of request.entity jobs ≡ true → unseen jobs (earlier_job later fence (Some request)) ≡ None
 none_seen jobs later fence request is = new_by jobs fence request.entity (comes_after later fence request) is
 
-none_new : (entities : List ℕ) (jobs : List Earlier) (later : Request) (fence : ℕ) (job : Option Request) → list_all (λ entity. any_of entity jobs) entities ≡ true
+pub none_new : (entities : List ℕ) (jobs : List Earlier) (later : Request) (fence : ℕ) (job : Option Request) → list_all (λ entity. any_of entity jobs) entities ≡ true
     → is_listed entities job ≡ true → unseen jobs (earlier_job later fence job) ≡ None
 none_new entities jobs later fence None all listed = refl
 none_new entities jobs later fence (Some request) all listed =
@@ -100,34 +101,32 @@ none_open : (jobs : List Earlier) (found : Option Earlier) (b : Bool) → unseen
 none_open jobs found true none = none
 none_open jobs found false none = refl
 
--- where each entity has a job among the latter, the former bring none
-pub lasts-stay : (run : List Step) (place : ℕ) (later : Request) (entities : List ℕ) (former latter : List Bar) → All (λ (bar : Bar). is_listed entities (job_of run bar) ≡ true) former
-    → list_all (λ entity. any_of entity (lasts run place later latter)) entities ≡ true → lasts run place later (former ++ latter) ≡ lasts run place later latter
-lasts-stay run place later entities [] latter listed all = refl
-lasts-stay run place later entities (bar ∷ former) latter listed all =
-    let P = λ (bar : Bar). is_listed entities (job_of run bar) ≡ true in
+-- where the latter settle each entity, the former bring none
+pub lasts-stay : (run : List Step) (place : ℕ) (later : Request) (former latter : List Bar) → AreSettled run later (lasts run place later latter) former
+    → lasts run place later (former ++ latter) ≡ lasts run place later latter
+lasts-stay run place later [] latter settled = refl
+lasts-stay run place later (bar ∷ former) latter settled =
     let last = lasts run place later latter in
-    let rest : lasts run place later (former ++ latter) ≡ last = lasts-stay run place later entities former latter (All-tail P bar former listed) all in
+    let P = λ (bar : Bar). unseen last (earlier_job later bar.opening.number (job_of run bar)) ≡ None in
+    let rest : lasts run place later (former ++ latter) ≡ last = lasts-stay run place later former latter (All-tail P bar former settled) in
     let found = earlier_job later bar.opening.number (job_of run bar) in
     lasts-cons run place later bar (former ++ latter)
     ∙ ap (λ l. cons_option (unseen l (earlier_of run place later bar)) l) rest
-    ∙ ap (λ o. cons_option o last) (none_open last found (is_open_at place bar) (none_new entities last later bar.opening.number (job_of run bar) all (All-head P bar former listed)))
+    ∙ ap (λ o. cons_option o last) (none_open last found (is_open_at place bar) (All-head P bar former settled))
 
-all-reverse : (jobs : List Earlier) (entities : List ℕ) → list_all (λ entity. any_of entity (reverse jobs)) entities ≡ list_all (λ entity. any_of entity jobs) entities
-all-reverse jobs [] = refl
-all-reverse jobs (entity ∷ entities) =
-    ap (λ (b : Bool). b && list_all (λ entity. any_of entity (reverse jobs)) entities) (sym (any-reverse entity jobs))
-    ∙ ap (λ (b : Bool). any_of entity jobs && b) (all-reverse jobs entities)
+settled_from : (run : List Step) (later : Request) (jobs last : List Earlier) (fences : List Bar) → reverse jobs ≡ last → AreSettled run later jobs fences → AreSettled run later last fences
+settled_from run later jobs last fences so settled = λ k d within.
+    let found = earlier_job later (get_or fences k d).opening.number (job_of run (get_or fences k d)) in
+    ap (λ (l : List Earlier). unseen l found) (sym so) ∙ sym (unseen-reverse jobs found) ∙ settled k d within
 
 -- the same, where the jobs were found from the end on
-pub lasts-all : (run : List Step) (place : ℕ) (later : Request) (entities : List ℕ) (fences : List Bar) (index : ℕ) (jobs : List Earlier)
-    → All (λ (bar : Bar). is_listed entities (job_of run bar) ≡ true) fences → list_all (λ entity. any_of entity jobs) entities ≡ true
-    → reverse jobs ≡ lasts run place later (drop index fences) → reverse jobs ≡ lasts run place later fences
-lasts-all run place later entities fences index jobs listed all so =
-    let same : list_all (λ entity. any_of entity (lasts run place later (drop index fences))) entities ≡ true =
-    subst (λ l. list_all (λ entity. any_of entity l) entities ≡ true) so (all-reverse jobs entities ∙ all) in
+pub lasts-all : (run : List Step) (place : ℕ) (later : Request) (fences : List Bar) (index : ℕ) (jobs : List Earlier)
+    → AreSettled run later jobs fences → reverse jobs ≡ lasts run place later (drop index fences) → reverse jobs ≡ lasts run place later fences
+lasts-all run place later fences index jobs settled so =
+    let last = lasts run place later (drop index fences) in
+    let P = λ (bar : Bar). unseen last (earlier_job later bar.opening.number (job_of run bar)) ≡ None in
     so
-    ∙ sym (lasts-stay run place later entities (take index fences) (drop index fences) (All-take (λ (bar : Bar). is_listed entities (job_of run bar) ≡ true) index fences listed) same)
+    ∙ sym (lasts-stay run place later (take index fences) (drop index fences) (All-take P index fences (settled_from run later jobs last fences so settled)))
     ∙ ap (lasts run place later) (take-append-drop index fences)
 
 none_later : (run : List Step) (place : ℕ) (later : Request) (fences : List Bar) → All (λ (bar : Bar). place ≤ bar.from) fences → filter_map (earlier_of run place later) fences ≡ []

@@ -4,3 +4,5 @@ pub mod Latest
 pub mod Nexts
 pub mod Places
 pub mod Reaching
+pub mod Counting
+pub mod Settling

@@ -2,10 +2,12 @@ pub mod Commands
 pub mod Bars
 pub mod Armed
 pub mod Ends
+pub mod Packets
 pub mod Marks
 pub mod Waits
 pub mod Waiting
 pub mod Latest
 pub mod Reach
 pub mod Lasts
+pub mod Users
 pub mod Pictures

@@ -2,13 +2,15 @@
 
 ghost use Rattle.std.specs.List.{cons_option};
 ghost use Rattle.std.specs.Option.{option_copied};
-ghost use Rattle.std.specs.Prelude.{◌≡◌, ◌+◌, ◌<◌, ◌≤◌, ◌^◌, ◌++◌, [], find, length, option_and_then, position, reverse, take, IfOk, OnOk};
+ghost use Rattle.std.specs.Prelude.{◌≡◌, ◌+◌, ◌<◌, ◌≤◌, ◌^◌, ◌++◌, [], drop, find, get_or, length, option_and_then, position, reverse, take, IfOk, OnOk};
 ghost use Rattle.drm_picture.specs.Bars.{armed, armed_job as armed_job_of, bar_at, bar_from, bars_of, cancelled_by, drops, endless_look, ends, ends_fence, ends_job, granted, kept_beyond, last_planned as last_planned_by, lasts_beyond, leaves_queue, locked, look_of, opening_of, packets_of, picked, plans, queued, runs, shown_by, steps_between, stopped_by, unlocks_in};
 ghost use Rattle.drm_picture.specs.Commands.{moment_of};
 ghost use Rattle.drm_picture.specs.Ends.{AreNext, none_ends};
+ghost use Rattle.drm_picture.specs.Packets.{AreCounted};
 
 use crate::command::{Request, Step, moment, run_before};
 use crate::ends::{note_end, skipped};
+use crate::packets::{note_packet, room};
 use drm_core::Event;
 use drm_state::Answer;
 use drm_types::{EntityId, Moment, Outcome};
@@ -382,8 +384,8 @@ fn is_run(fence: u32, answer: &Answer) -> bool
     }
 }
 
-// How many packets of a job ran in these steps.
-fn packets(kind: Kind, fence: u32, during: &[Step]) -> usize
+// How many packets of a job ran in these steps, one by one.
+fn packets_in(kind: Kind, fence: u32, during: &[Step]) -> usize
     ensures { result ≡ packets_of kind fence during.now }
 {
     match kind {
@@ -392,6 +394,17 @@ fn packets(kind: Kind, fence: u32, during: &[Step]) -> usize
             .filter(|step| is_run(fence, &step.answer))
             .count(),
         _ => 0,
+    }
+}
+
+// Returns what `packets_in` does, as it was counted for all jobs.
+fn packets(kind: Kind, fence: u32, during: &[Step], ran: &[usize]) -> usize
+    requires { fence < length ran.now → get_or ran.now fence 0 ≡ packets_of kind fence during.now }
+    ensures { result ≡ packets_of kind fence during.now }
+{
+    match ran.get(fence as usize) {
+        Some(counted) => *counted,
+        None => packets_in(kind, fence, during),
     }
 }
 
@@ -442,8 +455,10 @@ fn bar_of(
     behind: &[Step],
     skipped: usize,
     opening: Opening,
+    ran: &[usize],
 ) -> Bar
-    requires { none_ends kind opening (take skipped behind.now) }
+    requires none { none_ends kind opening (take skipped behind.now) }
+    requires counted { AreCounted kind behind.now ran.now }
     ensures value { result ≡ bar_from kind place step.now behind.now opening }
     ensures within { result.from + result.span ≤ place + length behind.now + 1 }
 {
@@ -455,7 +470,7 @@ fn bar_of(
         from: place,
         span: more + 1,
         look: shown_look(kind, &step.answer, last),
-        packets: packets(kind, opening.number, &behind[..more]),
+        packets: packets(kind, opening.number, &behind[..more], ran),
         began: moment(&step.command),
         ended: ended(last),
     }
@@ -469,14 +484,16 @@ fn bar_beyond(
     place: usize,
     step: &Step,
     next: &[usize],
+    ran: &[usize],
 ) -> Option<Bar>
     requires within { place < length run.now }
+    requires counted { AreCounted kind (drop (place + 1) run.now) ran.now }
     requires next { AreNext kind run.now (place + 1) next.now }
     ensures { result ≡ kept_beyond from (bar_at kind run.now (place, step.now)) }
 {
     let opening = opening_at(kind, &run[..place], step)?;
     let skipped = skipped(next, kind, opening, place + 1);
-    let bar = bar_of(kind, place, step, &run[place + 1..], skipped, opening);
+    let bar = bar_of(kind, place, step, &run[place + 1..], skipped, opening, ran);
     if bar.is_beyond(from) { Some(bar) } else { None }
 }
 
@@ -493,7 +510,8 @@ pub(crate) fn push_bar(bars: &mut Vec<Bar>, found: Option<Bar>) -> Result<(), Al
     }
 }
 
-/// The bars of a kind that last beyond a place of the run. From its end on, so that the place where each ends is known.
+/// The bars of a kind that last beyond a place of the run. From its end on, so that the place where each ends is known,
+/// and how many packets ran before it.
 pub(crate) fn bars(
     alloc: Global,
     kind: Kind,
@@ -503,11 +521,16 @@ pub(crate) fn bars(
     ensures { IfOk result (λ bars. bars.items ≡ bars_of kind from run.now) }
 {
     let mut next = vec![in alloc; run.len(); run.len()]?;
+    let mut ran = vec![in alloc; 0; room(kind, run)]?;
     let mut bars = Vec::new(alloc);
     for place in (0..run.len()).rev() {
         let step = &run[place];
-        push_bar(&mut bars, bar_beyond(kind, from, run, place, step, &next))?;
+        push_bar(
+            &mut bars,
+            bar_beyond(kind, from, run, place, step, &next, &ran),
+        )?;
         note_end(&mut next, kind, place, step);
+        note_packet(&mut ran, &step.answer);
     }
     bars.reverse();
     Ok(bars)

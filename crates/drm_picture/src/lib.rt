@@ -13,8 +13,10 @@ mod command;
 mod conflict;
 mod ends;
 mod marks;
+mod packets;
 mod picture;
 mod reach;
+mod users;
 mod waiting;
 mod waits;
 

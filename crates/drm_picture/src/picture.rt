@@ -75,7 +75,7 @@ pub fn picture_of(
     let fences = bars(alloc, Kind::Fence, from, run)?;
     let reaches = reaches(alloc, run, &fences)?;
     let waiting = waiting(alloc, from, run, &fences, &reaches)?;
-    let waits = waits(alloc, from, run, &fences, &reaches)?;
+    let waits = waits(alloc, from, run, &fences, &reaches, shape.buffers)?;
     Ok(Picture {
         shape,
         first: from,

@@ -7,12 +7,14 @@ ghost use Rattle.std.specs.Prelude.{◌≡◌, ◌==◌, ◌<◌, ◌≤◌, ◌
 ghost use Rattle.drm_picture.specs.Bars.{bars_of};
 ghost use Rattle.drm_picture.specs.Lasts.{any_of, is_listed as is_listed_of, unseen};
 ghost use Rattle.drm_picture.specs.Reach.{AreReaches};
+ghost use Rattle.drm_picture.specs.Users.{AreUsers};
 ghost use Rattle.drm_picture.specs.Waits.{earlier_job, earlier_of, is_open_at, job_of as job_of_bar, last_of_each, waits_at, waits_of, waits_on};
 ghost use Rattle.drm_picture.specs.declared.bars.Kind.TheVariants as kind;
 
 use crate::bars::{Bar, armed_job};
 use crate::command::{Request, Step, run_before};
 use crate::reach::is_within;
+use crate::users::{BufferUsers, is_settled, users};
 use drm_state::Answer;
 use drm_types::{EntityId, FenceId};
 use std::alloc::{AllocError, Global};
@@ -70,8 +72,8 @@ fn is_any_of(entity: EntityId, jobs: &[Earlier]) -> bool
     jobs.iter().any(|other| other.entity == entity)
 }
 
-// Whether each of these entities has one of the jobs.
-fn has_all(entities: &[EntityId], jobs: &[Earlier]) -> bool
+/// Whether each of these entities has one of the jobs.
+pub(crate) fn has_all(entities: &[EntityId], jobs: &[Earlier]) -> bool
     ensures { result ≡ list_all (λ entity. any_of entity jobs.now) entities.now }
 {
     entities.iter().all(|entity| is_any_of(*entity, jobs))
@@ -94,8 +96,11 @@ fn is_listed(entities: &[EntityId], job: Option<&Request>) -> bool
     }
 }
 
-// Adds the entity of a job, if there is one and its entity is not among these.
-fn push_distinct(entities: &mut Vec<EntityId>, job: Option<&Request>) -> Result<(), AllocError>
+/// Adds the entity of a job, if there is one and its entity is not among these.
+pub(crate) fn push_distinct(
+    entities: &mut Vec<EntityId>,
+    job: Option<&Request>,
+) -> Result<(), AllocError>
     ensures kept { OnOk result ((other : Option Request) → is_listed_of entities.old.items other ≡ true → is_listed_of entities.new.items other ≡ true) }
     ensures listed { OnOk result (is_listed_of entities.new.items (option_copied job.entry) ≡ true) }
 {
@@ -165,7 +170,8 @@ fn push_earlier(
 }
 
 // Of the jobs that the later one comes after, and whose fences have no outcome at this place, the last of each entity,
-// the last first. The search goes from the last fence on, and stops where none is open or each entity has one.
+// the last first. The search goes from the last fence on, and stops where none is open, or where each entity has one
+// whose jobs the later one can come after.
 fn lasts_from_end(
     alloc: Global,
     run: &[Step],
@@ -173,21 +179,27 @@ fn lasts_from_end(
     reaches: &[usize],
     place: usize,
     later: &Request,
+    users: &[BufferUsers],
     entities: &[EntityId],
 ) -> Result<Vec<Earlier>, AllocError>
+    requires users { AreUsers run.now users.now fences.now }
     requires reach { AreReaches fences.now reaches.now }
     requires listed { All (λ bar. is_listed_of entities.now (job_of_bar run.now bar) ≡ true) fences.now }
     ensures { IfOk result (λ jobs. reverse jobs.items ≡ last_of_each (filter_map (earlier_of run.now place later.now) fences.now)) }
 {
     let mut jobs = Vec::new(alloc);
+    if is_settled(run, fences, users, entities, later, &jobs) {
+        return Ok(jobs);
+    }
     for index in (0..fences.len()).rev() {
         if is_within(reaches, index, place) {
             return Ok(jobs);
         }
-        if entities.len() <= jobs.len() && has_all(entities, &jobs) {
+        let found = jobs.len();
+        push_earlier(&mut jobs, run, place, later, &fences[index])?;
+        if found < jobs.len() && is_settled(run, fences, users, entities, later, &jobs) {
             return Ok(jobs);
         }
-        push_earlier(&mut jobs, run, place, later, &fences[index])?;
     }
     Ok(jobs)
 }
@@ -200,15 +212,17 @@ fn last_jobs(
     reaches: &[usize],
     place: usize,
     later: &Request,
+    users: &[BufferUsers],
     entities: &[EntityId],
 ) -> Result<Vec<Earlier>, AllocError>
+    requires users { AreUsers run.now users.now fences.now }
     requires reach { AreReaches fences.now reaches.now }
     requires rise { IsNonDecreasingBy (λ bar. bar.from) fences.now }
     requires listed { All (λ bar. is_listed_of entities.now (job_of_bar run.now bar) ≡ true) fences.now }
     ensures { IfOk result (λ jobs. jobs.items ≡ last_of_each (filter_map (earlier_of run.now place later.now) fences.now)) }
 {
     let before = armed_before(fences, place);
-    let mut jobs = lasts_from_end(alloc, run, before, reaches, place, later, entities)?;
+    let mut jobs = lasts_from_end(alloc, run, before, reaches, place, later, users, entities)?;
     jobs.reverse();
     Ok(jobs)
 }
@@ -240,10 +254,12 @@ fn push_waits_at(
     run: &[Step],
     fences: &[Bar],
     reaches: &[usize],
+    users: &[BufferUsers],
     entities: &[EntityId],
     place: usize,
     step: &Step,
 ) -> Result<(), AllocError>
+    requires users { AreUsers run.now users.now fences.now }
     requires reach { AreReaches fences.now reaches.now }
     requires rise { IsNonDecreasingBy (λ bar. bar.from) fences.now }
     requires listed { All (λ bar. is_listed_of entities.now (job_of_bar run.now bar) ≡ true) fences.now }
@@ -255,7 +271,7 @@ fn push_waits_at(
     match &step.answer {
         Answer::Armed { fence } => match armed_job(run_before(run, place), step) {
             Some(later) => {
-                let jobs = last_jobs(alloc, run, fences, reaches, place, later, entities)?;
+                let jobs = last_jobs(alloc, run, fences, reaches, place, later, users, entities)?;
                 push_waits(waits, *fence, place, &jobs)
             }
             None => Ok(()),
@@ -264,23 +280,25 @@ fn push_waits_at(
     }
 }
 
-/// The waits of the steps of a run from a place on. The fences are those that last beyond it.
+/// The waits of the steps of a run from a place on, at so many buffers. The fences are those that last beyond it.
 pub(crate) fn waits(
     alloc: Global,
     from: usize,
     run: &[Step],
     fences: &[Bar],
     reaches: &[usize],
+    buffers: u32,
 ) -> Result<Vec<Wait>, AllocError>
     requires reach { AreReaches fences.now reaches.now }
     requires fences { fences.now ≡ bars_of kind.Fence from run.now }
     ensures { IfOk result (λ waits. waits.items ≡ waits_of from run.now) }
 {
     let entities = distinct_entities(alloc, run, fences)?;
+    let users = users(alloc, run, fences, buffers)?;
     let mut waits = Vec::new(alloc);
     for (place, step) in run.iter().enumerate() {
         push_waits_at(
-            alloc, &mut waits, from, run, fences, reaches, &entities, place, step,
+            alloc, &mut waits, from, run, fences, reaches, &users, &entities, place, step,
         )?;
     }
     Ok(waits)

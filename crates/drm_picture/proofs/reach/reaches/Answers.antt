@@ -1,4 +1,4 @@
-use Rattle.std.proofs.Common.{◌≡◌, ◌∷◌, ◌++◌, [], arith, length, subst, sym}
+use Rattle.std.proofs.Common.{◌≡◌, ◌∷◌, ◌++◌, [], arith, subst, sym}
 use Rattle.std.proofs.lemmas.List.{length-append}
 use Rattle.drm_picture.specs.Reach.{AreReaches}
 use Rattle.drm_picture.proofs.Reaching.{reach_more, reaches_more}
