@@ -2,6 +2,6 @@ pub mod Fillings
 pub mod Known
 pub mod Pens
 pub mod Pieces
-pub mod Refused
+pub mod Kept
 pub mod RowFacts
 pub mod Traced

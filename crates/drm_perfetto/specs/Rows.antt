@@ -1,10 +1,11 @@
 -- What the engine keeps of what each lane showed last.
-use Rattle.std.specs.Prelude.{◌≡◌, ℕ, ◌<◌, List, length, Option, option_and_then, slice_get}
+use Rattle.std.specs.Prelude.{◌≡◌, ℕ, ◌<◌, false, List, length, Option, option_and_then, slice_get}
 use Rattle.drm_types.specs.declared.spec.DeviceSpec.{DeviceSpec}
 use Rattle.drm_core.specs.State.{CoreState}
 use Rattle.drm_perfetto.specs.declared.lanes.Lane.{Lane}
 use Rattle.drm_perfetto.specs.declared.lanes.Lane.TheVariants as lane
 use Rattle.drm_perfetto.specs.declared.lanes.Row.{Row}
+use Rattle.drm_perfetto.specs.declared.named.Moves.{Moves}
 use Rattle.drm_perfetto.specs.declared.rows.Rows.{Rows}
 use Rattle.drm_perfetto.specs.Tracks.{count_of, shown}
 use Rattle.drm_perfetto.specs.Watches.{AreKnown}
@@ -27,6 +28,19 @@ pub record AllRows (core : CoreState) (rows : Rows) : Type 0 where
   pub credits : AreRows core lane.Credits rows.credits.items
   pub queued : AreRows core lane.Queued rows.queued.items
   pub known : AreKnown core.device rows.watches
+
+-- they are what the lanes of jobs, rings and entities show
+pub record DeviceRows (core : CoreState) (rows : Rows) : Type 0 where
+  pub wait : AreRows core lane.Wait rows.wait.items
+  pub queue : AreRows core lane.Queue rows.queue.items
+  pub ring : AreRows core lane.Ring rows.ring.items
+  pub credits : AreRows core lane.Credits rows.credits.items
+  pub queued : AreRows core lane.Queued rows.queued.items
+
+-- they are what those lanes show of which nothing was moved
+pub record KeepsRows (moves : Moves) (core : CoreState) (rows : Rows) : Type 0 where
+  pub device : moves.device ≡ false → DeviceRows core rows
+  pub holders : moves.holders ≡ false → AreRows core lane.Buffer rows.buffer.items
 
 -- there are as many as lanes
 pub record HaveRoom (spec : DeviceSpec) (rows : Rows) : Type 0 where

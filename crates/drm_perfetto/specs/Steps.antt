@@ -1,5 +1,5 @@
 -- What a step of a run adds to its trace.
-use Rattle.std.specs.Prelude.{ℕ, zero, suc, Bool, true, false, ◌==◌, ◌&&◌, if◌then◌else◌, List, [], ◌∷◌, ◌++◌, Option, Some, None}
+use Rattle.std.specs.Prelude.{ℕ, zero, suc, Bool, true, false, not, ◌==◌, ◌&&◌, if◌then◌else◌, List, [], ◌∷◌, ◌++◌, Option, Some, None}
 use Rattle.std.specs.Option.{option_to_list}
 use Rattle.drm_types.specs.declared.outcome.Outcome.{Outcome}
 use Rattle.drm_types.specs.declared.outcome.Outcome.TheVariants as outcome
@@ -19,6 +19,7 @@ use Rattle.drm_perfetto.specs.declared.entry.When.{When}
 use Rattle.drm_perfetto.specs.declared.lanes.Lane.{Lane}
 use Rattle.drm_perfetto.specs.declared.lanes.Lane.TheVariants as lane
 use Rattle.drm_perfetto.specs.declared.lanes.Row.{Row}
+use Rattle.drm_perfetto.specs.declared.named.Moves.{Moves}
 use Rattle.drm_perfetto.specs.declared.named.Named.{Named}
 use Rattle.drm_perfetto.specs.Tracks.{count_of, owner_of, shown}
 
@@ -44,11 +45,6 @@ named_of _ = naming_nothing
 
 -- ---- instants
 
--- a command that was refused, which changes nothing
-abbrev pub is_refused : Answer → Bool
-is_refused (gives.Refused why) = true
-is_refused other = false
-
 -- a job that left its ring
 abbrev pub ended_instant : ℕ → ℕ → ℕ → Outcome → Entry
 ended_instant ring at fence outcome.Good = entry.Done ring at fence
@@ -71,6 +67,34 @@ instant_of named at gives.Resumed = Some (entry.Hung named.ring at)
 instant_of named at (gives.Guilty entity) = Some (entry.Guilty named.ring at entity)
 instant_of named at (gives.Reaped fence) = Some (entry.Reaped named.entity at fence)
 instant_of named at _ = None
+
+-- ---- what a command may change
+
+-- jobs, rings and entities, by this answer
+abbrev pub moves_device : Named → Answer → Bool
+moves_device named (gives.Refused why) = false
+moves_device named (gives.Ticket ticket) = false
+moves_device named gives.Held = false
+moves_device named (gives.Older holder) = false
+moves_device named (gives.Younger holder) = false
+moves_device named gives.Planned = false
+moves_device named (gives.Stalled fence) = false
+moves_device named gives.Empty = false
+moves_device named (gives.NotYet due_in) = false
+moves_device named gives.Complete = false
+moves_device named (gives.Bytes bytes) = false
+moves_device named (gives.Status status) = false
+moves_device named gives.Ok = named.cancels
+moves_device named _ = true
+
+-- and who holds a buffer
+abbrev pub moves_holders : Named → Answer → Bool
+moves_holders named gives.Held = true
+moves_holders named gives.Ok = not named.cancels
+moves_holders named _ = false
+
+abbrev pub moves_of : Named → Answer → Moves
+moves_of named answer = record { device = moves_device named answer; holders = moves_holders named answer }
 
 -- ---- slices, arrows and counters
 

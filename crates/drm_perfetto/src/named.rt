@@ -1,7 +1,7 @@
 //! What a command names, and what an instant tells of it and its answer.
 
 ghost use Rattle.std.specs.Prelude.{◌≡◌};
-ghost use Rattle.drm_perfetto.specs.Steps.{cause_of, done_instant, ended_instant, instant_of, is_refused as is_refused_in, named_of, naming_nothing};
+ghost use Rattle.drm_perfetto.specs.Steps.{cause_of, done_instant, ended_instant, instant_of, moves_device, moves_holders, moves_of, named_of, naming_nothing};
 ghost use Rattle.drm_perfetto.specs.Tracks.{owner_of};
 
 use crate::entry::{Entry, Track};
@@ -100,13 +100,55 @@ fn done_instant(named: Named, at: u64) -> Option<Entry>
     }
 }
 
-/// Whether a command was refused.
-pub(crate) fn is_refused(answer: &Answer) -> bool
-    ensures { result ≡ is_refused_in answer.now }
+/// What a command may have changed.
+#[derive(Clone, Copy)]
+pub struct Moves {
+    /// Jobs, rings or entities.
+    pub device: bool,
+    /// Who holds a buffer.
+    pub holders: bool,
+}
+
+// Whether a command may have changed jobs, rings or entities, by this answer.
+fn is_device_moved(named: Named, answer: &Answer) -> bool
+    ensures { result ≡ moves_device named answer.now }
 {
     match answer {
-        Answer::Refused(_) => true,
+        Answer::Refused(_) => false,
+        Answer::Ticket { .. } => false,
+        Answer::Held => false,
+        Answer::Older { .. } => false,
+        Answer::Younger { .. } => false,
+        Answer::Planned => false,
+        Answer::Stalled { .. } => false,
+        Answer::Empty => false,
+        Answer::NotYet { .. } => false,
+        Answer::Complete => false,
+        Answer::Bytes { .. } => false,
+        Answer::Status { .. } => false,
+        Answer::Ok => named.cancels,
+        _ => true,
+    }
+}
+
+// Whether a command may have changed who holds a buffer, by this answer.
+fn is_holder_moved(named: Named, answer: &Answer) -> bool
+    ensures { result ≡ moves_holders named answer.now }
+{
+    match answer {
+        Answer::Held => true,
+        Answer::Ok => !named.cancels,
         _ => false,
+    }
+}
+
+/// What a command may have changed, by this answer.
+pub(crate) fn moved_by(named: Named, answer: &Answer) -> Moves
+    ensures { result ≡ moves_of named answer.now }
+{
+    Moves {
+        device: is_device_moved(named, answer),
+        holders: is_holder_moved(named, answer),
     }
 }
 

@@ -1,9 +1,9 @@
 //! What each track and counter showed last, and what is put where it shows something else.
 
-ghost use Rattle.std.specs.Prelude.{◌≡◌, length, IfOk, Some};
+ghost use Rattle.std.specs.Prelude.{◌≡◌, false, length, IfOk, Some};
 ghost use Rattle.drm_core.specs.State.{CoreState};
 ghost use Rattle.drm_perfetto.specs.Pens.{AddsEntries};
-ghost use Rattle.drm_perfetto.specs.Rows.{AllRows, AreRows, HaveRoom, row_at};
+ghost use Rattle.drm_perfetto.specs.Rows.{AllRows, AreRows, HaveRoom, KeepsRows, row_at};
 ghost use Rattle.drm_perfetto.specs.Steps.{all_changes, arrow, arrow_between, begun, changed, credits_entry, each, ended, is_same, queued_entry, recounted, turned};
 ghost use Rattle.drm_perfetto.specs.Tracks.{count_of, shown};
 ghost use Rattle.drm_perfetto.specs.Watches.{AreKnown};
@@ -11,6 +11,7 @@ ghost use Rattle.drm_perfetto.specs.declared.lanes.Lane.TheVariants as kind;
 
 use crate::entry::{Entry, Track, When};
 use crate::lanes::{Lane, Row, count, shown};
+use crate::named::Moves;
 use crate::pen::Pen;
 use crate::watches::Watches;
 use drm_core::Core;
@@ -250,23 +251,29 @@ fn put_changed<W: Write>(
     }
 }
 
-// What changes in the lanes of a kind, whose rows are then those of the core.
+// What changes in the lanes of a kind, whose rows are then those of the core. Where nothing that they show was moved,
+// they are so already.
 fn follow<W: Write>(
     pen: &mut Pen,
     writer: &mut Sink<W>,
     core: &Core,
     when: When,
     cause: Option<Track>,
+    is_moved: bool,
     watches: &mut Watches,
     lane: Lane,
     rows: &mut Vec<Option<Row>>,
 )
+    requires kept { is_moved ≡ false → AreRows core.now lane rows.old.items }
     requires room { length rows.old.items ≡ count_of core.now.device.spec lane }
     requires known { AreKnown core.now.device watches.old }
     ensures entries { AddsEntries pen.old writer.old (each (count_of core.now.device.spec lane) (λ n. changed lane when cause n (row_at rows.old.items n) (shown core.now lane n))) pen.new writer.new }
     ensures rows { AreRows core.now lane rows.new.items }
     ensures known { AreKnown core.now.device watches.new }
 {
+    if !is_moved {
+        return;
+    }
     for number in 0..count(core, lane) {
         let old = row_at(rows.as_slice(), number);
         let new = shown(core, watches, lane, number);
@@ -300,7 +307,9 @@ impl Rows {
         core: &Core,
         when: When,
         cause: Option<Track>,
+        moves: Moves,
     )
+        requires kept { KeepsRows moves core.now self.old }
         requires room { HaveRoom core.now.device.spec self.old }
         requires known { AreKnown core.now.device self.old.watches }
         ensures entries { (old : CoreState) → old.device.spec ≡ core.now.device.spec → AllRows old self.old → AddsEntries pen.old writer.old (all_changes when cause old core.now) pen.new writer.new }
@@ -314,6 +323,7 @@ impl Rows {
             core,
             when,
             cause,
+            moves.device,
             watches,
             Lane::Wait,
             &mut self.wait,
@@ -324,6 +334,7 @@ impl Rows {
             core,
             when,
             cause,
+            moves.device,
             watches,
             Lane::Queue,
             &mut self.queue,
@@ -334,6 +345,7 @@ impl Rows {
             core,
             when,
             cause,
+            moves.device,
             watches,
             Lane::Ring,
             &mut self.ring,
@@ -344,6 +356,7 @@ impl Rows {
             core,
             when,
             cause,
+            moves.holders,
             watches,
             Lane::Buffer,
             &mut self.buffer,
@@ -354,6 +367,7 @@ impl Rows {
             core,
             when,
             cause,
+            moves.device,
             watches,
             Lane::Credits,
             &mut self.credits,
@@ -364,6 +378,7 @@ impl Rows {
             core,
             when,
             cause,
+            moves.device,
             watches,
             Lane::Queued,
             &mut self.queued,

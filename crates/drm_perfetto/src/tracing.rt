@@ -1,6 +1,6 @@
 //! The engine `trace`: from a script to the trace of what its commands do.
 
-ghost use Rattle.std.specs.Prelude.{◌≡◌, ◌++◌, [], IsTrue, None, flat_map};
+ghost use Rattle.std.specs.Prelude.{◌≡◌, ◌++◌, [], None, flat_map};
 ghost use Rattle.drm_types.specs.Limits.{spec_fault};
 ghost use Rattle.drm_job.specs.declared.Draft.{Draft};
 ghost use Rattle.drm_core.specs.Run.{AllNamesExist};
@@ -12,16 +12,16 @@ ghost use Rattle.drm_engine.specs.Failures.{EndsBy};
 ghost use Rattle.drm_engine.specs.Replaying.{Written};
 ghost use Rattle.drm_perfetto.specs.Entries.{text_of};
 ghost use Rattle.drm_perfetto.specs.Pens.{Adds, AddsEntries};
-ghost use Rattle.drm_perfetto.specs.Rows.{AllRows, HaveRoom};
+ghost use Rattle.drm_perfetto.specs.Rows.{AllRows, HaveRoom, KeepsRows};
 ghost use Rattle.drm_perfetto.specs.Runs.{IsTracedAs};
-ghost use Rattle.drm_perfetto.specs.Steps.{all_changes, cause_of, instant_of, is_refused, named_of, step_entries};
+ghost use Rattle.drm_perfetto.specs.Steps.{all_changes, cause_of, instant_of, moves_of, named_of, step_entries};
 ghost use Rattle.drm_perfetto.specs.Watches.{AreKnown};
 ghost use Rattle.drm_perfetto.specs.Traces.{Traces, TracesScript, names_of, names_of_lane, text_of_trace, track_of};
 
 use crate::clock::Clock;
 use crate::entry::{Entry, Track, When};
 use crate::lanes::{Lane, count};
-use crate::named::{Named, cause, instant, is_refused, names};
+use crate::named::{Named, cause, instant, moved_by, names};
 use crate::pen::Pen;
 use crate::rows::Rows;
 use drm_core::{Answer, Core, every_run_is_lawful, headline};
@@ -75,8 +75,8 @@ fn put_all_names<W: Write>(pen: &mut Pen, writer: &mut Sink<W>, core: &Core)
     put_names(pen, writer, core, Lane::Buffer);
 }
 
-// Puts what a step adds: the core has taken the command, and the rows are still those of before. A command that was
-// refused has changed nothing.
+// Puts what a step adds: the core has taken the command, and the rows are still those of before. Nothing is looked at
+// that the command can't have changed.
 fn put_step<W: Write>(
     pen: &mut Pen,
     writer: &mut Sink<W>,
@@ -88,16 +88,13 @@ fn put_step<W: Write>(
 )
     requires room { HaveRoom core.now.device.spec rows.old }
     requires known { AreKnown core.now.device rows.old.watches }
-    requires refused { IsTrue (is_refused answer.now) → AllRows core.now rows.old }
-    ensures entries { (old : CoreState) (event : Happening Draft) → old.device.spec ≡ core.now.device.spec → AllRows old rows.old → named ≡ named_of event → (IsTrue (is_refused answer.now) → core.now ≡ old) → AddsEntries pen.old writer.old (step_entries when old event answer.now core.now) pen.new writer.new }
+    requires kept { KeepsRows (moves_of named answer.now) core.now rows.old }
+    ensures entries { (old : CoreState) (event : Happening Draft) → old.device.spec ≡ core.now.device.spec → AllRows old rows.old → named ≡ named_of event → AddsEntries pen.old writer.old (step_entries when old event answer.now core.now) pen.new writer.new }
     ensures rows { AllRows core.now rows.new }
 {
-    if is_refused(answer) {
-        return;
-    }
     pen.put_any(writer, instant(named, when.at, answer));
     let cause = cause(core, named, answer);
-    rows.put_changes(pen, writer, core, when, cause);
+    rows.put_changes(pen, writer, core, when, cause, moved_by(named, answer));
 }
 
 // Gives the core all events, and puts what each step adds. Nothing of a command is kept behind it.

@@ -5,6 +5,7 @@ use Rattle.drm_perfetto.specs.Rows.{row_at}
 use Rattle.drm_perfetto.specs.Steps.{changed, each}
 use Rattle.drm_perfetto.specs.Tracks.{count_of, shown}
 use Rattle.drm_perfetto.proofs.Pens.{entries_more, entries_none, entries_same}
+use Rattle.drm_perfetto.proofs.Kept.{none_followed}
 use Rattle.drm_perfetto.proofs.RowFacts.{each_more, rows_done, rows_left}
 use Rattle.drm_perfetto.proofs.rows.follow.Goals as goal
 
@@ -36,6 +37,13 @@ loop-number-preserved g c =
       left = rows_left rows was now k c.loop-number.invariant.left;
       entries = entries_same (each_more k told) (entries_more c.loop-number.invariant.entries (entries_same put c.put_changed.ensures));
     }
+
+pub returns-then-not-is_moved-clause-entries : goal.returns-then-not-is_moved-clause-entries
+returns-then-not-is_moved-clause-entries g c =
+    entries_same (none_followed c.args.core.now c.args.lane c.args.when c.args.cause c.args.rows.now.items (c.requires.kept c.if-not-is_moved.true)) (entries_none c.args.pen.now c.args.writer.now)
+
+pub returns-then-not-is_moved-clause-rows : goal.returns-then-not-is_moved-clause-rows
+returns-then-not-is_moved-clause-rows g c = c.requires.kept c.if-not-is_moved.true
 
 pub returns-clause-entries : goal.returns-clause-entries
 returns-clause-entries g c =

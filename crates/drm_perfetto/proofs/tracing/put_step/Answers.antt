@@ -1,23 +1,19 @@
-use Rattle.std.proofs.Common.{◌≡◌, ◌∙◌, Option, ap, sym}
+use Rattle.std.proofs.Common.{◌≡◌, ◌∙◌, Option, ap, subst, sym}
 use Rattle.std.specs.Option.{option_to_list}
 use Rattle.drm_perfetto.specs.declared.entry.Entry.{Entry}
 use Rattle.drm_perfetto.specs.declared.entry.Track.{Track}
+use Rattle.drm_perfetto.specs.declared.named.Moves.{Moves}
 use Rattle.drm_perfetto.specs.declared.named.Named.{Named}
+use Rattle.drm_perfetto.specs.Rows.{KeepsRows}
 use Rattle.drm_perfetto.specs.Steps.{all_changes, cause_of, instant_of}
-use Rattle.drm_perfetto.proofs.Pens.{entries_more, entries_none, entries_same}
-use Rattle.drm_perfetto.proofs.Refused.{refused_adds_nothing}
+use Rattle.drm_perfetto.proofs.Pens.{entries_more, entries_same}
 use Rattle.drm_perfetto.proofs.tracing.put_step.Goals as goal
 
-pub returns-then-is_refused-clause-entries : goal.returns-then-is_refused-clause-entries
-returns-then-is_refused-clause-entries g c = λ old event same all named kept.
-    let refused = sym c.is_refused.ensures ∙ c.if-is_refused.true in
-    entries_same (refused_adds_nothing old c.args.core.now c.args.when event c.args.answer.now refused (kept refused)) (entries_none c.args.pen.now c.args.writer.now)
-
-pub returns-then-is_refused-clause-rows : goal.returns-then-is_refused-clause-rows
-returns-then-is_refused-clause-rows g c = c.requires.refused (sym c.is_refused.ensures ∙ c.if-is_refused.true)
+pub put_changes-requires-clause-kept : goal.put_changes-requires-clause-kept
+put_changes-requires-clause-kept g c = subst (λ (m : Moves). KeepsRows m c.args.core.now c.args.rows.now) (sym c.moved_by.ensures) c.requires.kept
 
 pub returns-clause-entries : goal.returns-clause-entries
-returns-clause-entries g c = λ old event same all named kept.
+returns-clause-entries g c = λ old event same all named.
     let new = c.args.core.now in
     let answer = c.args.answer.now in
     entries_more

@@ -4,9 +4,9 @@ use Rattle.drm_core.specs.State.{CoreState}
 use Rattle.drm_perfetto.specs.Rows.{AllRows}
 use Rattle.drm_perfetto.specs.Steps.{step_entries}
 use Rattle.drm_perfetto.specs.Traces.{later}
+use Rattle.drm_perfetto.proofs.Kept.{rows_kept}
 use Rattle.drm_perfetto.proofs.Known.{known_stays}
 use Rattle.drm_perfetto.proofs.Pens.{entries_more, entries_none, entries_same}
-use Rattle.drm_perfetto.proofs.Refused.{refused_changes_nothing}
 use Rattle.drm_perfetto.proofs.RowFacts.{have_room}
 use Rattle.drm_perfetto.proofs.Traced.{TracesOn, added, traced_end, traced_none, traced_turn}
 use Rattle.drm_perfetto.proofs.tracing.put_steps.Goals as goal
@@ -15,9 +15,9 @@ pub put_step-requires : goal.put_step-requires
 put_step-requires g c = record {
   room = have_room c.loop-event.core c.apply-answer.new.self c.loop-event.rows (sym c.apply-answer.ensures.grows.spec) c.loop-event.invariant.rows;
   known = known_stays c.knowledge_stays.ensures c.retired_stay.ensures c.loop-event.core.device c.apply-answer.new.self.device c.loop-event.rows.watches c.apply-answer.ensures.grows c.loop-event.invariant.rows.known;
-  refused = λ is.
-      subst (λ (s : CoreState). AllRows s c.loop-event.rows)
-      (sym (refused_changes_nothing c.loop-event.core c.apply-answer.new.self c.in-Some.event c.apply-answer.result c.apply-answer.ensures.step is)) c.loop-event.invariant.rows;
+  kept =
+      rows_kept c.loop-event.core c.apply-answer.new.self c.in-Some.event c.apply-answer.result c.names-named.result c.loop-event.rows c.names-named.ensures c.apply-answer.ensures.step
+      (sym c.apply-answer.ensures.grows.spec) c.loop-event.invariant.rows;
 }
 
 pub loop-event-init : goal.loop-event-init
@@ -45,7 +45,7 @@ loop-event-preserved g c =
     let turned = traced_turn by start before after events c.loop-event.rest left so.0 so.1 command last event answer split c.apply-answer.ensures.step so.2 in
     let given = so.0 ++ answer ∷ [] in
     let entries = so.1 ++ added by command last before event answer after in
-    let put = c.put_step.ensures.entries before event (sym c.apply-answer.ensures.grows.spec) c.loop-event.invariant.rows c.names-named.ensures (refused_changes_nothing before after event answer c.apply-answer.ensures.step) in
+    let put = c.put_step.ensures.entries before event (sym c.apply-answer.ensures.grows.spec) c.loop-event.invariant.rows c.names-named.ensures in
     record {
       names = subst (λ spec. AllNamesExist spec left) (sym c.apply-answer.ensures.grows.spec) named.1;
       rows = c.put_step.ensures.rows;
@@ -76,7 +76,7 @@ loop-event-preserved-in-Some g c =
     let turned = traced_turn by start before after events c.loop-event.rest left so.0 so.1 command last event answer split c.apply-answer.ensures.step so.2 in
     let given = so.0 ++ answer ∷ [] in
     let entries = so.1 ++ added by command last before event answer after in
-    let put = c.put_step.ensures.entries before event (sym c.apply-answer.ensures.grows.spec) c.loop-event.invariant.rows c.names-named.ensures (refused_changes_nothing before after event answer c.apply-answer.ensures.step) in
+    let put = c.put_step.ensures.entries before event (sym c.apply-answer.ensures.grows.spec) c.loop-event.invariant.rows c.names-named.ensures in
     record {
       names = subst (λ spec. AllNamesExist spec left) (sym c.apply-answer.ensures.grows.spec) named.1;
       rows = c.put_step.ensures.rows;
