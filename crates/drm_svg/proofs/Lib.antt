@@ -4,3 +4,4 @@ pub mod Columns
 pub mod Rows
 pub mod Lanes
 pub mod Plain
+pub mod Digits
