@@ -1,7 +1,7 @@
 -- What a command can't have changed is shown as before.
-use Rattle.std.proofs.Common.{◌≡◌, ◌∙◌, ℕ, zero, suc, ◌<◌, Bool, true, false, cond, ◌&&◌, ◌==◌, List, [], ◌++◌, Option, Some, None, ap, length, refl, subst, sym, inl, inr}
+use Rattle.std.proofs.Common.{◌≡◌, ◌∙◌, ℕ, zero, suc, ◌+◌, ◌<◌, ◌≤◌, Bool, true, false, cond, ◌&&◌, ◌==◌, List, [], ◌++◌, Option, Some, None, ap, append-nil, arith, length, refl, subst, sym, inl, inr}
 use Rattle.std.specs.Prelude.{nat_lt, slice_get}
-use Rattle.std.proofs.lemmas.Bool.{eq-eqb}
+use Rattle.std.proofs.lemmas.Bool.{cases_lt, eq-eqb, eqb-true}
 use Rattle.drm_types.specs.declared.spec.DeviceSpec.{DeviceSpec}
 use Rattle.drm_types.specs.Firsts.{first}
 use Rattle.drm_job.specs.declared.Draft.{Draft}
@@ -32,7 +32,7 @@ use Rattle.drm_perfetto.specs.declared.rows.Rows.{Rows}
 use Rattle.drm_perfetto.specs.Rows.{AllRows, AreRows, DeviceRows, KeepsRows, row_at}
 use Rattle.drm_perfetto.specs.Steps.{arrow, begun, changed, credits_entry, each, ended, is_same, moves_device, moves_holders, moves_of, named_of, queued_entry, recounted, turned}
 use Rattle.drm_perfetto.specs.Tracks.{count_of, shown}
-use Rattle.drm_perfetto.proofs.RowFacts.{arrow_kept, each_alike}
+use Rattle.drm_perfetto.proofs.RowFacts.{arrow_kept, each_alike, each_more}
 
 -- ---- entries
 
@@ -64,6 +64,39 @@ unchanged lane.Queued when cause number row = ap (queued_entry number when.at) (
 each_none : (k : ℕ) (entries : ℕ → List Entry) → ((n : ℕ) → entries n ≡ []) → each k entries ≡ []
 each_none zero entries none = refl
 each_none (suc k) entries none = ap (λ (es : List Entry). es ++ entries k) (each_none k entries none) ∙ none k
+
+left_true : (a b : Bool) → (a && b) ≡ true → a ≡ true
+left_true true b is = refl
+left_true false b is = is
+
+right_true : (a b : Bool) → (a && b) ≡ true → b ≡ true
+right_true true b is = is
+right_true false b is = absurd (let no : false ≡ true = is in cc (no))
+
+-- rows that show the same are the same
+pub same_is : (old new : Option Row) → is_same old new ≡ true → old ≡ new
+same_is None None is = refl
+same_is None (Some new) is = absurd (let no : false ≡ true = is in cc (no))
+same_is (Some old) None is = absurd (let no : false ≡ true = is in cc (no))
+same_is (Some old) (Some new) is =
+    ap (λ (x : ℕ). Some (record { what = x; of = old.of })) (eqb-true old.what new.what (left_true (old.what == new.what) (old.of == new.of) is))
+    ∙ ap (λ (x : ℕ). Some (record { what = new.what; of = x })) (eqb-true old.of new.of (right_true (old.what == new.what) (old.of == new.of) is))
+
+-- of a row that is as it was nothing is told
+pub none_told : (kind : Lane) (when : When) (cause : Option Track) (number : ℕ) (old new : Option Row) → old ≡ new → changed kind when cause number old new ≡ []
+none_told kind when cause number old new same = ap (λ (r : Option Row). changed kind when cause number r new) same ∙ unchanged kind when cause number new
+
+pub each_stays : (k : ℕ) (f : ℕ → List Entry) → f k ≡ [] → each k f ≡ each (k + 1) f
+each_stays k f none = sym (append-nil (each k f)) ∙ ap (λ (es : List Entry). each k f ++ es) (sym none) ∙ each_more k f
+
+pub rows_stay : (rows : List (Option Row)) (f : ℕ → Option Row) (k : ℕ) → ((n : ℕ) → n < k → row_at rows n ≡ f n) → row_at rows k ≡ f k → (n : ℕ) → n < k + 1 → row_at rows n ≡ f n
+rows_stay rows f k so is n lt =
+    elim (cases_lt n k) [
+      | inl below ↦ so n below
+      | inr least ↦
+          let here : n ≡ k = omega (arith, least, lt) in
+          ap (row_at rows) here ∙ is ∙ ap f (sym here)
+    ]
 
 -- rows that are those of a state already bring no entry
 pub none_followed : (core : CoreState) (kind : Lane) (when : When) (cause : Option Track) (rows : List (Option Row)) → AreRows core kind rows

@@ -171,6 +171,7 @@ pub(crate) fn count(core: &Core, lane: Lane) -> u32
 }
 
 /// What a lane shows.
+#[inline(always)]
 pub(crate) fn shown(core: &Core, watches: &mut Watches, lane: Lane, number: u32) -> Option<Row>
     requires there { number < count_of core.now.device.spec lane }
     requires known { AreKnown core.now.device watches.old }

@@ -52,6 +52,7 @@ fn rows_of(
 }
 
 // The row of this number.
+#[inline]
 fn row_at(rows: &[Option<Row>], number: u32) -> Option<Row>
     ensures { result ≡ row_at rows.now number }
 {
@@ -59,6 +60,7 @@ fn row_at(rows: &[Option<Row>], number: u32) -> Option<Row>
 }
 
 // Whether two rows show the same.
+#[inline]
 fn is_same(old: Option<Row>, new: Option<Row>) -> bool
     ensures { result ≡ is_same old new }
 {
@@ -252,7 +254,8 @@ fn put_changed<W: Write>(
 }
 
 // What changes in the lanes of a kind, whose rows are then those of the core. Where nothing that they show was moved,
-// they are so already.
+// they are so already. Each kind is looked at by code of its own.
+#[inline(always)]
 fn follow<W: Write>(
     pen: &mut Pen,
     writer: &mut Sink<W>,
@@ -277,8 +280,10 @@ fn follow<W: Write>(
     for number in 0..count(core, lane) {
         let old = row_at(rows.as_slice(), number);
         let new = shown(core, watches, lane, number);
-        put_changed(pen, writer, lane, when, cause, number, old, new);
-        rows[number as usize] = new;
+        if !is_same(old, new) {
+            put_changed(pen, writer, lane, when, cause, number, old, new);
+            rows[number as usize] = new;
+        }
     }
 }
 

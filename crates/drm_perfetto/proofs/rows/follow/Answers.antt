@@ -5,9 +5,10 @@ use Rattle.drm_perfetto.specs.Rows.{row_at}
 use Rattle.drm_perfetto.specs.Steps.{changed, each}
 use Rattle.drm_perfetto.specs.Tracks.{count_of, shown}
 use Rattle.drm_perfetto.proofs.Pens.{entries_more, entries_none, entries_same}
-use Rattle.drm_perfetto.proofs.Kept.{none_followed}
+use Rattle.drm_perfetto.proofs.Kept.{each_stays, none_followed, none_told, rows_stay, same_is}
 use Rattle.drm_perfetto.proofs.RowFacts.{each_more, rows_done, rows_left}
 use Rattle.drm_perfetto.proofs.rows.follow.Goals as goal
+use Rattle.drm_perfetto.proofs.rows.follow.Goals.{then-not-is_same, else-not-is_same}
 
 pub loop-number-init : goal.loop-number-init
 loop-number-init g c = record {
@@ -30,13 +31,26 @@ loop-number-preserved g c =
     let within : k < length rows = omega (arith, c.loop-number.invariant.room, c.count-number-end.ensures, c.loop-number-test.true) in
     let old : c.row_at-old.result ≡ row_at was k = c.row_at-old.ensures ∙ ap (λ (rs : _). row_at rs k) c.as_slice.ensures.value ∙ c.loop-number.invariant.left k (omega arith) in
     let put = ap (λ (r : Option Row). changed lane c.args.when c.args.cause k r now) old ∙ ap (λ (r : Option Row). changed lane c.args.when c.args.cause k (row_at was k) r) c.shown-new.ensures.row in
-    record {
-      room = length-set rows k now ∙ c.loop-number.invariant.room;
-      known = c.shown-new.ensures.known;
-      done = rows_done rows now (shown core lane) k within c.loop-number.invariant.done c.shown-new.ensures.row;
-      left = rows_left rows was now k c.loop-number.invariant.left;
-      entries = entries_same (each_more k told) (entries_more c.loop-number.invariant.entries (entries_same put c.put_changed.ensures));
-    }
+    let was_k : row_at rows k ≡ row_at was k = c.loop-number.invariant.left k (omega arith) in
+    elim c.if-not-is_same.branch [
+      | then-not-is_same w ↦ rw (w.pen-is, w.writer-is, w.rows-is) (record {
+        room = length-set rows k now ∙ c.loop-number.invariant.room;
+        known = c.shown-new.ensures.known;
+        done = rows_done rows now (shown core lane) k within c.loop-number.invariant.done c.shown-new.ensures.row;
+        left = rows_left rows was now k c.loop-number.invariant.left;
+        entries = entries_same (each_more k told) (entries_more c.loop-number.invariant.entries (entries_same put w.put_changed.ensures));
+      })
+      | else-not-is_same w ↦
+          let same : c.row_at-old.result ≡ now = same_is c.row_at-old.result now (sym c.is_same.ensures ∙ w.if-not-is_same.false) in
+          let stays : row_at was k ≡ shown core lane k = sym old ∙ same ∙ c.shown-new.ensures.row in
+          rw (w.pen-is, w.writer-is, w.rows-is) (record {
+            room = c.loop-number.invariant.room;
+            known = c.shown-new.ensures.known;
+            done = rows_stay rows (shown core lane) k c.loop-number.invariant.done (was_k ∙ stays);
+            left = λ n from. c.loop-number.invariant.left n (omega (arith, from));
+            entries = entries_same (each_stays k told (none_told lane c.args.when c.args.cause k (row_at was k) (shown core lane k) stays)) c.loop-number.invariant.entries;
+          })
+    ]
 
 pub returns-then-not-is_moved-clause-entries : goal.returns-then-not-is_moved-clause-entries
 returns-then-not-is_moved-clause-entries g c =
