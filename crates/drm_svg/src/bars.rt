@@ -1,7 +1,7 @@
 //! The text of bars.
 
 ghost use Rattle.std.specs.Option.{option_copied};
-ghost use Rattle.std.specs.Prelude.{◌≡◌, ◌++◌, IfOk, OnOk};
+ghost use Rattle.std.specs.Prelude.{◌≡◌, ◌++◌, OnOk};
 ghost use Rattle.drm_svg.specs.Bars.{bar_text, bars_text, class_of, class_of_entity, colour_text, entity_label, fits, halt_place_text, halt_text, halts_text, label_of, label_text, line_of, paint_text, place_text, text_at, title_text};
 ghost use Rattle.drm_svg.specs.Owners.{job_of, letters_text};
 
@@ -27,7 +27,7 @@ const HEIGHT: &str = "0' height='8'/>";
 /// The height of the bar of an entity that was stopped, which leaves room for marks.
 const HALT_HEIGHT: &str = "0' height='1'/></g>\n";
 
-/// The room for a label, which most find enough.
+/// The room for the label of one bar after another, which most find enough.
 const LABEL: usize = 64;
 
 /// The end of a bar.
@@ -47,24 +47,26 @@ fn put_entity(out: &mut Vec<u8>, kind: Kind, job: Option<&Request>) -> Result<()
     }
 }
 
-// The number of a bar, the entity of its job if there is one to tell, and the sign of its outcome.
-fn label(alloc: Global, job: Option<&Request>, bar: &Bar) -> Result<Vec<u8>, AllocError>
-    ensures { IfOk result (λ label. label.items ≡ label_of (option_copied job.entry) bar.now) }
+// Makes the label of a bar: its number, the entity of its job if there is one to tell, and the sign of its outcome.
+fn fill_label(label: &mut Vec<u8>, job: Option<&Request>, bar: &Bar) -> Result<(), AllocError>
+    ensures { OnOk result (label.new.items ≡ label_of (option_copied job.entry) bar.now) }
 {
-    let mut label = Vec::with_capacity(alloc, LABEL)?;
-    put_number(&mut label, u64::from(bar.opening.number))?;
-    put_entity(&mut label, bar.kind, job)?;
-    put_text(&mut label, look_sign(bar.look))?;
-    Ok(label)
+    label.clear();
+    put_number(label, u64::from(bar.opening.number))?;
+    put_entity(label, bar.kind, job)?;
+    put_text(label, look_sign(bar.look))
 }
 
-// The same, and what the job does with which buffers.
-fn long_label(alloc: Global, job: Option<&Request>, bar: &Bar) -> Result<Vec<u8>, AllocError>
-    ensures { IfOk result (λ label. label.items ≡ label_of (option_copied job.entry) bar.now ++ letters_text bar.now.kind (option_copied job.entry)) }
+// Makes the same, and what the job does with which buffers.
+fn fill_long_label(
+    label: &mut Vec<u8>,
+    job: Option<&Request>,
+    bar: &Bar,
+) -> Result<(), AllocError>
+    ensures { OnOk result (label.new.items ≡ label_of (option_copied job.entry) bar.now ++ letters_text bar.now.kind (option_copied job.entry)) }
 {
-    let mut label = label(alloc, job, bar)?;
-    put_letters(&mut label, bar.kind, job)?;
-    Ok(label)
+    fill_label(label, job, bar)?;
+    put_letters(label, bar.kind, job)
 }
 
 // Whether a label fits into so many columns.
@@ -90,24 +92,24 @@ fn put_text_at(out: &mut Vec<u8>, bar: &Placed, label: &[u8]) -> Result<(), Allo
 
 // Puts the first of the labels of a bar that fits, from the longest on, if one does.
 fn put_label(
-    alloc: Global,
+    label: &mut Vec<u8>,
     out: &mut Vec<u8>,
     job: Option<&Request>,
     bar: &Placed,
 ) -> Result<(), AllocError>
     ensures { OnOk result (out.new.items ≡ out.old.items ++ label_text (option_copied job.entry) bar.now) }
 {
-    let long = long_label(alloc, job, &bar.bar)?;
-    if is_fitting(bar.width, &long) {
-        return put_text_at(out, bar, &long);
+    fill_long_label(label, job, &bar.bar)?;
+    if is_fitting(bar.width, label) {
+        return put_text_at(out, bar, label);
     }
-    let middle = label(alloc, job, &bar.bar)?;
-    if is_fitting(bar.width, &middle) {
-        return put_text_at(out, bar, &middle);
+    fill_label(label, job, &bar.bar)?;
+    if is_fitting(bar.width, label) {
+        return put_text_at(out, bar, label);
     }
-    let short = label(alloc, None, &bar.bar)?;
-    if is_fitting(bar.width, &short) {
-        return put_text_at(out, bar, &short);
+    fill_label(label, None, &bar.bar)?;
+    if is_fitting(bar.width, label) {
+        return put_text_at(out, bar, label);
     }
     Ok(())
 }
@@ -182,7 +184,7 @@ fn put_colour(out: &mut Vec<u8>, job: Option<&Request>, bar: &Bar) -> Result<(),
 // Puts the bar of a job, or of none.
 #[tactic(auto, unfolding(crate::specs::Bars::bar_text))]
 fn put_bar(
-    alloc: Global,
+    label: &mut Vec<u8>,
     out: &mut Vec<u8>,
     job: Option<&Request>,
     bar: &Placed,
@@ -192,20 +194,20 @@ fn put_bar(
     put_title(out, job, &bar.bar)?;
     put_colour(out, job, &bar.bar)?;
     put_place(out, bar)?;
-    put_label(alloc, out, job, bar)?;
+    put_label(label, out, job, bar)?;
     put_text(out, GROUP_END)
 }
 
 // Puts a bar of a picture.
 fn put_bar_of(
-    alloc: Global,
+    label: &mut Vec<u8>,
     out: &mut Vec<u8>,
     picture: &Picture,
     bar: &Placed,
 ) -> Result<(), AllocError>
     ensures { OnOk result (out.new.items ≡ out.old.items ++ bar_text (job_of picture.now bar.now.bar) bar.now) }
 {
-    put_bar(alloc, out, job(picture, &bar.bar), bar)
+    put_bar(label, out, job(picture, &bar.bar), bar)
 }
 
 /// Puts bars of a picture.
@@ -217,8 +219,9 @@ pub(crate) fn put_bars(
 ) -> Result<(), AllocError>
     ensures { OnOk result (out.new.items ≡ out.old.items ++ bars_text picture.now bars.now) }
 {
+    let mut label = Vec::with_capacity(alloc, LABEL)?;
     for bar in bars {
-        put_bar_of(alloc, out, picture, bar)?;
+        put_bar_of(&mut label, out, picture, bar)?;
     }
     Ok(())
 }

@@ -6,8 +6,8 @@ ghost use Rattle.drm_svg.specs.Signs.{name_of};
 use drm_picture::Lane;
 use std::alloc::AllocError;
 
-/// Puts a text.
-#[inline]
+/// Puts a text. Where it is a constant, the code becomes a few stores.
+#[inline(always)]
 pub fn put_text(out: &mut Vec<u8>, text: &str) -> Result<(), AllocError>
     ensures { OnOk result (out.new.items ≡ out.old.items ++ text.now) }
 {
@@ -99,7 +99,10 @@ pub fn put_wide(out: &mut Vec<u8>, number: u128) -> Result<(), AllocError>
 pub(crate) fn put_later(out: &mut Vec<u8>, place: usize, more: usize) -> Result<(), AllocError>
     ensures { OnOk result (out.new.items ≡ out.old.items ++ decimal (place + more)) }
 {
-    put_wide(out, place as u128 + more as u128)
+    match place.checked_add(more) {
+        Some(number) => put_number(out, number as u64),
+        None => put_wide(out, place as u128 + more as u128),
+    }
 }
 
 // Puts the name of a lane.
