@@ -1,3 +1,4 @@
+pub mod Digits
 pub mod Fillings
 pub mod Known
 pub mod Pens

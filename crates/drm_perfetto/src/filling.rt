@@ -1,6 +1,6 @@
 //! Words with numbers in them, put into a piece of text.
 
-ghost use Rattle.std.specs.Prelude.{◌≡◌, ◌++◌, decimal, drop, flat_map, take};
+ghost use Rattle.std.specs.Prelude.{◌≡◌, ◌+◌, ◌<◌, ◌≤◌, ◌++◌, decimal, drop, flat_map, take};
 ghost use Rattle.drm_engine.specs.Replaying.{Told};
 ghost use Rattle.drm_perfetto.specs.Filling.{filled};
 
@@ -10,6 +10,7 @@ use memchr::memchr;
 use std::io::Write;
 
 /// Puts these bytes, all at once where there is room for them.
+#[inline]
 pub(crate) fn put_bytes<W: Write>(
     piece: &mut Piece,
     writer: &mut Sink<W>,
@@ -28,8 +29,37 @@ pub(crate) fn put_bytes<W: Write>(
     Ok(())
 }
 
-// Puts a number.
-fn put_number<W: Write>(
+// The digit of a number below ten.
+fn digit(value: u64) -> u8
+    requires { value < 10 }
+    ensures { result ≡ 48 + value }
+{
+    b'0' + value as u8
+}
+
+// Puts a number of four digits.
+fn put_four_digits<W: Write>(
+    piece: &mut Piece,
+    writer: &mut Sink<W>,
+    number: u64,
+) -> Result<(), WriteFailed>
+    requires least { 1000 ≤ number }
+    requires most { number < 10000 }
+    ensures { Told writer.old writer.new result (piece.old ++ decimal number) piece.new }
+{
+    let tens = number / 10;
+    let hundreds = tens / 10;
+    let digits = [
+        digit(hundreds / 10),
+        digit(hundreds % 10),
+        digit(tens % 10),
+        digit(number % 10),
+    ];
+    put_bytes(piece, writer, &digits)
+}
+
+// Puts a number of any length.
+fn put_digits<W: Write>(
     piece: &mut Piece,
     writer: &mut Sink<W>,
     number: u64,
@@ -39,6 +69,23 @@ fn put_number<W: Write>(
     let mut buffer = itoa::Buffer::new();
     let digits = buffer.format(number).as_bytes();
     put_bytes(piece, writer, digits)
+}
+
+// Puts a number. Most have one digit, as those of rings and entities, or four, as those of commands and jobs.
+fn put_number<W: Write>(
+    piece: &mut Piece,
+    writer: &mut Sink<W>,
+    number: u64,
+) -> Result<(), WriteFailed>
+    ensures { Told writer.old writer.new result (piece.old ++ decimal number) piece.new }
+{
+    if number < 10 {
+        return piece.push(writer, digit(number));
+    }
+    if 1000 <= number && number < 10000 {
+        return put_four_digits(piece, writer, number);
+    }
+    put_digits(piece, writer, number)
 }
 
 // Puts the first of the numbers, if there is one.
