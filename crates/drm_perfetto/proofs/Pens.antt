@@ -1,5 +1,5 @@
 -- What a pen adds, one thing behind another.
-use Rattle.std.proofs.Common.{◌≡◌, ◌∙◌, ℕ, List, [], ◌∷◌, ◌++◌, Ok, Err, Result, append_assoc, append-nil, false, flat_map, refl, subst, sym, true}
+use Rattle.std.proofs.Common.{◌≡◌, ℕ, List, [], ◌∷◌, ◌++◌, append_assoc, append-nil, false, flat_map, refl, subst, sym, true}
 use Rattle.std.specs.Prelude.{is_ok}
 use Rattle.std.proofs.lemmas.Grind.{flat_map-append}
 use Rattle.drm_stream.specs.Streams.{SinkState}

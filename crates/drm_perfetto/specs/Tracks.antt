@@ -1,5 +1,5 @@
 -- What the tracks and counters of a trace show of the state of a core.
-use Rattle.std.specs.Prelude.{ℕ, ◌-◌, min, List, length, Option, Some, None, option_and_then, option_map, slice_get}
+use Rattle.std.specs.Prelude.{ℕ, ◌-◌, min, List, length, Option, Some, option_and_then, option_map, slice_get}
 use Rattle.std.specs.Option.{option_map_or}
 use Rattle.drm_types.specs.declared.spec.DeviceSpec.{DeviceSpec}
 use Rattle.drm_types.specs.Firsts.{first}

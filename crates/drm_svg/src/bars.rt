@@ -58,11 +58,7 @@ fn fill_label(label: &mut Vec<u8>, job: Option<&Request>, bar: &Bar) -> Result<(
 }
 
 // Makes the same, and what the job does with which buffers.
-fn fill_long_label(
-    label: &mut Vec<u8>,
-    job: Option<&Request>,
-    bar: &Bar,
-) -> Result<(), AllocError>
+fn fill_long_label(label: &mut Vec<u8>, job: Option<&Request>, bar: &Bar) -> Result<(), AllocError>
     ensures { OnOk result (label.new.items ≡ label_of (option_copied job.entry) bar.now ++ letters_text bar.now.kind (option_copied job.entry)) }
 {
     fill_label(label, job, bar)?;
@@ -123,11 +119,7 @@ fn skipped(bar: &Bar) -> &'static str
 
 // Puts what a bar tells, as its title.
 #[tactic(auto, unfolding(crate::specs::Bars::title_text))]
-fn put_title(
-    out: &mut Vec<u8>,
-    job: Option<&Request>,
-    bar: &Bar,
-) -> Result<(), AllocError>
+fn put_title(out: &mut Vec<u8>, job: Option<&Request>, bar: &Bar) -> Result<(), AllocError>
     ensures { OnOk result (out.new.items ≡ out.old.items ++ title_text (option_copied job.entry) bar.now) }
 {
     put_text(out, "<g class='")?;

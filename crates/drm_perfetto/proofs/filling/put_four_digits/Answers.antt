@@ -1,4 +1,4 @@
-use Rattle.std.proofs.Common.{◌≡◌, ◌∙◌, ◌∷◌, ◌++◌, ◌+◌, ◌/◌, ◌%◌, [], ℕ, List, ap, arith, subst, sym, refl}
+use Rattle.std.proofs.Common.{◌≡◌, ◌∷◌, ◌++◌, [], ℕ, List, subst, sym}
 use Rattle.std.specs.Fmt.{decimal}
 use Rattle.drm_engine.specs.Replaying.{Told}
 use Rattle.drm_perfetto.proofs.Digits.{four_digits}

@@ -1,4 +1,4 @@
-use Rattle.std.proofs.Common.{◌∙◌, ◌∷◌, ◌++◌, [], ℕ, List, ap, arith, subst, sym}
+use Rattle.std.proofs.Common.{◌∙◌, ◌∷◌, ◌++◌, [], ℕ, List, ap, subst, sym}
 use Rattle.drm_engine.specs.Replaying.{Told}
 use Rattle.drm_perfetto.proofs.Digits.{one_digit}
 use Rattle.drm_perfetto.proofs.filling.put_number.Goals as goal

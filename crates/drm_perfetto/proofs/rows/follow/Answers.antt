@@ -1,4 +1,4 @@
-use Rattle.std.proofs.Common.{◌≡◌, ◌∙◌, ℕ, ◌<◌, ◌≤◌, ◌+◌, Option, ap, arith, length, length-set, refl, subst, sym}
+use Rattle.std.proofs.Common.{◌≡◌, ◌∙◌, ℕ, ◌<◌, Option, ap, arith, length, length-set, refl, subst, sym}
 use Rattle.drm_perfetto.specs.declared.lanes.Row.{Row}
 use Rattle.drm_perfetto.specs.Pens.{AddsEntries}
 use Rattle.drm_perfetto.specs.Rows.{row_at}

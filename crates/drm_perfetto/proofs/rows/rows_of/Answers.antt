@@ -1,4 +1,4 @@
-use Rattle.std.proofs.Common.{◌≡◌, ◌∷◌, ◌++◌, [], arith, length}
+use Rattle.std.proofs.Common.{◌≡◌, ◌∷◌, ◌++◌, [], arith}
 use Rattle.std.proofs.lemmas.List.{length-append}
 use Rattle.drm_perfetto.specs.Tracks.{shown}
 use Rattle.drm_perfetto.proofs.RowFacts.{rows_more}

@@ -1,4 +1,4 @@
-use Rattle.std.proofs.Common.{◌≡◌, ◌∙◌, Option, ap, subst, sym}
+use Rattle.std.proofs.Common.{◌∙◌, Option, ap, subst, sym}
 use Rattle.std.specs.Option.{option_to_list}
 use Rattle.drm_perfetto.specs.declared.entry.Entry.{Entry}
 use Rattle.drm_perfetto.specs.declared.entry.Track.{Track}

@@ -1,7 +1,5 @@
-use Rattle.std.proofs.Common.{◌≡◌, ◌∷◌, ◌++◌, ◌∙◌, ℕ, [], ap, subst, sym}
+use Rattle.std.proofs.Common.{◌≡◌, ◌∷◌, ◌++◌, ℕ, [], ap, subst, sym}
 use Rattle.drm_core.specs.Run.{AllNamesExist}
-use Rattle.drm_core.specs.State.{CoreState}
-use Rattle.drm_perfetto.specs.Rows.{AllRows}
 use Rattle.drm_perfetto.specs.Steps.{step_entries}
 use Rattle.drm_perfetto.specs.Traces.{later}
 use Rattle.drm_perfetto.proofs.Kept.{rows_kept}

@@ -1,4 +1,4 @@
-use Rattle.std.proofs.Common.{refl, sym, subst}
+use Rattle.std.proofs.Common.{refl}
 use Rattle.std.specs.Io.KnownBytes.{Appends}
 use Rattle.drm_stream.specs.Streams.{NoWriteFailed}
 use Rattle.drm_engine.specs.Replaying.{ToldFront}

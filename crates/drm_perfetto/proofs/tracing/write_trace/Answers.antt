@@ -1,7 +1,5 @@
-use Rattle.std.proofs.Common.{◌≡◌, ◌++◌, [], List, ℕ, Ok, flat_map, refl, subst, sym}
-use Rattle.drm_engine.specs.Replaying.{Told}
+use Rattle.std.proofs.Common.{[], refl}
 use Rattle.drm_engine.proofs.Pieces.{all_written, kept_so_far}
-use Rattle.drm_perfetto.specs.Pens.{Adds}
 use Rattle.drm_perfetto.specs.Traces.{text_of_trace}
 use Rattle.drm_perfetto.proofs.Pens.{adds_more}
 use Rattle.drm_perfetto.proofs.tracing.write_trace.Goals as goal
