@@ -1,5 +1,5 @@
 -- Which fence a job waits for: of a reason, and from where on it is looked for.
-use Rattle.std.proofs.Common.{◌≡◌, ℕ, ◌≤◌, Bool, true, false, cond, ◌==◌, Some, None, Option, refl, sym, subst, ◌∙◌, slice_get}
+use Rattle.std.proofs.Common.{◌≡◌, ℕ, Bool, true, false, cond, ◌==◌, Some, None, Option, refl, sym, subst, ◌∙◌, slice_get}
 use Rattle.std.specs.Prelude.{nat_lt, option_map, unwrap_or}
 use Rattle.std.specs.Option.{option_map_or}
 use Rattle.drm_state.specs.declared.journal.JobRecord.{JobRecord}
