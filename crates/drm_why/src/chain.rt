@@ -1,9 +1,10 @@
 //! The job that holds another one up.
 
 ghost use Rattle.std.specs.Prelude.{◌≡◌};
+ghost use Rattle.drm_reason.specs.Retired.{AreRetired};
 ghost use Rattle.drm_why.specs.Chains.{holder_of, link_of};
 
-use drm_reason::{Reason, reason_of};
+use drm_reason::{Reason, Retired};
 use drm_sched::Device;
 use drm_types::FenceId;
 
@@ -29,11 +30,12 @@ pub(crate) fn holder(reason: Reason) -> Option<FenceId>
 }
 
 /// Returns the job of this number with its reason.
-pub(crate) fn linked(device: &Device, fence: FenceId) -> Link
+pub(crate) fn linked(device: &Device, retired: Retired, fence: FenceId) -> Link
+    requires { AreRetired device.now.state retired }
     ensures { result ≡ link_of device.now.state fence }
 {
     Link {
         fence,
-        reason: reason_of(device, fence),
+        reason: retired.reason_of(device, fence),
     }
 }

@@ -5,6 +5,7 @@ ghost use Rattle.drm_why.specs.Lines.{text_of_jobs};
 
 use crate::chain::linked;
 use crate::lines::put_link;
+use drm_reason::Retired;
 use drm_sched::Device;
 use std::alloc::{AllocError, Global};
 
@@ -12,9 +13,11 @@ use std::alloc::{AllocError, Global};
 pub(crate) fn jobs_text(alloc: Global, device: &Device) -> Result<Vec<u8>, AllocError>
     ensures { IfOk result (λ text. text.items ≡ text_of_jobs device.now.state) }
 {
+    let mut retired = Retired::none();
+    retired.advance(device);
     let mut out = Vec::new(alloc);
     for number in 0..device.armed() {
-        put_link(&mut out, &linked(device, number))?;
+        put_link(&mut out, &linked(device, retired, number))?;
     }
     Ok(out)
 }

@@ -3,11 +3,12 @@
 ghost use Rattle.std.specs.Prelude.{◌≡◌, ◌<◌, IfOk, length};
 ghost use Rattle.drm_core.specs.Lawful.{IsLawful};
 ghost use Rattle.drm_core.specs.Run.{AllNamesExist};
+ghost use Rattle.drm_reason.specs.Retired.{AreRetired};
 ghost use Rattle.drm_why.specs.Rings.{IsRow, SeesRows, doing_by as doing_by_reason, doing_of, doing_queued, doings_of};
 
 use crate::seeing::{clock_after, command};
 use drm_core::Core;
-use drm_reason::{Reason, Retired, reason_of};
+use drm_reason::{Reason, Retired, retired_stay};
 use drm_sched::Device;
 use drm_script::Events;
 use drm_types::{FenceId, Moment, RingId, Sequence};
@@ -49,18 +50,20 @@ fn doing_by(reason: Reason) -> Doing
 }
 
 // Returns what an idle ring does for which this job is the first that is queued.
-fn queued(device: &Device, first: Option<FenceId>) -> Doing
+fn queued(device: &Device, retired: Retired, first: Option<FenceId>) -> Doing
+    requires { AreRetired device.now.state retired }
     ensures { result ≡ doing_queued device.now.state first }
 {
     match first {
-        Some(number) => doing_by(reason_of(device, number)),
+        Some(number) => doing_by(retired.reason_of(device, number)),
         None => Doing::Unused,
     }
 }
 
 // Returns what the ring does.
-fn doing_at(device: &Device, ring: RingId) -> Doing
-    requires { ring < length device.now.state.spec.rings }
+fn doing_at(device: &Device, retired: Retired, ring: RingId) -> Doing
+    requires retired { AreRetired device.now.state retired }
+    requires there { ring < length device.now.state.spec.rings }
     ensures { result ≡ doing_of device.now.state ring }
 {
     if !device.pending(ring).is_empty() {
@@ -68,30 +71,37 @@ fn doing_at(device: &Device, ring: RingId) -> Doing
     }
     match device.choice(ring) {
         Some(_) => Doing::Ready,
-        None => queued(device, Retired::none().first_queued(device, ring)),
+        None => queued(device, retired, retired.first_queued(device, ring)),
     }
 }
 
 // Returns what each ring does.
-fn doings(alloc: Global, device: &Device) -> Result<Sequence<Doing>, AllocError>
+fn doings(alloc: Global, device: &Device, retired: Retired) -> Result<Sequence<Doing>, AllocError>
+    requires { AreRetired device.now.state retired }
     ensures { IfOk result (λ doings. doings ≡ doings_of device.now.state) }
 {
     device.facts();
     let mut doings = Vec::new(alloc);
     let rings = device.spec().rings.len() as RingId;
     for ring in 0..rings {
-        doings.push(doing_at(device, ring))?;
+        doings.push(doing_at(device, retired, ring))?;
     }
     Ok(Sequence::from_vec(doings))
 }
 
 // Returns what is seen of the rings, where this moment was told last.
-fn row_of(alloc: Global, device: &Device, clock: Moment) -> Result<Row, AllocError>
+fn row_of(
+    alloc: Global,
+    device: &Device,
+    retired: Retired,
+    clock: Moment,
+) -> Result<Row, AllocError>
+    requires { AreRetired device.now.state retired }
     ensures { IfOk result (λ row. IsRow device.now.state clock row) }
 {
     Ok(Row {
         clock,
-        doings: doings(alloc, device)?,
+        doings: doings(alloc, device, retired)?,
     })
 }
 
@@ -105,13 +115,17 @@ pub(crate) fn take_rows(
     requires lawful { IsLawful core.old }
     ensures { IfOk result (λ rows. SeesRows 0 core.old events rows.items core.new) }
 {
+    retired_stay();
     let mut rows = Vec::new(alloc);
     let mut clock = 0;
+    let mut retired = Retired::none();
     let mut rest = events.into_left();
     while let Some(event) = rest.next() {
         clock = clock_after(clock, command(&event));
         core.apply(alloc, event);
-        let row = row_of(alloc, core.device(), clock)?;
+        let device = core.device();
+        retired.advance(device);
+        let row = row_of(alloc, device, retired, clock)?;
         rows.push(row)?;
     }
     Ok(rows)

@@ -3,6 +3,7 @@
 ghost use Rattle.std.specs.Prelude.{◌≡◌, ◌∷◌, ◌++◌, [], IfOk, OnOk};
 ghost use Rattle.drm_core.specs.Lawful.{IsLawful};
 ghost use Rattle.drm_core.specs.Run.{AllNamesExist};
+ghost use Rattle.drm_reason.specs.Retired.{AreRetired};
 ghost use Rattle.drm_reason.specs.Watching.{Knows};
 ghost use Rattle.drm_reason.specs.declared.reason.Reason.TheVariants as reason;
 ghost use Rattle.drm_why.specs.Chains.{IsChainFrom, holder_of, link_of, link_with};
@@ -13,7 +14,7 @@ use crate::same::are_same;
 use drm_core::{Core, Event};
 use drm_job::Draft;
 use drm_picture::moment;
-use drm_reason::{Reason, Watch, knowledge_stays, reason_of};
+use drm_reason::{Reason, Retired, Watch, knowledge_stays, retired_stay};
 use drm_sched::Device;
 use drm_script::Events;
 use drm_types::{EntityId, FenceId, Moment, Sequence};
@@ -78,13 +79,15 @@ fn add_reason(
 // Adds the job of this number with its reason, and returns the job by which that holds it up.
 fn add_link(
     device: &Device,
+    retired: Retired,
     links: &mut Vec<Link>,
     fence: FenceId,
 ) -> Result<Option<FenceId>, AllocError>
+    requires { AreRetired device.now.state retired }
     ensures next { IfOk result (λ next. next ≡ holder_of (link_of device.now.state fence).reason) }
     ensures links { OnOk result (links.new.items ≡ links.old.items ++ link_of device.now.state fence ∷ []) }
 {
-    let reason = reason_of(device, fence);
+    let reason = retired.reason_of(device, fence);
     add_reason(links, fence, &reason)
 }
 
@@ -92,16 +95,18 @@ fn add_link(
 fn chain(
     alloc: Global,
     device: &Device,
+    retired: Retired,
     fence: FenceId,
     first: Option<FenceId>,
 ) -> Result<Vec<Link>, AllocError>
+    requires { AreRetired device.now.state retired }
     ensures { IfOk result (λ links. IsChainFrom device.now.state fence first links.items) }
 {
     let mut links = Vec::new(alloc);
     let mut number = fence;
     let mut next = first;
     while let Some(by) = next {
-        let following = add_link(device, &mut links, by)?;
+        let following = add_link(device, retired, &mut links, by)?;
         if number <= by {
             return Ok(links);
         }
@@ -115,17 +120,19 @@ fn chain(
 fn links(
     alloc: Global,
     device: &Device,
+    retired: Retired,
     fence: FenceId,
     before: Reason,
     reason: Reason,
 ) -> Result<Sequence<Link>, AllocError>
+    requires { AreRetired device.now.state retired }
     ensures { IfOk result (λ links. AreLinks device.now.state fence before reason links) }
 {
     if are_same(reason, before) {
         return Ok(Sequence::new(alloc));
     }
     let first = holder(reason);
-    Ok(Sequence::from_vec(chain(alloc, device, fence, first)?))
+    Ok(Sequence::from_vec(chain(alloc, device, retired, fence, first)?))
 }
 
 // Copies these.
@@ -147,14 +154,16 @@ fn copied(alloc: Global, links: &[Link]) -> Result<Sequence<Link>, AllocError>
 fn seen_of(
     alloc: Global,
     device: &Device,
+    retired: Retired,
     fence: FenceId,
     before: Reason,
     reason: &Reason,
     command: &Event<EntityId>,
 ) -> Result<Seen, AllocError>
+    requires { AreRetired device.now.state retired }
     ensures { IfOk result (λ seen. IsLook device.now.state fence before reason.now command.now seen) }
 {
-    let links = links(alloc, device, fence, before, *reason)?;
+    let links = links(alloc, device, retired, fence, before, *reason)?;
     Ok(Seen {
         command: *command,
         reason: *reason,
@@ -176,11 +185,13 @@ fn last_reason(seens: &[Seen]) -> Reason
 fn add_seen(
     alloc: Global,
     device: &Device,
+    retired: Retired,
     watch: &mut Watch,
     seens: &mut Vec<Seen>,
     command: &Event<EntityId>,
 ) -> Result<(), AllocError>
-    requires { Knows device.now.state watch.old }
+    requires retired { AreRetired device.now.state retired }
+    requires known { Knows device.now.state watch.old }
     ensures seen { OnOk result (AddsLook device.now.state watch.old.fence command.now seens.old.items seens.new.items) }
     ensures known { Knows device.now.state watch.new }
     ensures fence { watch.new.fence ≡ watch.old.fence }
@@ -188,7 +199,7 @@ fn add_seen(
     let before = last_reason(seens);
     let fence = watch.fence;
     let reason = watch.look(device);
-    let seen = seen_of(alloc, device, fence, before, &reason, command)?;
+    let seen = seen_of(alloc, device, retired, fence, before, &reason, command)?;
     seens.push(seen)?;
     Ok(())
 }
@@ -206,13 +217,17 @@ pub(crate) fn take_seen(
     ensures { IfOk result (λ seens. Sees fence reason.NotArmed core.old events seens.items core.new) }
 {
     knowledge_stays();
+    retired_stay();
     let mut seens = Vec::new(alloc);
     let mut watch = Watch::of(fence);
+    let mut retired = Retired::none();
     let mut rest = events.into_left();
     while let Some(event) = rest.next() {
         let command = command(&event);
         core.apply(alloc, event);
-        add_seen(alloc, core.device(), &mut watch, &mut seens, &command)?;
+        let device = core.device();
+        retired.advance(device);
+        add_seen(alloc, device, retired, &mut watch, &mut seens, &command)?;
     }
     Ok(seens)
 }

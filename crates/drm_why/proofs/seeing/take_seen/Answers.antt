@@ -2,6 +2,7 @@ use Rattle.std.proofs.Common.{◌≡◌, ◌∷◌, ◌∙◌, ℕ, ap, List, su
 use Rattle.drm_core.specs.declared.event.Event.{Event}
 use Rattle.drm_core.specs.Run.{AllNamesExist}
 use Rattle.drm_reason.specs.declared.reason.Reason.{Reason}
+use Rattle.drm_reason.specs.Retired.{AreRetired}
 use Rattle.drm_reason.specs.Watching.{Knows}
 use Rattle.drm_state.specs.State.{DeviceState}
 use Rattle.drm_why.specs.Seeing.{AddsLook, IsSeen, command_of, reason_behind}
@@ -9,9 +10,14 @@ use Rattle.drm_why.specs.declared.seeing.Seen.{Seen}
 use Rattle.drm_why.proofs.Sights.{SeesOn, look_seen, reason_pushed, sees_end, sees_turn}
 use Rattle.drm_why.proofs.seeing.take_seen.Goals as goal
 
-pub add_seen-requires : goal.add_seen-requires
-add_seen-requires c =
-    subst (λ (d : DeviceState). Knows d c.loop-event.watch) (sym c.device.ensures.state)
+pub advance-requires : goal.advance-requires
+advance-requires c =
+    subst (λ (d : DeviceState). AreRetired d c.loop-event.retired) (sym c.device-device.ensures.state)
+    (c.retired_stay.ensures c.loop-event.core.device c.apply.new.self.device c.loop-event.retired c.apply.ensures.grows c.loop-event.invariant.retired)
+
+pub add_seen-requires-clause-known : goal.add_seen-requires-clause-known
+add_seen-requires-clause-known c =
+    subst (λ (d : DeviceState). Knows d c.loop-event.watch) (sym c.device-device.ensures.state)
     (c.knowledge_stays.ensures c.loop-event.core.device c.apply.new.self.device c.loop-event.watch c.apply.ensures.grows c.loop-event.invariant.known)
 
 pub loop-event-preserved : goal.loop-event-preserved
@@ -29,7 +35,7 @@ loop-event-preserved c =
     let added : AddsLook next.device c.args.fence (command_of event) seens c.add_seen.new.seens.items =
     subst (λ (command : Event ℕ). AddsLook next.device c.args.fence command seens c.add_seen.new.seens.items) c.command-command.ensures
     (subst (λ (fence : ℕ). AddsLook next.device fence c.command-command.result seens c.add_seen.new.seens.items) c.loop-event.invariant.fence
-    (subst (λ (d : DeviceState). AddsLook d c.loop-event.watch.fence c.command-command.result seens c.add_seen.new.seens.items) c.device.ensures.state
+    (subst (λ (d : DeviceState). AddsLook d c.loop-event.watch.fence c.command-command.result seens c.add_seen.new.seens.items) c.device-device.ensures.state
     c.in_ok-add_seen.ensures.seen)) in
     let is : IsSeen c.args.fence before event next added.0 = look_seen next c.args.fence before event added.0 added.1 in
     let turned = sees_turn c.args.fence c.args.core.now now next c.args.events left seens before event c.apply.result added.0
@@ -40,7 +46,8 @@ loop-event-preserved c =
       so_far = subst (λ (held : Reason). SeesOn c.args.fence c.args.core.now c.args.events c.add_seen.new.seens.items held next left)
           (sym (ap reason_behind added.2 ∙ reason_pushed seens added.0))
           (subst (λ (given : List Seen). SeesOn c.args.fence c.args.core.now c.args.events given added.0.reason next left) (sym added.2) turned);
-      known = subst (λ (d : DeviceState). Knows d c.add_seen.new.watch) c.device.ensures.state c.in_ok-add_seen.ensures.known;
+      retired = subst (λ (d : DeviceState). AreRetired d c.advance.new.self) c.device-device.ensures.state c.advance.ensures;
+      known = subst (λ (d : DeviceState). Knows d c.add_seen.new.watch) c.device-device.ensures.state c.in_ok-add_seen.ensures.known;
       fence = c.in_ok-add_seen.ensures.fence ∙ c.loop-event.invariant.fence;
     }
 

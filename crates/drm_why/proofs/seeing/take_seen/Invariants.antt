@@ -1,6 +1,7 @@
 use Rattle.std.proofs.Common.{◌≡◌, length}
 use Rattle.drm_core.specs.Lawful.{IsLawful}
 use Rattle.drm_core.specs.Run.{AllNamesExist}
+use Rattle.drm_reason.specs.Retired.{AreRetired}
 use Rattle.drm_reason.specs.Watching.{Knows}
 use Rattle.drm_why.specs.Seeing.{reason_behind}
 use Rattle.drm_why.proofs.Sights.{SeesOn}
@@ -11,6 +12,7 @@ invariant-loop-event l = record {
   names : AllNamesExist l.core.device.spec l.rest;
   lawful : IsLawful l.core;
   so_far : SeesOn l.fn.fence l.fn.core l.fn.events l.seens.items (reason_behind l.seens.items) l.core l.rest;
+  retired : AreRetired l.core.device l.retired;
   known : Knows l.core.device l.watch;
   fence : l.watch.fence ≡ l.fn.fence;
 }
