@@ -21,8 +21,8 @@ pub(crate) struct Because {
     pub(crate) said: Sentence,
 }
 
-/// Returns parts that say nothing.
-pub(crate) fn silence() -> Sentence
+// Returns parts that say nothing.
+fn silence() -> Sentence
     ensures { text_of_parts (map told_part result) ≡ [] }
 {
     [

@@ -133,36 +133,41 @@ fn words_of_status(status: i32) -> &'static str
 }
 
 // What an answer means to the command that it answers: words with `%` in place of each number, and the numbers of both.
+// Each arm asks the command for what it tells: asked before the match, all are looked up for each answer.
 fn said(subject: &Event<EntityId>, answer: &Answer) -> (&'static str, Numbers)
     ensures { said_of subject.now answer.now ≡ (result.0.now, result.1) }
 {
-    let ctx = ctx_in(subject);
-    let buffer = buffer_in(subject);
-    let ring = ring_in(subject);
-    let entity = entity_in(subject);
     match answer {
         Answer::Refused(refusal) => said_of_refusal(subject, *refusal),
         Answer::Ok => said_of_ok(subject),
         Answer::Armed { fence } => said_of_armed(subject, *fence),
-        Answer::Ticket { ticket } => (TICKET, [ctx, *ticket, 0]),
-        Answer::Held => ("context % holds buffer % now", [ctx, buffer, 0]),
-        Answer::Older { holder } => (OLDER, [*holder, buffer, ctx]),
-        Answer::Younger { holder } => (YOUNGER, [*holder, buffer, ctx]),
-        Answer::Planned => (PLANNED, [ctx, entity, 0]),
-        Answer::Picked { fence, skipped } => {
-            (words_of_picked(*skipped), [ring, u64::from(*fence), 0])
-        }
-        Answer::Ran { fence, packet } => (RAN, [ring, u64::from(*packet), u64::from(*fence)]),
-        Answer::Stalled { fence } => (STALLED, [ring, u64::from(*fence), 0]),
-        Answer::Finished { fence, outcome } => {
-            (words_of_finished(*outcome), [u64::from(*fence), ring, 0])
-        }
-        Answer::Empty => ("ring % has no job", [ring, 0, 0]),
-        Answer::NotYet { due_in } => (NOT_YET, [ring, *due_in, 0]),
-        Answer::Complete => (COMPLETE, [ring, 0, 0]),
-        Answer::Resumed => (RESUMED, [ring, 0, 0]),
-        Answer::Guilty { entity } => (GUILTY, [ring, u64::from(*entity), 0]),
-        Answer::Reaped { fence } => (REAPED, [u64::from(*fence), entity, 0]),
+        Answer::Ticket { ticket } => (TICKET, [ctx_in(subject), *ticket, 0]),
+        Answer::Held => (
+            "context % holds buffer % now",
+            [ctx_in(subject), buffer_in(subject), 0],
+        ),
+        Answer::Older { holder } => (OLDER, [*holder, buffer_in(subject), ctx_in(subject)]),
+        Answer::Younger { holder } => (YOUNGER, [*holder, buffer_in(subject), ctx_in(subject)]),
+        Answer::Planned => (PLANNED, [ctx_in(subject), entity_in(subject), 0]),
+        Answer::Picked { fence, skipped } => (
+            words_of_picked(*skipped),
+            [ring_in(subject), u64::from(*fence), 0],
+        ),
+        Answer::Ran { fence, packet } => (
+            RAN,
+            [ring_in(subject), u64::from(*packet), u64::from(*fence)],
+        ),
+        Answer::Stalled { fence } => (STALLED, [ring_in(subject), u64::from(*fence), 0]),
+        Answer::Finished { fence, outcome } => (
+            words_of_finished(*outcome),
+            [u64::from(*fence), ring_in(subject), 0],
+        ),
+        Answer::Empty => ("ring % has no job", [ring_in(subject), 0, 0]),
+        Answer::NotYet { due_in } => (NOT_YET, [ring_in(subject), *due_in, 0]),
+        Answer::Complete => (COMPLETE, [ring_in(subject), 0, 0]),
+        Answer::Resumed => (RESUMED, [ring_in(subject), 0, 0]),
+        Answer::Guilty { entity } => (GUILTY, [ring_in(subject), u64::from(*entity), 0]),
+        Answer::Reaped { fence } => (REAPED, [u64::from(*fence), entity_in(subject), 0]),
         Answer::Bytes { .. } => said_of_bytes(subject),
         Answer::Status { status } => (words_of_status(*status), [fence_in(subject), 0, 0]),
     }

@@ -1,8 +1,7 @@
-use Rattle.std.proofs.Common.{◌<◌, ◌≤◌, [], ℕ, ap, arith, length, map, refl, subst, sym}
+use Rattle.std.proofs.Common.{◌<◌, ◌≤◌, [], ℕ, ap, arith, length, refl, subst, sym}
 use Rattle.std.specs.List.{enumerate_from}
 use Rattle.std.proofs.lemmas.Result.{err_from_is_err_and}
 use Rattle.drm_types.specs.declared.spec.DeviceSpec.{DeviceSpec}
-use Rattle.drm_reason.specs.Said.{text_of_parts, told_part}
 use Rattle.drm_words.specs.Because.{let_go_text}
 use Rattle.drm_words.proofs.Parts.{all_told, length_numbered, numbered_at, one_front, one_told}
 use Rattle.drm_words.proofs.Pieces.{told_nothing}
@@ -19,11 +18,11 @@ loop-entity-preserved g c =
     let same = ap (λ (s : DeviceSpec). length s.entities) c.spec.ensures.value in
     let within : entity < length d.spec.entities = omega (arith, c.loop-entity-test.true, c.len-entities.ensures, same) in
     let row = numbered_at d.spec.entities entity within in
-    one_told (λ e. let_go_text d fence e.0) c.args.writer.now c.loop-entity.writer c.put_parts.new.writer c.args.piece.now c.loop-entity.piece c.put_parts.new.piece
-    (text_of_parts (map told_part c.let_go.result)) (enumerate_from 0 d.spec.entities) entity (entity, row.0) row.1 c.let_go.ensures c.loop-entity.invariant c.in_ok-put_parts.ensures
+    one_told (λ e. let_go_text d fence e.0) c.args.writer.now c.loop-entity.writer c.put_let_go.new.writer c.args.piece.now c.loop-entity.piece c.put_let_go.new.piece
+    (let_go_text d fence entity) (enumerate_from 0 d.spec.entities) entity (entity, row.0) row.1 refl c.loop-entity.invariant c.in_ok-put_let_go.ensures
 
-pub returns-in_err-put_parts : goal.returns-in_err-put_parts
-returns-in_err-put_parts g c =
+pub returns-in_err-put_let_go : goal.returns-in_err-put_let_go
+returns-in_err-put_let_go g c =
     let p = err_from_is_err_and c.from_residual.result c.from_residual.ensures.1 in
     let d = c.args.device.now.state in
     let fence = c.args.fence in
@@ -31,8 +30,8 @@ returns-in_err-put_parts g c =
     let same = ap (λ (s : DeviceSpec). length s.entities) c.spec.ensures.value in
     let within : entity < length d.spec.entities = omega (arith, c.loop-entity-test.true, c.len-entities.ensures, same) in
     let row = numbered_at d.spec.entities entity within in
-    rw p.1 (one_front (λ e. let_go_text d fence e.0) c.args.writer.now c.loop-entity.writer c.put_parts.new.writer c.args.piece.now c.loop-entity.piece
-    (text_of_parts (map told_part c.let_go.result)) (enumerate_from 0 d.spec.entities) entity (entity, row.0) row.1 c.let_go.ensures c.loop-entity.invariant c.in_err-put_parts.ensures)
+    rw p.1 (one_front (λ e. let_go_text d fence e.0) c.args.writer.now c.loop-entity.writer c.put_let_go.new.writer c.args.piece.now c.loop-entity.piece
+    (let_go_text d fence entity) (enumerate_from 0 d.spec.entities) entity (entity, row.0) row.1 refl c.loop-entity.invariant c.in_err-put_let_go.ensures)
 
 pub returns : goal.returns
 returns g c =

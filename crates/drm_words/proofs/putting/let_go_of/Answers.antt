@@ -1,9 +1,0 @@
-use Rattle.std.proofs.Common.{◌≡◌, ◌∙◌, sym, true}
-use Rattle.drm_reason.specs.Released.{is_released}
-use Rattle.drm_words.proofs.Parts.{three}
-use Rattle.drm_words.proofs.putting.let_go_of.Goals as goal
-
-pub returns-in-Some : goal.returns-in-Some
-returns-in-Some c =
-    let yes : is_released c.args.device.now.state c.args.fence c.in-Some.number ≡ true = sym c.is_released.ensures ∙ c.if-is_released.true in
-    rw (c.in-Some.is, yes) (c.triple.ensures ∙ three _ _ _ _ _ _ c.counted.ensures c.counted-in-Some.ensures c.bare.ensures)
