@@ -1,11 +1,9 @@
 -- Words that are filled with numbers, from one number to the next.
-use Rattle.std.proofs.Common.{◌≡◌, ◌<◌, ◌≤◌, ◌≢◌, ℕ, suc, ◌+◌, ◌-◌, length-drop, Bool, true, false, List, [], ◌∷◌, ◌++◌, length, drop, take, get_or, flat_map, refl, sym, ap, ◌∙◌, append_assoc, append-nil, arith}
+use Rattle.memchr.specs.Find.{IsFirstByte, is_byte}
+use Rattle.std.proofs.Common.{◌≡◌, Some, None, slice_index, ◌<◌, ◌≤◌, ◌≢◌, ℕ, zero, suc, ◌+◌, Bool, true, false, List, [], ◌∷◌, ◌++◌, length, drop, take, get_or, flat_map, refl, sym, ap, ◌∙◌, append_assoc, append-nil, arith}
 use Rattle.std.specs.Prelude.{◌==◌}
 use Rattle.std.specs.Fmt.{decimal}
-use Rattle.std.proofs.lemmas.Bool.{eqb-true}
-use Rattle.std.proofs.Math.Seq.{drop-cons}
-use Rattle.std.proofs.lemmas.List.{get_or-drop, take_all, take_more}
-use Rattle.std.proofs.Math.ListN.{drop_of_length-le}
+use Rattle.std.proofs.lemmas.Bool.{eq-eqb, eqb-true}
 use Rattle.drm_words.specs.Filling.{filled}
 
 is_false : (b : Bool) → (b ≡ true → ⊥) → b ≡ false
@@ -24,90 +22,47 @@ plain byte rest numbers other =
     let is : (byte == 37) ≡ false = is_false (byte == 37) (λ same. other (eqb-true byte 37 same)) in
     rw is refl
 
--- the byte at a place, and what is behind it
-at_place : (words : List ℕ) (place : ℕ) → place < length words → drop place words ≡ get_or words place 0 ∷ drop (place + 1) words
-at_place words place within =
-    let behind : suc place ≡ place + 1 = omega arith in
-    drop-cons words place 0 within ∙ ap (λ (n : ℕ). get_or words place 0 ∷ drop n words) behind
-
--- the words from a place on, where a byte stands for itself, and where a number goes
-filled_plain : (words left : List ℕ) (place : ℕ) → place < length words → get_or words place 0 ≢ 37
-    → filled (drop place words) left ≡ get_or words place 0 ∷ filled (drop (place + 1) words) left
-filled_plain words left place within other =
-    ap (λ (t : List ℕ). filled t left) (at_place words place within) ∙ plain (get_or words place 0) (drop (place + 1) words) left other
-
-filled_number : (words left : List ℕ) (place : ℕ) → place < length words → get_or words place 0 ≡ 37
-    → filled (drop place words) left ≡ flat_map decimal (take 1 left) ++ filled (drop (place + 1) words) (drop 1 left)
-filled_number words left place within is =
-    ap (λ (t : List ℕ). filled t left) (at_place words place within) ∙ marked (get_or words place 0) (drop (place + 1) words) left is
-
--- the words between two places
-abbrev pub between : List ℕ → ℕ → ℕ → List ℕ
-between words start place = take (place - start) (drop start words)
-
-between_more : (words : List ℕ) (start place : ℕ) → start ≤ place → place < length words
-    → between words start (place + 1) ≡ between words start place ++ get_or words place 0 ∷ []
-between_more words start place order within =
-    let one : place + 1 - start ≡ place - start + 1 = omega (arith, order) in
-    let whole : start + (place - start) ≡ place = omega (arith, order) in
-    let inside : place - start < length (drop start words) = omega (arith, order, within, length-drop start words) in
-    ap (λ (n : ℕ). take n (drop start words)) one
-    ∙ take_more (drop start words) (place - start) 0 inside
-    ∙ ap (λ (b : ℕ). take (place - start) (drop start words) ++ b ∷ []) (get_or-drop start words (place - start) 0 ∙ ap (λ (n : ℕ). get_or words n 0) whole)
-
--- what is said, with the words from one place to another, which hold no number
-pub record IsFilled (words numbers left said : List ℕ) (start place : ℕ) : Type 0 where
-  pub so : said ++ filled (drop start words) left ≡ filled words numbers
-  pub plainly : filled (drop start words) left ≡ between words start place ++ filled (drop place words) left
-  pub order : start ≤ place
-
-pub filled_first : (words numbers : List ℕ) → IsFilled words numbers numbers [] 0 0
-filled_first words numbers = record { so = refl; plainly = refl; order = omega arith }
-
--- a byte more
-pub byte_more : (words numbers left said : List ℕ) (start place : ℕ) → place < length words → get_or words place 0 ≢ 37 → IsFilled words numbers left said start place
-    → IsFilled words numbers left said start (place + 1)
-byte_more words numbers left said start place within other is =
-    let rest = filled (drop (place + 1) words) left in
-    record {
-      so = is.so;
-      plainly = is.plainly
-          ∙ ap (λ (t : List ℕ). between words start place ++ t) (filled_plain words left place within other)
-          ∙ sym (append_assoc (between words start place) (get_or words place 0 ∷ []) rest)
-          ∙ ap (λ (t : List ℕ). t ++ rest) (sym (between_more words start place is.order within));
-      order = omega (arith, is.order);
-    }
-
--- the words up to a number, and that number
-pub words_next : (words numbers left said : List ℕ) (start place : ℕ) → IsFilled words numbers left said start place
-    → (said ++ between words start place) ++ filled (drop place words) left ≡ filled words numbers
-words_next words numbers left said start place is =
-    append_assoc said (between words start place) (filled (drop place words) left) ∙ ap (λ (t : List ℕ). said ++ t) (sym is.plainly) ∙ is.so
-
-pub number_next : (words numbers left said : List ℕ) (start place : ℕ) → place < length words → get_or words place 0 ≡ 37 → IsFilled words numbers left said start place
-    → ((said ++ between words start place) ++ flat_map decimal (take 1 left)) ++ filled (drop (place + 1) words) (drop 1 left) ≡ filled words numbers
-number_next words numbers left said start place within number is =
-    append_assoc (said ++ between words start place) (flat_map decimal (take 1 left)) (filled (drop (place + 1) words) (drop 1 left))
-    ∙ ap (λ (t : List ℕ). (said ++ between words start place) ++ t) (sym (filled_number words left place within number))
-    ∙ words_next words numbers left said start place is
-
-pub number_more : (words numbers left said : List ℕ) (start place : ℕ) → place < length words → get_or words place 0 ≡ 37 → IsFilled words numbers left said start place
-    → IsFilled words numbers (drop 1 left) ((said ++ between words start place) ++ flat_map decimal (take 1 left)) (place + 1) (place + 1)
-number_more words numbers left said start place within number is =
-    let none : place + 1 - (place + 1) ≡ 0 = omega arith in
-    record {
-      so = number_next words numbers left said start place within number is;
-      plainly = ap (λ (n : ℕ). take n (drop (place + 1) words) ++ filled (drop (place + 1) words) (drop 1 left)) (sym none);
-      order = omega arith;
-    }
-
--- nothing is left behind the last word
-pub all_filled : (words numbers left said : List ℕ) (start place : ℕ) → length words ≤ place → IsFilled words numbers left said start place
-    → said ++ between words start (length words) ≡ filled words numbers
+nothing : (numbers : List ℕ) → filled [] numbers ≡ []
 unfolding filled
-all_filled words numbers left said start place past is =
-    let none : filled (drop place words) left ≡ [] = rw (drop_of_length-le words past) refl in
-    let long : length (drop start words) ≤ place - start = omega (arith, past, length-drop start words) in
-    let whole : between words start place ≡ drop start words = take_all (place - start) (drop start words) long in
-    let here : between words start (length words) ≡ drop start words = take_all (length words - start) (drop start words) (omega (arith, length-drop start words)) in
-    ap (λ (t : List ℕ). said ++ t) (here ∙ sym whole ∙ sym (append-nil (between words start place)) ∙ ap (λ (t : List ℕ). between words start place ++ t) (sym none) ∙ sym is.plainly) ∙ is.so
+nothing numbers = refl
+
+-- words that hold no number
+pub all_plain : (words numbers : List ℕ) → ((k : ℕ) → k < length words → get_or words k 0 ≢ 37) → filled words numbers ≡ words
+all_plain [] numbers none = nothing numbers
+all_plain (byte ∷ rest) numbers none =
+    plain byte rest numbers (none 0 (omega arith)) ∙ ap (λ (t : List ℕ). byte ∷ t) (all_plain rest numbers (λ k less. none (suc k) (omega (arith, less))))
+
+-- words up to the first number
+pub up_to_number : (words numbers : List ℕ) (place : ℕ) → place < length words → get_or words place 0 ≡ 37 → ((k : ℕ) → k < place → get_or words k 0 ≢ 37)
+    → filled words numbers ≡ take place words ++ (flat_map decimal (take 1 numbers) ++ filled (drop (suc place) words) (drop 1 numbers))
+up_to_number [] numbers place within is none = absurd (omega (arith, within))
+up_to_number (byte ∷ rest) numbers zero within is none = marked byte rest numbers is
+up_to_number (byte ∷ rest) numbers (suc place) within is none =
+    plain byte rest numbers (none 0 (omega arith))
+    ∙ ap (λ (t : List ℕ). byte ∷ t) (up_to_number rest numbers place (omega (arith, within)) is (λ k less. none (suc k) (omega (arith, less))))
+
+-- what is said, and the words and numbers that are left of all
+abbrev pub IsFilled : List ℕ → List ℕ → List ℕ → List ℕ → List ℕ → Type 0
+IsFilled words numbers left said rest = said ++ filled rest left ≡ filled words numbers
+
+-- the words before a number, and what is behind them
+pub words_next : (words numbers left said rest : List ℕ) (place : ℕ) → IsFilled words numbers left said rest → IsFirstByte (is_byte 37) rest (Some place)
+    → (said ++ take place rest) ++ (flat_map decimal (take 1 left) ++ filled (drop (place + 1) rest) (drop 1 left)) ≡ filled words numbers
+words_next words numbers left said rest place is found =
+    let one : suc place ≡ place + 1 = omega arith in
+    let next = up_to_number rest left place found.0.high (eqb-true (slice_index rest place) 37 found.1) (λ k less same. found.0.before k (omega arith) less (eq-eqb (slice_index rest k) 37 same)) in
+    append_assoc said (take place rest) (flat_map decimal (take 1 left) ++ filled (drop (place + 1) rest) (drop 1 left))
+    ∙ (ap (λ (n : ℕ). said ++ (take place rest ++ (flat_map decimal (take 1 left) ++ filled (drop n rest) (drop 1 left)))) (sym one)
+    ∙ (ap (λ (t : List ℕ). said ++ t) (sym next) ∙ is))
+
+-- and that number
+pub number_next : (words numbers left said rest : List ℕ) (place : ℕ) → IsFilled words numbers left said rest → IsFirstByte (is_byte 37) rest (Some place)
+    → IsFilled words numbers (drop 1 left) ((said ++ take place rest) ++ flat_map decimal (take 1 left)) (drop (place + 1) rest)
+number_next words numbers left said rest place is found =
+    append_assoc (said ++ take place rest) (flat_map decimal (take 1 left)) (filled (drop (place + 1) rest) (drop 1 left))
+    ∙ words_next words numbers left said rest place is found
+
+-- no number is left
+pub all_filled : (words numbers left said rest : List ℕ) → IsFilled words numbers left said rest → IsFirstByte (is_byte 37) rest None → said ++ rest ≡ filled words numbers
+all_filled words numbers left said rest is none =
+    ap (λ (t : List ℕ). said ++ t) (sym (all_plain rest left (λ k less same. none k (omega arith) less (eq-eqb (slice_index rest k) 37 same)))) ∙ is

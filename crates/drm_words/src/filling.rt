@@ -1,11 +1,12 @@
 //! Words with numbers in them.
 
-ghost use Rattle.std.specs.Prelude.{◌≡◌, ◌++◌, decimal, drop, flat_map, take};
+ghost use Rattle.std.specs.Prelude.{◌≡◌, ◌<◌, ◌+◌, ◌∷◌, [], ◌++◌, decimal, drop, flat_map, length, take};
 ghost use Rattle.drm_engine.specs.Replaying.{Told};
 ghost use Rattle.drm_words.specs.Filling.{filled};
 
 use drm_engine::{Piece, WriteFailed};
 use drm_stream::Sink;
+use memchr::memchr;
 use std::io::Write;
 
 /// The numbers of a sentence, of which none has more than three: zeros stand behind the last.
@@ -30,8 +31,9 @@ pub(crate) fn put_bytes<W: Write>(
     Ok(())
 }
 
-/// Puts a number.
-pub(crate) fn put_number<W: Write>(
+// Puts a number of any length. The room for its digits is filled with zeros first, so it is not made for all.
+#[inline(never)]
+fn put_digits<W: Write>(
     piece: &mut Piece,
     writer: &mut Sink<W>,
     number: u64,
@@ -40,6 +42,21 @@ pub(crate) fn put_number<W: Write>(
 {
     let mut buffer = itoa::Buffer::new();
     put_bytes(piece, writer, buffer.format(number).as_bytes())
+}
+
+/// Puts a number. Rings, entities and contexts mostly have one digit.
+pub(crate) fn put_number<W: Write>(
+    piece: &mut Piece,
+    writer: &mut Sink<W>,
+    number: u64,
+) -> Result<(), WriteFailed>
+    ensures { Told writer.old writer.new result (piece.old ++ decimal number) piece.new }
+{
+    if number < 10 {
+        piece.push(writer, b'0' + number as u8)
+    } else {
+        put_digits(piece, writer, number)
+    }
 }
 
 // Puts the first of the numbers, if there is one.
@@ -63,7 +80,15 @@ fn behind_first(numbers: &[u64]) -> &[u64]
     numbers.get(1..).unwrap_or(&[])
 }
 
-/// Puts the words, with the next of the numbers in place of each '%'.
+// The words behind a place.
+fn behind(words: &[u8], place: usize) -> &[u8]
+    requires { place < length words.now }
+    ensures { result.now ≡ drop (place + 1) words.now }
+{
+    words.get(place + 1..).unwrap_or(&[])
+}
+
+/// Puts the words, with the next of the numbers in place of each '%'. The words between two numbers are put at once.
 pub(crate) fn put_filled<W: Write>(
     piece: &mut Piece,
     writer: &mut Sink<W>,
@@ -72,15 +97,13 @@ pub(crate) fn put_filled<W: Write>(
 ) -> Result<(), WriteFailed>
     ensures { Told writer.old writer.new result (piece.old ++ filled words.now numbers.now) piece.new }
 {
-    let mut start = 0;
+    let mut rest = words;
     let mut left = numbers;
-    for place in 0..words.len() {
-        if words[place] == b'%' {
-            put_bytes(piece, writer, &words[start..place])?;
-            put_first(piece, writer, left)?;
-            left = behind_first(left);
-            start = place + 1;
-        }
+    while let Some(place) = memchr(b'%', rest) {
+        put_bytes(piece, writer, &rest[..place])?;
+        put_first(piece, writer, left)?;
+        left = behind_first(left);
+        rest = behind(rest, place);
     }
-    put_bytes(piece, writer, &words[start..])
+    put_bytes(piece, writer, rest)
 }

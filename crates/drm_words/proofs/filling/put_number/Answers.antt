@@ -1,8 +1,9 @@
-use Rattle.std.proofs.Common.{◌++◌, ◌∙◌, List, ℕ, subst}
+use Rattle.std.proofs.Common.{◌++◌, List, ℕ, subst, sym}
+use Rattle.drm_answer.proofs.ShortNumbers.{one_digit}
 use Rattle.drm_engine.specs.Replaying.{Told}
 use Rattle.drm_words.proofs.filling.put_number.Goals as goal
 
-pub returns : goal.returns
-returns g c =
-    subst (λ (t : List ℕ). Told c.args.writer.now c.put_bytes.new.writer c.put_bytes.result (c.args.piece.now ++ t) c.put_bytes.new.piece)
-    (c.as_bytes.ensures.value ∙ c.format.ensures.text) c.put_bytes.ensures
+pub returns-then-number-lt10 : goal.returns-then-number-lt10
+returns-then-number-lt10 g c =
+    subst (λ (t : List ℕ). Told c.args.writer.now c.push.new.writer c.push.result (c.args.piece.now ++ t) c.push.new.self)
+    (sym (one_digit c.args.number c.if-number-lt10.true)) c.push.ensures
