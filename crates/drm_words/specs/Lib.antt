@@ -4,7 +4,6 @@ pub mod Refused
 pub mod Sentences
 pub mod Holders
 pub mod Because
-pub mod Parts
 pub mod Lines
 pub mod Faults
 pub mod Reading

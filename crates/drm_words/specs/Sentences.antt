@@ -83,3 +83,8 @@ said_of subject (answer.Status status) = (words_of_status status, one (fence_of 
 -- the sentence
 abbrev pub sentence_of : Event ℕ → Answer → List ℕ
 sentence_of subject given = filled (said_of subject given).0 (said_of subject given).1
+
+-- it is no refusal
+abbrev pub IsNoRefusal : Answer → Type 0
+IsNoRefusal (answer.Refused refused) = ⊥
+IsNoRefusal other = Unit {0}

@@ -1,71 +1,22 @@
-//! Why an answer is so: the reasons behind it, looked up in the device.
+//! Why an answer is so: the reasons behind it, looked up in the device and put.
 
-ghost use Rattle.std.specs.Prelude.{◌≡◌, ◌++◌, [], ◌∷◌, map};
-ghost use Rattle.drm_core.specs.Context.{holder_of};
+ghost use Rattle.std.specs.Prelude.{◌≡◌, ◌≤◌, ◌++◌, [], ◌∷◌, Some, codes, length};
+ghost use Rattle.drm_engine.specs.Replaying.{Told};
 ghost use Rattle.drm_reason.specs.Retired.{AreRetired};
-ghost use Rattle.drm_reason.specs.Said.{text_of_parts, told_part};
+ghost use Rattle.drm_reason.specs.Said.{counted, text_of_parts};
 ghost use Rattle.drm_words.specs.Because.{NamesThere, armed_text, because as because_text, credit_text, entity_of_job, first_text, head_text, holder_text, idle_text, job_text, missing_text, next_text, reap_text, reason_text, refused_text, ring_of_job, writer_text};
-ghost use Rattle.drm_words.specs.Parts.{text_of_because};
 
+use crate::filling::{put_bytes, put_number};
 use crate::missing::{Missing, holder};
+use crate::placing::put_counted;
+use crate::reasons::put_parts;
 use drm_core::{Answer, Core, Event, Refusal};
-use drm_reason::{Part, Retired, Sentence, said};
+use drm_engine::{Piece, WriteFailed};
+use drm_reason::{Retired, said};
 use drm_sched::Device;
+use drm_stream::Sink;
 use drm_types::{CtxId, EntityId, FenceId, RingId};
-
-/// What stands behind the sentence of an answer, in parts of which some are empty: who it is about, and what is said of
-/// that job by its reason.
-#[derive(Clone, Copy)]
-pub(crate) struct Because {
-    pub(crate) head: Sentence,
-    pub(crate) said: Sentence,
-}
-
-// Returns parts that say nothing.
-fn silence() -> Sentence
-    ensures { text_of_parts (map told_part result) ≡ [] }
-{
-    [
-        Part::bare(""),
-        Part::bare(""),
-        Part::bare(""),
-        Part::bare(""),
-    ]
-}
-
-// Nothing more is told than the sentence says.
-fn nothing() -> Because
-    ensures { text_of_because result ≡ [] }
-{
-    Because {
-        head: silence(),
-        said: silence(),
-    }
-}
-
-// At most two parts with empty ones behind them.
-fn short(first: Part, second: Part) -> Sentence
-    ensures { text_of_parts (map told_part result) ≡ text_of_parts (told_part first ∷ told_part second ∷ []) }
-{
-    [first, second, Part::bare(""), Part::bare("")]
-}
-
-/// Three parts with an empty one behind them.
-pub(crate) fn triple(first: Part, second: Part, third: Part) -> Sentence
-    ensures { text_of_parts (map told_part result) ≡ text_of_parts (told_part first ∷ told_part second ∷ told_part third ∷ []) }
-{
-    [first, second, third, Part::bare("")]
-}
-
-// No job is told of.
-fn alone(first: Part, second: Part) -> Because
-    ensures { text_of_because result ≡ text_of_parts (told_part first ∷ told_part second ∷ []) }
-{
-    Because {
-        head: short(first, second),
-        said: silence(),
-    }
-}
+use std::io::Write;
 
 // Returns the entity of a job.
 fn entity_of(device: &Device, number: FenceId) -> EntityId
@@ -87,185 +38,296 @@ fn ring_of(device: &Device, number: FenceId) -> RingId
     }
 }
 
-// Tells behind this head why a job waits, or what it does.
-fn reason(device: &Device, retired: Retired, head: Sentence, number: FenceId) -> Because
+// Puts why a job waits, or what it does.
+fn put_reason<W: Write>(
+    piece: &mut Piece,
+    writer: &mut Sink<W>,
+    device: &Device,
+    retired: Retired,
+    number: FenceId,
+) -> Result<(), WriteFailed>
     requires { AreRetired device.now.state retired }
-    ensures { text_of_because result ≡ text_of_parts (map told_part head) ++ reason_text device.now.state number }
+    ensures { Told writer.old writer.new result (piece.old ++ reason_text device.now.state number) piece.new }
 {
-    Because {
-        head,
-        said: said(retired.reason_of(device, number)),
-    }
+    let parts = said(retired.reason_of(device, number));
+    put_parts(piece, writer, &parts)
 }
 
-// Tells so of a job by name, with what it is there.
-fn job(device: &Device, retired: Retired, role: &'static str, number: FenceId) -> Because
-    requires { AreRetired device.now.state retired }
-    ensures { text_of_because result ≡ job_text device.now.state role.now number }
+// Puts so of a job by name, with what it is there.
+fn put_job<W: Write>(
+    piece: &mut Piece,
+    writer: &mut Sink<W>,
+    device: &Device,
+    retired: Retired,
+    role: &[u8],
+    number: FenceId,
+) -> Result<(), WriteFailed>
+    requires retired { AreRetired device.now.state retired }
+    requires short { length role.now ≤ 100 }
+    ensures { Told writer.old writer.new result (piece.old ++ job_text device.now.state role.now number) piece.new }
 {
-    let fence = Part::counted(": fence ", number);
-    let entity = Part::counted(" of entity ", entity_of(device, number));
-    let head = triple(fence, entity, Part::bare(role));
-    reason(device, retired, head, number)
+    let entity = entity_of(device, number);
+    put_counted(piece, writer, b": fence ", number, b" of entity ")?;
+    put_counted(piece, writer, b"", entity, role)?;
+    put_reason(piece, writer, device, retired, number)
 }
 
-// Tells of the first job that is queued for a ring.
-fn first(device: &Device, retired: Retired, number: Option<FenceId>) -> Because
+// Puts the first job that is queued for a ring.
+fn put_first<W: Write>(
+    piece: &mut Piece,
+    writer: &mut Sink<W>,
+    device: &Device,
+    retired: Retired,
+    number: Option<FenceId>,
+) -> Result<(), WriteFailed>
     requires { AreRetired device.now.state retired }
-    ensures { text_of_because result ≡ first_text device.now.state number }
-{
-    match number {
-        Some(number) => job(device, retired, ", first in line, ", number),
-        None => alone(Part::bare(": none is queued for it"), Part::bare("")),
-    }
-}
-
-// Tells of the job that a pick would take if its ring had more credits.
-fn next(device: &Device, retired: Retired, number: Option<FenceId>) -> Because
-    requires { AreRetired device.now.state retired }
-    ensures { text_of_because result ≡ next_text device.now.state number }
-{
-    match number {
-        Some(number) => job(device, retired, ", next in line, ", number),
-        None => nothing(),
-    }
-}
-
-// Tells of the job that a reap would end.
-fn head(device: &Device, retired: Retired, number: Option<FenceId>) -> Because
-    requires { AreRetired device.now.state retired }
-    ensures { text_of_because result ≡ head_text device.now.state number }
+    ensures { Told writer.old writer.new result (piece.old ++ first_text device.now.state number) piece.new }
 {
     match number {
-        Some(number) => {
-            let head = short(Part::counted(": fence ", number), Part::bare(" "));
-            reason(device, retired, head, number)
-        }
-        None => nothing(),
+        Some(number) => put_job(piece, writer, device, retired, b", first in line, ", number),
+        None => put_bytes(piece, writer, b": none is queued for it"),
     }
 }
 
-// Tells of the job for which a read waits.
-fn writer(device: &Device, retired: Retired, number: FenceId) -> Because
+// Puts the job that a pick would take if its ring had more credits.
+fn put_next<W: Write>(
+    piece: &mut Piece,
+    writer: &mut Sink<W>,
+    device: &Device,
+    retired: Retired,
+    number: Option<FenceId>,
+) -> Result<(), WriteFailed>
     requires { AreRetired device.now.state retired }
-    ensures { text_of_because result ≡ writer_text device.now.state number }
+    ensures { Told writer.old writer.new result (piece.old ++ next_text device.now.state number) piece.new }
 {
-    let head = short(Part::bare(", which "), Part::bare(""));
-    reason(device, retired, head, number)
+    match number {
+        Some(number) => put_job(piece, writer, device, retired, b", next in line, ", number),
+        None => Ok(()),
+    }
 }
 
-// Tells of a job that was armed.
-fn armed(device: &Device, retired: Retired, number: FenceId) -> Because
+// Puts the job that a reap would end, which waits.
+fn put_waiting<W: Write>(
+    piece: &mut Piece,
+    writer: &mut Sink<W>,
+    device: &Device,
+    retired: Retired,
+    number: FenceId,
+) -> Result<(), WriteFailed>
     requires { AreRetired device.now.state retired }
-    ensures { text_of_because result ≡ armed_text device.now.state number }
+    ensures { Told writer.old writer.new result (piece.old ++ head_text device.now.state (Some number)) piece.new }
 {
-    let ring = Part::counted(" for ring ", ring_of(device, number));
-    reason(device, retired, short(ring, Part::bare(": it ")), number)
+    put_counted(piece, writer, b": fence ", number, b" ")?;
+    put_reason(piece, writer, device, retired, number)
 }
 
-// Tells who holds what a plan lacks.
-fn lacking(missing: Option<Missing>) -> Because
-    ensures { text_of_because result ≡ missing_text missing }
+// Puts the job that a reap would end, if there is one.
+fn put_head<W: Write>(
+    piece: &mut Piece,
+    writer: &mut Sink<W>,
+    device: &Device,
+    retired: Retired,
+    number: Option<FenceId>,
+) -> Result<(), WriteFailed>
+    requires { AreRetired device.now.state retired }
+    ensures { Told writer.old writer.new result (piece.old ++ head_text device.now.state number) piece.new }
+{
+    match number {
+        Some(number) => put_waiting(piece, writer, device, retired, number),
+        None => Ok(()),
+    }
+}
+
+// Puts the job for which a read waits.
+fn put_writer<W: Write>(
+    piece: &mut Piece,
+    writer: &mut Sink<W>,
+    device: &Device,
+    retired: Retired,
+    number: FenceId,
+) -> Result<(), WriteFailed>
+    requires { AreRetired device.now.state retired }
+    ensures { Told writer.old writer.new result (piece.old ++ writer_text device.now.state number) piece.new }
+{
+    put_bytes(piece, writer, b", which ")?;
+    put_reason(piece, writer, device, retired, number)
+}
+
+// Puts the ring of a job that was armed, and why it waits.
+fn put_armed<W: Write>(
+    piece: &mut Piece,
+    writer: &mut Sink<W>,
+    device: &Device,
+    retired: Retired,
+    number: FenceId,
+) -> Result<(), WriteFailed>
+    requires { AreRetired device.now.state retired }
+    ensures { Told writer.old writer.new result (piece.old ++ armed_text device.now.state number) piece.new }
+{
+    let ring = ring_of(device, number);
+    put_counted(piece, writer, b" for ring ", ring, b": it ")?;
+    put_reason(piece, writer, device, retired, number)
+}
+
+// Puts the context that holds a buffer which a plan lacks.
+fn put_holder<W: Write>(
+    piece: &mut Piece,
+    writer: &mut Sink<W>,
+    ctx: CtxId,
+    buffer: u32,
+) -> Result<(), WriteFailed>
+    ensures { Told writer.old writer.new result (piece.old ++ (text_of_parts (counted (codes ": context ") ctx ∷ counted (codes " holds buffer ") buffer ∷ []))) piece.new }
+{
+    put_counted(piece, writer, b": context ", ctx, b" holds buffer ")?;
+    put_number(piece, writer, u64::from(buffer))
+}
+
+// Puts that no context holds a buffer which a plan lacks.
+fn put_nobody<W: Write>(
+    piece: &mut Piece,
+    writer: &mut Sink<W>,
+    buffer: u32,
+) -> Result<(), WriteFailed>
+    ensures { Told writer.old writer.new result (piece.old ++ text_of_parts (counted (codes ": no context holds buffer ") buffer ∷ [])) piece.new }
+{
+    put_counted(piece, writer, b": no context holds buffer ", buffer, b"")
+}
+
+// Puts who holds what a plan lacks.
+fn put_lacking<W: Write>(
+    piece: &mut Piece,
+    writer: &mut Sink<W>,
+    missing: Option<Missing>,
+) -> Result<(), WriteFailed>
+    ensures { Told writer.old writer.new result (piece.old ++ missing_text missing) piece.new }
 {
     let Some((buffer, holder)) = missing else {
-        return nothing();
+        return Ok(());
     };
+    let number = buffer.number();
     match holder {
-        Some(ctx) => alone(
-            Part::counted(": context ", ctx),
-            Part::counted(" holds buffer ", buffer.number()),
-        ),
-        None => alone(
-            Part::counted(": no context holds buffer ", buffer.number()),
-            Part::bare(""),
-        ),
+        Some(ctx) => put_holder(piece, writer, ctx, number),
+        None => put_nobody(piece, writer, number),
     }
 }
 
-// Tells who holds the buffer that was asked for.
-fn held(holder: Option<CtxId>) -> Because
-    ensures { text_of_because result ≡ holder_text holder }
+// Puts who holds the buffer that was asked for.
+fn put_held<W: Write>(
+    piece: &mut Piece,
+    writer: &mut Sink<W>,
+    holder: Option<CtxId>,
+) -> Result<(), WriteFailed>
+    ensures { Told writer.old writer.new result (piece.old ++ holder_text holder) piece.new }
 {
     match holder {
-        Some(ctx) => alone(Part::counted(": context ", ctx), Part::bare(" holds it")),
-        None => nothing(),
+        Some(ctx) => put_counted(piece, writer, b": context ", ctx, b" holds it"),
+        None => Ok(()),
     }
 }
 
-// Tells why a pick finds nothing to take.
-fn idle(device: &Device, retired: Retired, subject: &Event<EntityId>) -> Because
+// Puts why a pick finds nothing to take.
+fn put_idle<W: Write>(
+    piece: &mut Piece,
+    writer: &mut Sink<W>,
+    device: &Device,
+    retired: Retired,
+    subject: &Event<EntityId>,
+) -> Result<(), WriteFailed>
     requires { AreRetired device.now.state retired }
-    ensures { text_of_because result ≡ idle_text device.now.state subject.now }
+    ensures { Told writer.old writer.new result (piece.old ++ idle_text device.now.state subject.now) piece.new }
 {
     match subject {
-        Event::Pick { ring, .. } => first(device, retired, retired.first_queued(device, *ring)),
-        _ => nothing(),
+        Event::Pick { ring, .. } => {
+            let number = retired.first_queued(device, *ring);
+            put_first(piece, writer, device, retired, number)
+        }
+        _ => Ok(()),
     }
 }
 
-// Tells what a pick would take if the ring had more credits.
-fn lacking_credits(device: &Device, retired: Retired, subject: &Event<EntityId>) -> Because
+// Puts what a pick would take if the ring had more credits.
+fn put_lacking_credits<W: Write>(
+    piece: &mut Piece,
+    writer: &mut Sink<W>,
+    device: &Device,
+    retired: Retired,
+    subject: &Event<EntityId>,
+) -> Result<(), WriteFailed>
     requires retired { AreRetired device.now.state retired }
     requires there { NamesThere device.now.state.spec subject.now }
-    ensures { text_of_because result ≡ credit_text device.now.state subject.now }
+    ensures { Told writer.old writer.new result (piece.old ++ credit_text device.now.state subject.now) piece.new }
 {
     match subject {
-        Event::Pick { ring, .. } => next(device, retired, device.choice(*ring)),
-        _ => nothing(),
+        Event::Pick { ring, .. } => {
+            put_next(piece, writer, device, retired, device.choice(*ring))
+        }
+        _ => Ok(()),
     }
 }
 
-// Tells what a reap would end.
-fn reaping(device: &Device, retired: Retired, subject: &Event<EntityId>) -> Because
+// Puts what a reap would end.
+fn put_reaping<W: Write>(
+    piece: &mut Piece,
+    writer: &mut Sink<W>,
+    device: &Device,
+    retired: Retired,
+    subject: &Event<EntityId>,
+) -> Result<(), WriteFailed>
     requires retired { AreRetired device.now.state retired }
     requires there { NamesThere device.now.state.spec subject.now }
-    ensures { text_of_because result ≡ reap_text device.now.state subject.now }
+    ensures { Told writer.old writer.new result (piece.old ++ reap_text device.now.state subject.now) piece.new }
 {
     match subject {
-        Event::Reap { entity } => head(device, retired, device.head(*entity)),
-        _ => nothing(),
+        Event::Reap { entity } => put_head(piece, writer, device, retired, device.head(*entity)),
+        _ => Ok(()),
     }
 }
 
-// Tells why the event is refused, where there is more to tell than the sentence says.
-fn refused(
+// Puts why the event is refused, where there is more to tell than the sentence says.
+fn put_refused<W: Write>(
+    piece: &mut Piece,
+    writer: &mut Sink<W>,
     core: &Core,
     retired: Retired,
     subject: &Event<EntityId>,
     missing: Option<Missing>,
     refusal: Refusal,
-) -> Because
+) -> Result<(), WriteFailed>
     requires retired { AreRetired core.now.device retired }
     requires there { NamesThere core.now.device.spec subject.now }
-    ensures { text_of_because result ≡ refused_text core.now subject.now missing refusal }
+    ensures { Told writer.old writer.new result (piece.old ++ refused_text core.now subject.now missing refusal) piece.new }
 {
     let device = core.device();
     match refusal {
-        Refusal::Idle => idle(device, retired, subject),
-        Refusal::NoCredit { .. } => lacking_credits(device, retired, subject),
-        Refusal::Waits => reaping(device, retired, subject),
-        Refusal::Busy { fence } => writer(device, retired, fence),
-        Refusal::NotAllHeld => lacking(missing),
-        Refusal::Held { buffer } => held(holder(core, buffer)),
-        _ => nothing(),
+        Refusal::Idle => put_idle(piece, writer, device, retired, subject),
+        Refusal::NoCredit { .. } => put_lacking_credits(piece, writer, device, retired, subject),
+        Refusal::Waits => put_reaping(piece, writer, device, retired, subject),
+        Refusal::Busy { fence } => put_writer(piece, writer, device, retired, fence),
+        Refusal::NotAllHeld => put_lacking(piece, writer, missing),
+        Refusal::Held { buffer } => put_held(piece, writer, holder(core, buffer)),
+        _ => Ok(()),
     }
 }
 
-/// Tells why the answer is so: why the event is refused, or where a job that is armed is queued, and what it waits for.
-pub(crate) fn because_of_answer(
+/// Puts why the answer is so: why the event is refused, or where a job that is armed is queued, and what it waits for.
+pub(crate) fn put_because<W: Write>(
+    piece: &mut Piece,
+    writer: &mut Sink<W>,
     core: &Core,
     retired: Retired,
     subject: &Event<EntityId>,
     missing: Option<Missing>,
     answer: &Answer,
-) -> Because
+) -> Result<(), WriteFailed>
     requires retired { AreRetired core.now.device retired }
     requires there { NamesThere core.now.device.spec subject.now }
-    ensures { text_of_because result ≡ because_text core.now subject.now missing answer.now }
+    ensures { Told writer.old writer.new result (piece.old ++ because_text core.now subject.now missing answer.now) piece.new }
 {
     match answer {
-        Answer::Refused(refusal) => refused(core, retired, subject, missing, *refusal),
-        Answer::Armed { fence } => armed(core.device(), retired, *fence),
-        _ => nothing(),
+        Answer::Refused(refusal) => {
+            put_refused(piece, writer, core, retired, subject, missing, *refusal)
+        }
+        Answer::Armed { fence } => put_armed(piece, writer, core.device(), retired, *fence),
+        _ => Ok(()),
     }
 }

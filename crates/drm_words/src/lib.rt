@@ -2,8 +2,8 @@
 //! it is so.
 //!
 //! An event and the answer to it tell a sentence together. `put_sentence` puts what `sentence_of` says, with the
-//! numbers of both, byte by byte into a piece that goes to a sink when it is full. The sentence of a refusal is that of
-//! the row with its number in the table of `drm_explain`. Behind it stand names (`specs/Because`): the job that is first
+//! numbers of both, into a piece that goes to a sink when it is full. The sentence of a refusal is that of the row with
+//! its number in the table of `drm_explain`. Behind it stand names (`specs/Because`): the job that is first
 //! in line with its reason, in the words of `drm_reason`; where a job that is armed is queued; which jobs the end of one
 //! lets go; who holds a buffer.
 //!
@@ -16,8 +16,10 @@ mod fault;
 mod filling;
 mod missing;
 mod named;
+mod placing;
 mod putting;
 mod reading;
+mod reasons;
 mod refused;
 mod replaying;
 mod sentences;

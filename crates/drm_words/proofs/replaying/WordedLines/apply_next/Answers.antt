@@ -10,7 +10,7 @@ returns-in-Some-clause-some c = (c.in-Some.event, c.in-Some.ensures.some, c.appl
 pub returns-in-Some-clause-noted : goal.returns-in-Some-clause-noted
 returns-in-Some-clause-noted c = λ event split.
     let same : c.in-Some.event ≡ event = cc (c.in-Some.ensures.some, split) in
-    (c.subject-self.ensures ∙ ap subject_of same, c.missing_buffer-self.ensures ∙ ap (missing_of c.args.core.now) same)
+    (c.apply-answer.ensures.subject ∙ ap subject_of same, c.apply-answer.ensures.missing ∙ ap (missing_of c.args.core.now) same)
 
 pub returns-in-Some-clause-names : goal.returns-in-Some-clause-names
 returns-in-Some-clause-names c =
