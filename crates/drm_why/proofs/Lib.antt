@@ -10,3 +10,4 @@ pub mod Putting
 pub mod Rows
 pub mod Most
 pub mod Asked
+mod Counting

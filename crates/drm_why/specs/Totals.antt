@@ -1,5 +1,5 @@
 -- For how long each ring did what.
-use Rattle.std.specs.Prelude.{◌≡◌, ℕ, zero, suc, ◌+◌, ◌-◌, ◌^◌, ◌<◌, ◌≤◌, ◌==◌, Bool, true, false, min, if◌then◌else◌, List, [], ◌∷◌, ◌++◌, Option, Some, None, codes, length, option_and_then, slice_get}
+use Rattle.std.specs.Prelude.{◌≡◌, ℕ, zero, suc, ◌+◌, ◌-◌, ◌^◌, ◌<◌, ◌≤◌, ◌==◌, Bool, true, false, min, if◌then◌else◌, List, [], ◌∷◌, ◌++◌, Option, Some, None, codes, drop, length, option_and_then, slice_get}
 use Rattle.std.specs.Fmt.{decimal}
 use Rattle.std.specs.Option.{option_map_or}
 use Rattle.drm_types.specs.Firsts.{first}
@@ -46,6 +46,16 @@ total_from ring kind total (row ∷ rest) = total_from ring kind (counted_in rin
 -- for how many commands and moments the ring did what is of this kind
 abbrev pub total_of : ℕ → Kind → List Row → Total
 total_of ring kind rows = total_from ring kind (record { commands = 0; moments = 0 }) rows
+
+-- these are the totals of the first fences, where the commands from this place on are still to be counted
+abbrev pub AreCounted : ℕ → List Row → ℕ → List Total → Type 0
+AreCounted ring rows place totals =
+    (fence : ℕ) (total : Total) → slice_get totals fence ≡ Some total
+    → total_from ring (kind.HeldBy fence) total (drop place rows) ≡ total_of ring (kind.HeldBy fence) rows
+
+-- for how long each of the first fences held the ring up
+abbrev pub AreTotals : ℕ → List Row → List Total → Type 0
+AreTotals ring rows totals = (fence : ℕ) (total : Total) → slice_get totals fence ≡ Some total → total ≡ total_of ring (kind.HeldBy fence) rows
 
 -- ---- the fence that held the ring up longest
 

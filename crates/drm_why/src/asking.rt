@@ -95,7 +95,8 @@ fn rings(alloc: Global, script: Script) -> Result<Vec<u8>, AllocError>
         return Err(AllocError);
     };
     let rows = take_rows(alloc, &mut core, script.lines)?;
-    rings_text(alloc, &rows, count)
+    let fences = core.device().armed() as usize;
+    rings_text(alloc, &rows, count, fences)
 }
 
 // Returns the text that answers what is asked about the script.

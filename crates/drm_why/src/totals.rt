@@ -1,7 +1,7 @@
 //! For how long each ring did what.
 
 ghost use Rattle.std.specs.Prelude.{◌≡◌, ◌+◌, ◌<◌, ◌++◌, IfOk, IsTrue, OnOk, Some, drop, length};
-ghost use Rattle.drm_why.specs.Totals.{MostIs, TellsRings, WasHeld, commands_for, counted_in, counts as counts_doing, does_so, fence_of, held_in, line_of_ring, moments_till, said_of_busy, said_of_longest, said_of_most, said_of_total, said_of_totals, total_of, with_command};
+ghost use Rattle.drm_why.specs.Totals.{AreCounted, AreTotals, MostIs, TellsRings, WasHeld, commands_for, counted_in, counts as counts_doing, does_so, fence_of, held_in, line_of_ring, moments_till, said_of_busy, said_of_longest, said_of_most, said_of_total, said_of_totals, total_of, with_command};
 ghost use Rattle.drm_why.specs.declared.totals.Kind.TheVariants as kind;
 
 use crate::rings::{Doing, Row};
@@ -147,34 +147,84 @@ fn was_held(rows: &[Row], ring: usize, number: usize, fence: FenceId) -> bool
     }
 }
 
+// Counts the command of this number for the fence that holds the ring up behind it.
+fn count_fence(rows: &[Row], ring: usize, number: usize, totals: &mut Vec<Total>)
+    requires there { number < length rows.now }
+    requires counted { AreCounted ring rows.now number totals.old.items }
+    ensures { AreCounted ring rows.now (number + 1) totals.new.items }
+{
+    let row = &rows[number];
+    let Some(fence) = held_at(rows, ring, number) else {
+        return;
+    };
+    let place = fence as usize;
+    if place < totals.len() {
+        let total = counted(rows, ring, Kind::HeldBy(fence), totals[place], number, row);
+        totals[place] = total;
+    }
+}
+
+// Returns for how long each of so many fences held the ring up.
+fn held_totals(
+    alloc: Global,
+    rows: &[Row],
+    ring: usize,
+    fences: usize,
+) -> Result<Vec<Total>, AllocError>
+    ensures { IfOk result (λ totals. AreTotals ring rows.now totals.items) }
+{
+    let none = Total {
+        commands: 0,
+        moments: 0,
+    };
+    let mut totals = vec![in alloc; none; fences]?;
+    for number in 0..rows.len() {
+        count_fence(rows, ring, number, &mut totals);
+    }
+    Ok(totals)
+}
+
 // Returns for how many commands this fence held the ring up.
-fn commands(rows: &[Row], ring: usize, fence: FenceId) -> u64
+fn commands(rows: &[Row], ring: usize, totals: &[Total], fence: FenceId) -> u64
+    requires { AreTotals ring rows.now totals.now }
     ensures { result ≡ commands_for ring rows.now fence }
 {
-    total_for(rows, ring, Kind::HeldBy(fence)).commands
+    match totals.get(fence as usize) {
+        Some(total) => total.commands,
+        None => total_for(rows, ring, Kind::HeldBy(fence)).commands,
+    }
 }
 
 // Returns the fence that held the ring up longest so far, or that of the command of this number.
 fn more_of(
     rows: &[Row],
     ring: usize,
+    totals: &[Total],
     other: FenceId,
     number: usize,
     fence: FenceId,
 ) -> Option<FenceId>
+    requires totals { AreTotals ring rows.now totals.now }
     requires most { MostIs ring rows.now number (Some other) }
     requires held { held_in ring rows.now number ≡ Some fence }
     ensures { MostIs ring rows.now (number + 1) result }
 {
-    if commands(rows, ring, other) < commands(rows, ring, fence) {
+    if commands(rows, ring, totals, other) < commands(rows, ring, totals, fence) {
         return Some(fence);
     }
     Some(other)
 }
 
 // Returns that fence, where the command of this number may be another one's.
-fn more(rows: &[Row], ring: usize, most: Option<FenceId>, number: usize) -> Option<FenceId>
-    requires { MostIs ring rows.now number most }
+fn more(
+    rows: &[Row],
+    ring: usize,
+    totals: &[Total],
+    most: Option<FenceId>,
+    number: usize,
+) -> Option<FenceId>
+    requires totals { AreTotals ring rows.now totals.now }
+    requires most { MostIs ring rows.now number most }
     ensures { MostIs ring rows.now (number + 1) result }
 {
     let Some(fence) = held_at(rows, ring, number) else {
@@ -184,18 +234,19 @@ fn more(rows: &[Row], ring: usize, most: Option<FenceId>, number: usize) -> Opti
         return most;
     }
     match most {
-        Some(other) => more_of(rows, ring, other, number, fence),
+        Some(other) => more_of(rows, ring, totals, other, number, fence),
         None => Some(fence),
     }
 }
 
 // Returns of the fences that held the ring up the first of those that did for the most commands.
-fn most(rows: &[Row], ring: usize) -> Option<FenceId>
+fn most(rows: &[Row], ring: usize, totals: &[Total]) -> Option<FenceId>
+    requires { AreTotals ring rows.now totals.now }
     ensures { MostIs ring rows.now (length rows.now) result }
 {
     let mut most = None;
     for number in 0..rows.len() {
-        most = more(rows, ring, most, number);
+        most = more(rows, ring, totals, most, number);
     }
     most
 }
@@ -289,13 +340,19 @@ fn put_ring(
     put_most(out, rows, ring, most)
 }
 
-/// Returns the text of what rings did, a line for each ring below this number.
-pub(crate) fn rings_text(alloc: Global, rows: &[Row], rings: usize) -> Result<Vec<u8>, AllocError>
+/// Returns the text of what rings did, a line for each ring below this number, where so many jobs were armed.
+pub(crate) fn rings_text(
+    alloc: Global,
+    rows: &[Row],
+    rings: usize,
+    fences: usize,
+) -> Result<Vec<u8>, AllocError>
     ensures { IfOk result (λ text. TellsRings rows.now rings text.items) }
 {
     let mut out = Vec::new(alloc);
     for ring in 0..rings {
-        put_ring(&mut out, rows, ring, most(rows, ring))?;
+        let totals = held_totals(alloc, rows, ring, fences)?;
+        put_ring(&mut out, rows, ring, most(rows, ring, &totals))?;
     }
     Ok(out)
 }

@@ -11,8 +11,8 @@ overflow_cast-rings c =
     let same = ap (λ (s : DeviceSpec). length s.rings) c.spec.ensures.value in
     omega (arith, few, same, c.len-rings.ensures)
 
-pub doing_at-requires : goal.doing_at-requires
-doing_at-requires c =
+pub doing_at-requires-clause-there : goal.doing_at-requires-clause-there
+doing_at-requires-clause-there c =
     let same = ap (λ (s : DeviceSpec). length s.rings) c.spec.ensures.value in
     omega (arith, c.loop-ring-test.true, c.len-rings.ensures, same)
 
