@@ -253,6 +253,13 @@ fn put_changed<W: Write>(
     }
 }
 
+/// When rows change, and the track of what let those go that wait no more.
+#[derive(Clone, Copy)]
+struct Change {
+    when: When,
+    cause: Option<Track>,
+}
+
 // What changes in the lanes of a kind, whose rows are then those of the core. Where nothing that they show was moved,
 // they are so already. Each kind is looked at by code of its own.
 #[inline(always)]
@@ -260,8 +267,7 @@ fn follow<W: Write>(
     pen: &mut Pen,
     writer: &mut Sink<W>,
     core: &Core,
-    when: When,
-    cause: Option<Track>,
+    change: Change,
     is_moved: bool,
     watches: &mut Watches,
     lane: Lane,
@@ -270,7 +276,7 @@ fn follow<W: Write>(
     requires kept { is_moved ≡ false → AreRows core.now lane rows.old.items }
     requires room { length rows.old.items ≡ count_of core.now.device.spec lane }
     requires known { AreKnown core.now.device watches.old }
-    ensures entries { AddsEntries pen.old writer.old (each (count_of core.now.device.spec lane) (λ n. changed lane when cause n (row_at rows.old.items n) (shown core.now lane n))) pen.new writer.new }
+    ensures entries { AddsEntries pen.old writer.old (each (count_of core.now.device.spec lane) (λ n. changed lane change.when change.cause n (row_at rows.old.items n) (shown core.now lane n))) pen.new writer.new }
     ensures rows { AreRows core.now lane rows.new.items }
     ensures known { AreKnown core.now.device watches.new }
 {
@@ -281,7 +287,7 @@ fn follow<W: Write>(
         let old = row_at(rows.as_slice(), number);
         let new = shown(core, watches, lane, number);
         if !is_same(old, new) {
-            put_changed(pen, writer, lane, when, cause, number, old, new);
+            put_changed(pen, writer, lane, change.when, change.cause, number, old, new);
             rows[number as usize] = new;
         }
     }
@@ -320,14 +326,14 @@ impl Rows {
         ensures entries { (old : CoreState) → old.device.spec ≡ core.now.device.spec → AllRows old self.old → AddsEntries pen.old writer.old (all_changes when cause old core.now) pen.new writer.new }
         ensures rows { AllRows core.now self.new }
     {
+        let change = Change { when, cause };
         let watches = &mut self.watches;
         watches.advance(core.device());
         follow(
             pen,
             writer,
             core,
-            when,
-            cause,
+            change,
             moves.device,
             watches,
             Lane::Wait,
@@ -337,8 +343,7 @@ impl Rows {
             pen,
             writer,
             core,
-            when,
-            cause,
+            change,
             moves.device,
             watches,
             Lane::Queue,
@@ -348,8 +353,7 @@ impl Rows {
             pen,
             writer,
             core,
-            when,
-            cause,
+            change,
             moves.device,
             watches,
             Lane::Ring,
@@ -359,8 +363,7 @@ impl Rows {
             pen,
             writer,
             core,
-            when,
-            cause,
+            change,
             moves.holders,
             watches,
             Lane::Buffer,
@@ -370,8 +373,7 @@ impl Rows {
             pen,
             writer,
             core,
-            when,
-            cause,
+            change,
             moves.device,
             watches,
             Lane::Credits,
@@ -381,8 +383,7 @@ impl Rows {
             pen,
             writer,
             core,
-            when,
-            cause,
+            change,
             moves.device,
             watches,
             Lane::Queued,

@@ -12,5 +12,5 @@ invariant-loop-number g l = record {
   known : AreKnown l.core.device l.watches;
   done : (n : ℕ) → n < l.number → row_at l.rows.items n ≡ shown l.core l.lane n;
   left : (n : ℕ) → l.number ≤ n → row_at l.rows.items n ≡ row_at l.fn.rows.items n;
-  entries : AddsEntries l.fn.pen l.fn.writer (each l.number (λ n. changed l.lane l.when l.cause n (row_at l.fn.rows.items n) (shown l.core l.lane n))) l.pen l.writer;
+  entries : AddsEntries l.fn.pen l.fn.writer (each l.number (λ n. changed l.lane l.change.when l.change.cause n (row_at l.fn.rows.items n) (shown l.core l.lane n))) l.pen l.writer;
 }
