@@ -5,3 +5,4 @@ pub mod Leaving
 pub mod Comparing
 pub mod Journals
 pub mod Engines
+pub mod Filling

@@ -7,13 +7,14 @@
 //! text is judged before anything is written.
 //!
 //! `Ending` has the exit status and the text of each way. An `Engine` is what a word of the command line names, a
-//! `Piece` room for lines. `play_lines` answers a script that was read by any other line for each event (`Lines`).
+//! `Piece` room for lines and for words with numbers. `play_lines` answers a script by any line an event (`Lines`).
 #![tactic(auto)]
 
 mod checking;
 mod comparison;
 mod ending;
 mod engine;
+mod filling;
 mod lines;
 mod piece;
 mod replaying;
@@ -22,6 +23,7 @@ mod serializing;
 pub use checking::check;
 pub use ending::Ending;
 pub use engine::Engine;
+pub use filling::{put_bytes, put_filled, put_number};
 pub use lines::Lines;
 pub use piece::{PIECE, Piece, WriteFailed};
 pub use replaying::{play_lines, replay};

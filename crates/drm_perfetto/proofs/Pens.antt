@@ -8,7 +8,7 @@ use Rattle.drm_engine.proofs.Pieces.{told_less, told_more}
 use Rattle.drm_perfetto.specs.declared.entry.Entry.{Entry}
 use Rattle.drm_perfetto.specs.declared.pen.Pen.{Pen}
 use Rattle.drm_perfetto.specs.Entries.{said_of, text_of}
-use Rattle.drm_perfetto.specs.Filling.{filled}
+use Rattle.drm_engine.specs.Filling.{filled}
 use Rattle.drm_perfetto.specs.Pens.{Adds, AddsEntries}
 
 -- a pair of words and numbers

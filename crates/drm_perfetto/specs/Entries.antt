@@ -6,7 +6,7 @@ use Rattle.drm_perfetto.specs.declared.entry.Track.{Track}
 use Rattle.drm_perfetto.specs.declared.entry.Track.TheVariants as track
 use Rattle.drm_perfetto.specs.declared.entry.When.{When}
 use Rattle.drm_perfetto.specs.declared.entry.TheConstants.{BACKS_OFF, BUFFER, BUFFER_BEGIN, BUFFER_END, CREDITS, DONE, GUILTY, HUNG, MAY_WAIT, QUEUE, QUEUED, QUEUE_BEGIN, QUEUE_END, QUEUE_LEAVE, RAN, REACH, REAPED, RING, RING_BEGIN, RING_END, RING_LEAVE, SKIPPED, STALLED, STOPPED, WAIT, WAIT_BEGIN, WAIT_END}
-use Rattle.drm_perfetto.specs.Filling.{filled}
+use Rattle.drm_engine.specs.Filling.{filled}
 
 -- four numbers: zeros stand behind the last that is told
 abbrev pub four : ℕ → ℕ → ℕ → ℕ → List ℕ

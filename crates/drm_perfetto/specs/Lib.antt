@@ -1,4 +1,3 @@
-pub mod Filling
 pub mod Watches
 pub mod Entries
 pub mod Tracks

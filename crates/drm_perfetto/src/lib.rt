@@ -10,7 +10,6 @@
 
 mod clock;
 mod entry;
-mod filling;
 mod lanes;
 mod named;
 mod pen;

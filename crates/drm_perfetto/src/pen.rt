@@ -7,8 +7,7 @@ ghost use Rattle.drm_engine.specs.Replaying.{Told};
 ghost use Rattle.drm_perfetto.specs.Pens.{Adds, AddsEntries};
 
 use crate::entry::{Entry, said_of};
-use crate::filling::{put_bytes, put_filled};
-use drm_engine::{Piece, WriteFailed};
+use drm_engine::{Piece, WriteFailed, put_bytes, put_filled};
 use drm_stream::Sink;
 use std::io::Write;
 

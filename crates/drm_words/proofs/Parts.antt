@@ -9,7 +9,7 @@ use Rattle.drm_reason.specs.Said.{Part as Saying, text_of_part, text_of_parts, t
 use Rattle.drm_reason.specs.declared.sentence.Part.{Part}
 use Rattle.drm_stream.specs.Streams.{SinkState}
 use Rattle.drm_engine.specs.Replaying.{ToldFront, ToldSoFar}
-use Rattle.drm_words.proofs.Pieces.{said_front, said_so_far}
+use Rattle.drm_engine.proofs.Putting.{said_front, said_so_far}
 
 abbrev pub text_from : List Part → ℕ → List ℕ
 text_from parts i = text_of_parts (map told_part (drop i parts))

@@ -5,7 +5,8 @@ use Rattle.std.specs.Fmt.{decimal}
 use Rattle.drm_stream.specs.Streams.{SinkState}
 use Rattle.drm_engine.specs.Replaying.{ToldSoFar}
 use Rattle.drm_engine.proofs.Pieces.{so_far_behind}
-use Rattle.drm_words.specs.Filling.{filled, is_plain}
+use Rattle.drm_engine.specs.Filling.{filled}
+use Rattle.drm_words.specs.Filling.{is_plain}
 
 -- no number stands in words that are plain, nor in what is behind their first byte
 plain_first : (is rest : Bool) → (if is then false else rest) ≡ true → is ≡ false

@@ -1,6 +1,6 @@
 -- What is said, by its parts.
 use Rattle.std.proofs.Common.{◌≡◌, ◌∙◌, ℕ, List, ap, sym}
-use Rattle.drm_words.specs.Filling.{filled}
+use Rattle.drm_engine.specs.Filling.{filled}
 
 abbrev both : List ℕ → List ℕ → List ℕ × List ℕ
 both words numbers = (words, numbers)

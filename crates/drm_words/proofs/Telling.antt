@@ -4,7 +4,7 @@ use Rattle.std.specs.Fmt.{decimal}
 use Rattle.drm_stream.specs.Streams.{SinkState}
 use Rattle.drm_engine.specs.Replaying.{Told, ToldFront, ToldSoFar}
 use Rattle.drm_reason.specs.Said.{bare, counted, text_of_parts}
-use Rattle.drm_words.proofs.Pieces.{front_then, said_front, said_more, said_so_far}
+use Rattle.drm_engine.proofs.Putting.{front_then, said_front, said_more, said_so_far}
 
 -- two parts with numbers and a bare one, and two with numbers
 two_and_bare : (first second last : List ℕ) (n m : ℕ)

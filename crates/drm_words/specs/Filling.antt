@@ -1,12 +1,5 @@
--- Words with numbers in them.
-use Rattle.std.specs.Prelude.{ℕ, Bool, true, false, List, [], ◌∷◌, ◌++◌, ◌==◌, drop, take, flat_map, if◌then◌else◌}
-use Rattle.std.specs.Fmt.{decimal}
-
--- the words, with the next of the numbers in place of each '%' (37)
-unfoldable pub filled : List ℕ → List ℕ → List ℕ
-filled [] numbers = []
-filled (byte ∷ rest) numbers =
-    if byte == 37 then flat_map decimal (take 1 numbers) ++ filled rest (drop 1 numbers) else byte ∷ filled rest numbers
+-- Words without numbers, and the numbers of a sentence.
+use Rattle.std.specs.Prelude.{ℕ, Bool, true, false, List, [], ◌∷◌, ◌==◌, if◌then◌else◌}
 
 -- words that no number stands in
 abbrev pub is_plain : List ℕ → Bool

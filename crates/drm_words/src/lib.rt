@@ -13,7 +13,6 @@
 
 mod because;
 mod fault;
-mod filling;
 mod missing;
 mod named;
 mod placing;

@@ -2,7 +2,8 @@
 
 ghost use Rattle.std.specs.Prelude.{◌≡◌, ◌≤◌, ◌+◌, ◌++◌, ◌∷◌, decimal, length, true, OnOk};
 ghost use Rattle.drm_engine.specs.Replaying.{Told};
-ghost use Rattle.drm_words.specs.Filling.{filled, is_plain, one, three, two};
+ghost use Rattle.drm_engine.specs.Filling.{filled};
+ghost use Rattle.drm_words.specs.Filling.{is_plain, one, three, two};
 
 use drm_engine::{Piece, WriteFailed};
 use drm_stream::Sink;

@@ -4,8 +4,7 @@ ghost use Rattle.std.specs.Prelude.{◌≡◌, ◌++◌, map};
 ghost use Rattle.drm_engine.specs.Replaying.{Told};
 ghost use Rattle.drm_reason.specs.Said.{text_of_part, text_of_parts, told_part};
 
-use crate::filling::{put_bytes, put_number};
-use drm_engine::{Piece, WriteFailed};
+use drm_engine::{Piece, WriteFailed, put_bytes, put_number};
 use drm_reason::Part;
 use drm_stream::Sink;
 use std::io::Write;

@@ -9,16 +9,18 @@ ghost use Rattle.drm_state.specs.declared.answer.Refusal.TheVariants as refusal;
 ghost use Rattle.drm_words.specs.Sentences.{sentence_of};
 ghost use Rattle.drm_words.specs.Refused.{case_of, case_of_fault, first_number, idle_case, number_of_refusal, said_of_refusal, stopped_case};
 
-use crate::filling::{Numbers, put_filled};
 use crate::named::{buffer_in, ctx_in, entity_in, ring_in};
 use crate::placing::{place_one, place_three};
 use drm_core::{Event, Refusal};
-use drm_engine::{Piece, WriteFailed};
+use drm_engine::{Piece, WriteFailed, put_filled};
 use drm_explain::sentence;
 use drm_job::{DraftList, JobFault};
 use drm_stream::Sink;
 use drm_types::{BufferId, EntityId, FenceId};
 use std::io::Write;
+
+// The numbers of a sentence, of which none has more than three: zeros stand behind the last.
+type Numbers = [u64; 3];
 
 // The number of a refusal, which of the sentences in its row is said of it, counted from 0, and the numbers in that.
 type Choice = (u32, usize, Numbers);

@@ -3,7 +3,7 @@ use Rattle.std.specs.Prelude.{codes}
 use Rattle.std.proofs.lemmas.Result.{err_from_is_err_and}
 use Rattle.drm_reason.specs.Said.{bare, counted, text_of_parts}
 use Rattle.drm_words.specs.Because.{reason_text}
-use Rattle.drm_words.proofs.Pieces.{front_then}
+use Rattle.drm_engine.proofs.Putting.{front_then}
 use Rattle.drm_words.proofs.Telling.{front_two_and_bare, front_with_more, told_with_more}
 use Rattle.drm_words.proofs.because.put_job.Goals as goal
 

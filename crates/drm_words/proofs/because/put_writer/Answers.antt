@@ -1,6 +1,6 @@
 use Rattle.std.specs.Prelude.{codes}
 use Rattle.drm_words.specs.Because.{reason_text}
-use Rattle.drm_words.proofs.Pieces.{front_then, said_more}
+use Rattle.drm_engine.proofs.Putting.{front_then, said_more}
 use Rattle.std.proofs.lemmas.Result.{err_from_is_err_and}
 use Rattle.drm_words.proofs.because.put_writer.Goals as goal
 

@@ -4,7 +4,7 @@ use Rattle.std.proofs.lemmas.Result.{err_from_is_err_and}
 use Rattle.drm_types.specs.declared.spec.DeviceSpec.{DeviceSpec}
 use Rattle.drm_words.specs.Because.{let_go_text}
 use Rattle.drm_words.proofs.Parts.{all_told, length_numbered, numbered_at, one_front, one_told}
-use Rattle.drm_words.proofs.Pieces.{told_nothing}
+use Rattle.drm_engine.proofs.Putting.{told_nothing}
 use Rattle.drm_words.proofs.putting.put_all_let_go.Goals as goal
 
 pub loop-entity-init : goal.loop-entity-init

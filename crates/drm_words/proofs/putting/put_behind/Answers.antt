@@ -1,7 +1,7 @@
 use Rattle.std.proofs.Common.{◌++◌, ◌∷◌, []}
 use Rattle.drm_words.specs.Because.{because, letting_go}
 use Rattle.drm_words.specs.Lines.{line_behind}
-use Rattle.drm_words.proofs.Pieces.{said_more}
+use Rattle.drm_engine.proofs.Putting.{said_more}
 use Rattle.drm_words.proofs.putting.put_behind.Goals as goal
 
 pub returns : goal.returns

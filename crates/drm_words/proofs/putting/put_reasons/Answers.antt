@@ -1,5 +1,5 @@
 use Rattle.drm_words.specs.Because.{because, letting_go}
-use Rattle.drm_words.proofs.Pieces.{said_more}
+use Rattle.drm_engine.proofs.Putting.{said_more}
 use Rattle.drm_words.proofs.putting.put_reasons.Goals as goal
 
 pub returns : goal.returns

@@ -4,7 +4,7 @@ use Rattle.std.specs.Option.{option_map_or}
 use Rattle.std.proofs.Common.{Option}
 use Rattle.std.proofs.lemmas.Result.{err_from_is_err_and}
 use Rattle.drm_engine.specs.Replaying.{Told, ToldFront, ToldSoFar}
-use Rattle.drm_words.proofs.Pieces.{front_then, said_more}
+use Rattle.drm_engine.proofs.Putting.{front_then, said_more}
 use Rattle.drm_words.proofs.reasons.put_part.Goals as goal
 
 pub returns-in_err-put_bytes : goal.returns-in_err-put_bytes

@@ -1,7 +1,7 @@
 use Rattle.std.proofs.Common.{[], refl}
 use Rattle.std.proofs.lemmas.Result.{err_from_is_err_and}
 use Rattle.drm_words.proofs.Parts.{part_front, part_told, parts_told}
-use Rattle.drm_words.proofs.Pieces.{told_nothing}
+use Rattle.drm_engine.proofs.Putting.{told_nothing}
 use Rattle.drm_words.proofs.reasons.put_parts.Goals as goal
 
 pub loop-part-init : goal.loop-part-init

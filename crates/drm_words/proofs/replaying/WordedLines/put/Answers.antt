@@ -5,7 +5,7 @@ use Rattle.drm_engine.specs.Replaying.{Told, ToldFront}
 use Rattle.drm_words.specs.Because.{Missing}
 use Rattle.drm_words.specs.Lines.{line_behind, worded_answer, worded_line}
 use Rattle.drm_words.specs.Subjects.{subject_of}
-use Rattle.drm_words.proofs.Pieces.{front_then, said_more}
+use Rattle.drm_engine.proofs.Putting.{front_then, said_more}
 use Rattle.drm_words.proofs.replaying.WordedLines.put.Goals as goal
 
 pub returns-in_err-put_worded_answer : goal.returns-in_err-put_worded_answer

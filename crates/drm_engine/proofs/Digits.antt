@@ -1,16 +1,11 @@
--- How numbers of few digits are written.
+-- How numbers of three and of four digits are written.
 use Rattle.std.proofs.Common.{◌≡◌, ◌∙◌, ℕ, ◌+◌, ◌<◌, ◌≤◌, ◌/◌, ◌%◌, List, [], ◌∷◌, ◌++◌, ap, arith}
 use Rattle.std.specs.Fmt.{decimal}
-use Rattle.std.proofs.lemmas.Fmt.{decimal_digit, decimal_step}
-
-pub one_digit : (n : ℕ) → n < 10 → decimal n ≡ (48 + n) ∷ []
-one_digit n small = decimal_digit n small
+use Rattle.std.proofs.lemmas.Fmt.{decimal_step}
+use Rattle.drm_answer.proofs.ShortNumbers.{two_digits}
 
 last_digit : (n : ℕ) (tens : List ℕ) → 10 ≤ n → n < 10000 → decimal (n / 10) ≡ tens → decimal n ≡ tens ++ (48 + n % 10) ∷ []
 last_digit n tens ten few is = decimal_step n ten (omega (arith, few)) ∙ ap (λ (t : List ℕ). t ++ (48 + n % 10) ∷ []) is
-
-pub two_digits : (n : ℕ) → 10 ≤ n → n < 100 → decimal n ≡ (48 + n / 10) ∷ (48 + n % 10) ∷ []
-two_digits n least most = last_digit n ((48 + n / 10) ∷ []) least (omega (arith, most)) (one_digit (n / 10) (omega (arith, most)))
 
 pub three_digits : (n : ℕ) → 100 ≤ n → n < 1000 → decimal n ≡ (48 + n / 10 / 10) ∷ (48 + n / 10 % 10) ∷ (48 + n % 10) ∷ []
 three_digits n least most =

@@ -1,8 +1,8 @@
 use Rattle.std.proofs.Common.{◌≡◌, ◌∷◌, ◌++◌, [], ℕ, List, subst, sym}
 use Rattle.std.specs.Fmt.{decimal}
 use Rattle.drm_engine.specs.Replaying.{Told}
-use Rattle.drm_perfetto.proofs.Digits.{four_digits}
-use Rattle.drm_perfetto.proofs.filling.put_four_digits.Goals as goal
+use Rattle.drm_engine.proofs.Digits.{four_digits}
+use Rattle.drm_engine.proofs.filling.put_four_digits.Goals as goal
 
 pub returns : goal.returns
 returns g c =

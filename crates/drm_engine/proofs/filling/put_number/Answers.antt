@@ -1,7 +1,7 @@
 use Rattle.std.proofs.Common.{◌∙◌, ◌∷◌, ◌++◌, [], ℕ, List, ap, subst, sym}
 use Rattle.drm_engine.specs.Replaying.{Told}
-use Rattle.drm_perfetto.proofs.Digits.{one_digit}
-use Rattle.drm_perfetto.proofs.filling.put_number.Goals as goal
+use Rattle.drm_answer.proofs.ShortNumbers.{one_digit}
+use Rattle.drm_engine.proofs.filling.put_number.Goals as goal
 
 pub returns-then-number-lt10 : goal.returns-then-number-lt10
 returns-then-number-lt10 g c =

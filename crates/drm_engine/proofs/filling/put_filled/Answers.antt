@@ -2,10 +2,10 @@ use Rattle.std.proofs.Common.{◌++◌, ◌+◌, [], ℕ, List, drop, flat_map, 
 use Rattle.std.specs.Fmt.{decimal}
 use Rattle.std.proofs.lemmas.Result.{err_from_is_err_and}
 use Rattle.drm_engine.specs.Replaying.{Told}
-use Rattle.drm_words.specs.Filling.{filled}
-use Rattle.drm_words.proofs.Fillings.{all_filled, number_next, words_next}
-use Rattle.drm_words.proofs.Pieces.{said_front, said_more, said_so_far, told_nothing}
-use Rattle.drm_words.proofs.filling.put_filled.Goals as goal
+use Rattle.drm_engine.specs.Filling.{filled}
+use Rattle.drm_engine.proofs.Fillings.{all_filled, number_next, words_next}
+use Rattle.drm_engine.proofs.Putting.{said_front, said_more, said_so_far, told_nothing}
+use Rattle.drm_engine.proofs.filling.put_filled.Goals as goal
 
 pub loop-place-init : goal.loop-place-init
 loop-place-init g c = ([], refl, told_nothing c.args.writer.now c.args.piece.now)

@@ -1,8 +1,8 @@
 use Rattle.std.proofs.Common.{refl}
 use Rattle.std.proofs.lemmas.Result.{err_from_is_err_and}
 use Rattle.drm_engine.proofs.Pieces.{kept_so_far}
-use Rattle.drm_words.proofs.Pieces.{byte_front, byte_told, bytes_told, told_nothing}
-use Rattle.drm_words.proofs.filling.put_bytes.Goals as goal
+use Rattle.drm_engine.proofs.Putting.{byte_front, byte_told, bytes_told, told_nothing}
+use Rattle.drm_engine.proofs.filling.put_bytes.Goals as goal
 
 pub returns-then-count-room : goal.returns-then-count-room
 returns-then-count-room g c = rw c.put_all.ensures (kept_so_far c.args.writer.now _)

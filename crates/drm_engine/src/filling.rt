@@ -1,19 +1,17 @@
-//! Words with numbers in them.
+//! Words with numbers in them, put into a piece of text: all bytes at once where there is room for them.
 
-ghost use Rattle.std.specs.Prelude.{◌≡◌, ◌<◌, ◌+◌, ◌∷◌, [], ◌++◌, decimal, drop, flat_map, length, take};
+ghost use Rattle.std.specs.Prelude.{◌≡◌, ◌+◌, ◌<◌, ◌≤◌, ◌++◌, decimal, drop, flat_map, length, take};
 ghost use Rattle.drm_engine.specs.Replaying.{Told};
-ghost use Rattle.drm_words.specs.Filling.{filled};
+ghost use Rattle.drm_engine.specs.Filling.{filled};
 
-use drm_engine::{Piece, WriteFailed};
+use crate::piece::{Piece, WriteFailed};
 use drm_stream::Sink;
 use memchr::memchr;
 use std::io::Write;
 
-/// The numbers of a sentence, of which none has more than three: zeros stand behind the last.
-pub(crate) type Numbers = [u64; 3];
-
-/// Puts bytes.
-pub(crate) fn put_bytes<W: Write>(
+/// Puts these bytes, all at once where there is room for them.
+#[inline]
+pub fn put_bytes<W: Write>(
     piece: &mut Piece,
     writer: &mut Sink<W>,
     bytes: &[u8],
@@ -31,6 +29,35 @@ pub(crate) fn put_bytes<W: Write>(
     Ok(())
 }
 
+// The digit of a number below ten.
+fn digit(value: u64) -> u8
+    requires { value < 10 }
+    ensures { result ≡ 48 + value }
+{
+    b'0' + value as u8
+}
+
+// Puts a number of four digits.
+fn put_four_digits<W: Write>(
+    piece: &mut Piece,
+    writer: &mut Sink<W>,
+    number: u64,
+) -> Result<(), WriteFailed>
+    requires least { 1000 ≤ number }
+    requires most { number < 10000 }
+    ensures { Told writer.old writer.new result (piece.old ++ decimal number) piece.new }
+{
+    let tens = number / 10;
+    let hundreds = tens / 10;
+    let digits = [
+        digit(hundreds / 10),
+        digit(hundreds % 10),
+        digit(tens % 10),
+        digit(number % 10),
+    ];
+    put_bytes(piece, writer, &digits)
+}
+
 // Puts a number of any length. The room for its digits is filled with zeros first, so it is not made for all.
 #[inline(never)]
 fn put_digits<W: Write>(
@@ -44,8 +71,8 @@ fn put_digits<W: Write>(
     put_bytes(piece, writer, buffer.format(number).as_bytes())
 }
 
-/// Puts a number. Rings, entities and contexts mostly have one digit.
-pub(crate) fn put_number<W: Write>(
+/// Puts a number. Most have one digit, as those of rings and entities, or four, as those of commands and jobs.
+pub fn put_number<W: Write>(
     piece: &mut Piece,
     writer: &mut Sink<W>,
     number: u64,
@@ -53,10 +80,12 @@ pub(crate) fn put_number<W: Write>(
     ensures { Told writer.old writer.new result (piece.old ++ decimal number) piece.new }
 {
     if number < 10 {
-        piece.push(writer, b'0' + number as u8)
-    } else {
-        put_digits(piece, writer, number)
+        return piece.push(writer, digit(number));
     }
+    if 1000 <= number && number < 10000 {
+        return put_four_digits(piece, writer, number);
+    }
+    put_digits(piece, writer, number)
 }
 
 // Puts the first of the numbers, if there is one.
@@ -89,7 +118,7 @@ fn behind(words: &[u8], place: usize) -> &[u8]
 }
 
 /// Puts the words, with the next of the numbers in place of each '%'. The words between two numbers are put at once.
-pub(crate) fn put_filled<W: Write>(
+pub fn put_filled<W: Write>(
     piece: &mut Piece,
     writer: &mut Sink<W>,
     words: &[u8],

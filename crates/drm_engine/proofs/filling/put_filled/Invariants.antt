@@ -1,7 +1,7 @@
 use Rattle.std.proofs.Common.{ℕ, List, ◌++◌, length}
 use Rattle.drm_engine.specs.Replaying.{ToldSoFar}
-use Rattle.drm_words.proofs.Fillings.{IsFilled}
-use Rattle.drm_words.proofs.filling.put_filled.Given as goal
+use Rattle.drm_engine.proofs.Fillings.{IsFilled}
+use Rattle.drm_engine.proofs.filling.put_filled.Given as goal
 
 abbrev pub invariant-loop-place : goal.invariant-loop-place
 invariant-loop-place g l =

@@ -1,6 +1,6 @@
 use Rattle.std.proofs.Common.{◌++◌, ◌∙◌, List, ℕ, subst}
 use Rattle.drm_engine.specs.Replaying.{Told}
-use Rattle.drm_words.proofs.filling.put_digits.Goals as goal
+use Rattle.drm_engine.proofs.filling.put_digits.Goals as goal
 
 pub returns : goal.returns
 returns g c =

@@ -4,7 +4,7 @@ use Rattle.std.proofs.Common.{◌≡◌, Some, None, slice_index, ◌<◌, ◌�
 use Rattle.std.specs.Prelude.{◌==◌}
 use Rattle.std.specs.Fmt.{decimal}
 use Rattle.std.proofs.lemmas.Bool.{eq-eqb, eqb-true}
-use Rattle.drm_words.specs.Filling.{filled}
+use Rattle.drm_engine.specs.Filling.{filled}
 
 is_false : (b : Bool) → (b ≡ true → ⊥) → b ≡ false
 is_false true never = absurd (never refl)
