@@ -100,9 +100,9 @@ class Tries:
             label += "-again"
 
     def try_alone(self, sources, body, room, jobs):
-        """Tries one wrong body by itself: by its function or law, by the files that it changes, and with the whole crate."""
+        """Tries one wrong body by itself: by its function, by the files that it changes, and with the whole crate."""
         result = Result(trial.UNTRIED, "no check was made")
-        only = [it for it in ([body.symbol] if body.symbol else body.laws, body.modules()) if it]
+        only = [it for it in ([body.symbol] if body.symbol else body.named, body.modules()) if it]
         for names in [*only, []]:
             made = trial.Trial(sources, tempfile.mkdtemp(dir=room), [body])
             flags = [it for name in names for it in ("--only", name)]

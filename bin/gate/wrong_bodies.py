@@ -42,12 +42,12 @@ class Sources:
 class WrongBody:
     """A wrong body: what it changes in the crate's texts, line by line.
 
-    One that changes a definition may name a function whose contract is a law of it, by a line `of: FUNCTION`.
+    One that changes a definition or a signature may name a function that it leaves unproved, by a line `of: FUNCTION`.
     """
 
     def __init__(self, sources, file):
         self.crate, self.file, self.name = sources.name, file, os.path.basename(file)[: -len(".edit")]
-        self.laws = re.findall(r"(?m)^of: (\S+)$", toolchain.library.text_of(file))
+        self.named = re.findall(r"(?m)^of: (\S+)$", toolchain.library.text_of(file))
         self.function, self.symbol, self.lines = None, None, {}
         texts, self.why = toolchain.gate.read_edit(file, sources.folder)
         functions = [self.compare(sources, path, text) for path, text in sorted((texts or {}).items())]
