@@ -1,4 +1,4 @@
-pub mod Columns
+pub mod Moments
 pub mod Fences
 pub mod Lasts
 pub mod Latest

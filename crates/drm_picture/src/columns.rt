@@ -1,7 +1,7 @@
 //! The columns of commands: from left to right goes the number of a command, or the moment that it tells.
 
 ghost use Rattle.std.specs.Option.{option_or};
-ghost use Rattle.std.specs.Prelude.{◌≡◌, ◌-◌, None, IfOk, length, unwrap_or};
+ghost use Rattle.std.specs.Prelude.{◌≡◌, ◌≤◌, ◌-◌, ◌*◌, None, IfOk, length, unwrap_or};
 ghost use Rattle.drm_picture.specs.Columns.{IsPeriod, column_at, columns_of, first_fall as first_fall_of, is_before, scale_of, unit_of};
 ghost use Rattle.drm_picture.specs.declared.columns.Scale.TheVariants as scale;
 
@@ -96,7 +96,7 @@ fn first_fall(commands: &[Event<EntityId>]) -> Option<usize>
 }
 
 // The period of these commands.
-fn period(commands: &[Event<EntityId>]) -> Period
+fn period_of(commands: &[Event<EntityId>]) -> Period
     ensures { IsPeriod commands.now result }
 {
     let mut period = NO_PERIOD;
@@ -110,11 +110,11 @@ fn period(commands: &[Event<EntityId>]) -> Period
 fn unit(commands: &[Event<EntityId>]) -> u64
     ensures { result ≡ unit_of commands.now }
 {
-    period(commands).duration() / (commands.len() as u64).max(1) + 1
+    period_of(commands).duration() / (commands.len() as u64).max(1) + 1
 }
 
 /// What the columns of these commands stand for.
-pub(crate) fn scale(axis: Axis, commands: &[Event<EntityId>]) -> Scale
+pub(crate) fn scale_for(axis: Axis, commands: &[Event<EntityId>]) -> Scale
     ensures { result ≡ scale_of axis commands.now }
 {
     match axis {
@@ -178,11 +178,12 @@ pub(crate) fn columns(
 /// How many columns there are of these commands.
 pub(crate) fn width(axis: Axis, scale: Scale, commands: &[Event<EntityId>]) -> usize
     requires { scale ≡ scale_of axis commands.now }
-    ensures { result ≡ column_at scale commands.now (length commands.now) }
+    ensures value { result ≡ column_at scale commands.now (length commands.now) }
+    ensures few { result ≤ 2 * length commands.now }
 {
     match scale {
         Scale::Command => commands.len(),
-        Scale::Moment { unit } => commands.len() + (period(commands).duration() / unit) as usize,
+        Scale::Moment { unit } => commands.len() + (period_of(commands).duration() / unit) as usize,
         Scale::Falling { .. } => commands.len(),
     }
 }

@@ -1,11 +1,11 @@
 //! A picture, and how it comes of a run.
 
-ghost use Rattle.std.specs.Prelude.{◌≡◌, IfOk, take};
+ghost use Rattle.std.specs.Prelude.{◌≡◌, ◌≤◌, ◌*◌, IfOk, length, take};
 ghost use Rattle.drm_picture.specs.Pictures.{IsPicture, part_of};
 
 use crate::armed::requests;
 use crate::bars::{Bar, Kind, bars};
-use crate::columns::{Axis, Scale, columns, scale, width};
+use crate::columns::{Axis, Scale, columns, scale_for, width};
 use crate::command::{Request, Step, commands, run_before};
 use crate::marks::{Mark, marks};
 use crate::reach::reaches;
@@ -78,11 +78,12 @@ pub fn picture_of(
     from: usize,
     to: usize,
 ) -> Result<Picture, AllocError>
-    ensures { IfOk result (λ picture. IsPicture shape axis from to steps.now picture) }
+    ensures drawn { IfOk result (λ picture. IsPicture shape axis from to steps.now picture) }
+    ensures few { IfOk result (λ picture. picture.width ≤ 2 * length picture.columns.items) }
 {
     let run = run_before(steps, to);
     let commands = commands(alloc, part(steps, from, to))?;
-    let scale = scale(axis, &commands);
+    let scale = scale_for(axis, &commands);
     let lefts = columns(alloc, axis, scale, &commands)?;
     let width = width(axis, scale, &commands);
     let fences = bars(alloc, Kind::Fence, from, run)?;

@@ -84,7 +84,7 @@ fn right(picture: &Picture, bar: &Bar) -> usize
     let before = picture.first.saturating_sub(bar.from);
     let from = bar.from.saturating_sub(picture.first);
     let place = from.saturating_add(bar.span.saturating_sub(before));
-    column_at(picture, place)
+    column_at(picture, place.min(picture.lefts.len()))
 }
 
 // How many columns a bar lasts, of those that are drawn.

@@ -69,11 +69,13 @@ fn draw_part<R: Read, W: Write>(
 fn axis_named(word: &str) -> Option<Axis>
     ensures { result ≡ axis_of_text word.entry.now }
 {
-    match word {
-        "command" => Some(Axis::Command),
-        "moment" => Some(Axis::Moment),
-        _ => None,
+    if word == "command" {
+        return Some(Axis::Command);
     }
+    if word == "moment" {
+        return Some(Axis::Moment);
+    }
+    None
 }
 
 /// Returns the axis that a word names, or that of commands where there is no word.

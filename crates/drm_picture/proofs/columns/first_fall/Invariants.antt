@@ -1,6 +1,6 @@
 use Rattle.std.proofs.Common.{◌≡◌, take}
 use Rattle.drm_picture.specs.Columns.{last_moment}
-use Rattle.drm_picture.proofs.Columns.{NoneFalls}
+use Rattle.drm_picture.proofs.Moments.{NoneFalls}
 use Rattle.drm_picture.proofs.columns.first_fall.Given as goal
 
 abbrev pub invariant-loop-place : goal.invariant-loop-place

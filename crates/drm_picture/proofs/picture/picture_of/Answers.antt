@@ -14,8 +14,8 @@ use Rattle.drm_picture.proofs.picture.picture_of.Goals as goal
 pub reaches-requires : goal.reaches-requires
 reaches-requires c = subst (All (EndsIn c.run_before-run.result.now)) (sym (c.deref.ensures.value ∙ c.in_ok-fences.ensures)) (fences-end c.args.from c.run_before-run.result.now)
 
-pub returns : goal.returns
-returns c =
+pub returns-clause-drawn : goal.returns-clause-drawn
+returns-clause-drawn c =
     let run = c.run_before-run.ensures in
     let from = c.args.from in
     record {
@@ -23,6 +23,9 @@ returns c =
       first = refl;
       total = refl;
       columns = c.in_ok-commands.ensures ∙ ap (map (λ (step : Step). step.command)) c.part.ensures;
+      scale = c.scale.ensures ∙ ap (scale_of c.args.axis) c.deref-2.ensures.value;
+      lefts = ?;
+      width = ?;
       armed = c.in_ok-requests.ensures ∙ ap requests_of run;
       jobs = c.in_ok-bars.ensures ∙ ap (bars_of kind.Job from) run;
       queued = c.in_ok-bars-2.ensures ∙ ap (bars_of kind.Queued from) run;
