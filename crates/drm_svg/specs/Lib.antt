@@ -8,4 +8,5 @@ pub mod Titles
 pub mod Bars
 pub mod Head
 pub mod Axis
+pub mod Ends
 pub mod Svg

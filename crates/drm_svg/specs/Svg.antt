@@ -5,6 +5,7 @@ use Rattle.drm_picture.specs.declared.picture.Picture.{Picture}
 use Rattle.drm_picture.specs.declared.waits.Wait.{Wait}
 use Rattle.drm_svg.specs.Bars.{halts_text}
 use Rattle.drm_svg.specs.Axis.{axis_text}
+use Rattle.drm_svg.specs.Ends.{end_text}
 use Rattle.drm_svg.specs.Head.{columns_text, fences_text, lane_text}
 use Rattle.drm_svg.specs.Layout.{column_of, row_of_fence, row_of_lane}
 use Rattle.drm_svg.specs.Signs.{name_of, shape_of, word_of_sign}
@@ -42,7 +43,7 @@ wait_text picture layout wait =
     ++ line_text (column_of picture wait.place) (row_of_fence layout wait.fence) (row_of_fence layout wait.earlier)
     ++ dot_text (column_of picture wait.place) (row_of_fence layout wait.earlier)
 
--- the lanes, the fences, the columns, the axis, the waits, the stopped entities and the marks
+-- the lanes, the fences, the columns, the axis, the waits, the stopped entities, the marks, and the mark of the end
 unfoldable pub inside_text : Picture → Layout → List ℕ
 inside_text picture layout =
     flat_map (lane_text picture) layout.lanes.items
@@ -52,3 +53,4 @@ inside_text picture layout =
     ++ flat_map (wait_text picture layout) picture.waits.items
     ++ halts_text picture layout
     ++ flat_map (mark_text picture layout) picture.marks.items
+    ++ end_text picture layout

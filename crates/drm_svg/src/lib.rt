@@ -9,6 +9,7 @@
 
 mod axis;
 mod bars;
+mod ends;
 mod fences;
 mod head;
 mod layout;
@@ -20,6 +21,7 @@ mod text;
 mod titles;
 
 pub use bars::put_entity_class;
+pub use ends::left_open;
 pub use fences::Fences;
 pub use layout::{LaneRows, Layout, has_credits, lay_out};
 pub use owners::job;

@@ -5,6 +5,7 @@ ghost use Rattle.drm_svg.specs.Svg.{dot_text, inside_text, line_text, mark_place
 
 use crate::axis::put_axis;
 use crate::bars::put_halts;
+use crate::ends::put_end;
 use crate::head::{put_columns, put_fences, put_lanes};
 use crate::layout::Layout;
 use crate::placing::column;
@@ -154,7 +155,7 @@ fn put_waits(out: &mut Vec<u8>, picture: &Picture, layout: &Layout) -> Result<()
 }
 
 /// Puts what is in a picture that is laid out: the lanes, the fences, the columns, the axis, the waits, the stopped
-/// entities and the marks.
+/// entities, the marks, and the mark of the end.
 #[tactic(auto, unfolding(crate::specs::Svg::inside_text))]
 pub fn put_inside(
     alloc: Global,
@@ -170,5 +171,6 @@ pub fn put_inside(
     put_axis(out, picture)?;
     put_waits(out, picture, layout)?;
     put_halts(out, picture, layout)?;
-    put_marks(out, picture, layout)
+    put_marks(out, picture, layout)?;
+    put_end(out, picture, layout)
 }
