@@ -8,8 +8,9 @@ use Rattle.std.proofs.lemmas.List.{get_or_default, take-append-drop}
 use Rattle.std.proofs.lemmas.List.Folds.{find-append}
 use Rattle.std.proofs.Math.Nat.{div-le_of_le-mul, div-lt_iff_lt-mul, lt-mul-div-succ, mul-le-mul_right}
 use Rattle.drm_core.specs.declared.event.Event.{Event}
-use Rattle.drm_picture.specs.Columns.{duration, falls, first_fall, first_moment, is_before, last_moment, unit_of}
+use Rattle.drm_picture.specs.Columns.{IsPeriod, duration, falls, first_fall, first_moment, is_before, last_moment, unit_of}
 use Rattle.drm_picture.specs.Commands.{moment_of}
+use Rattle.drm_picture.specs.declared.columns.Period.{Period}
 use Rattle.drm_picture.proofs.Places.{placed_more, take-more}
 
 -- ---- one command more
@@ -34,22 +35,31 @@ take_one : (commands : List (Event ℕ)) (place : ℕ) (d : Event ℕ) → place
 take_one commands place d within = take-more commands place (get_or commands place d) within (get_or_default commands place d (get_or commands place d) within)
 
 -- the last moment that one command more tells
-pub last_more : (commands : List (Event ℕ)) (place : ℕ) (d : Event ℕ) (told : Option ℕ) → place < length commands → told ≡ last_moment (take place commands)
-    → option_or (moment_of (get_or commands place d)) told ≡ last_moment (take (place + 1) commands)
-last_more commands place d told within so =
-    let c = get_or commands place d in
-    ap (λ (o : Option ℕ). option_or (moment_of c) o) so
-    ∙ sym (last-snoc (take place commands) c)
+pub last_more : (commands : List (Event ℕ)) (place : ℕ) (d : Event ℕ) (now told : Option ℕ) → place < length commands → now ≡ moment_of (get_or commands place d)
+    → told ≡ last_moment (take place commands) → option_or now told ≡ last_moment (take (place + 1) commands)
+last_more commands place d now told within is so =
+    ap (λ (o : Option ℕ). option_or o told) is
+    ∙ ap (λ (o : Option ℕ). option_or (moment_of (get_or commands place d)) o) so
+    ∙ sym (last-snoc (take place commands) (get_or commands place d))
     ∙ ap last_moment (sym (take_one commands place d within))
 
 -- the first
-pub first_more : (commands : List (Event ℕ)) (place : ℕ) (d : Event ℕ) (first : Option ℕ) → place < length commands → first ≡ first_moment (take place commands)
-    → option_or first (moment_of (get_or commands place d)) ≡ first_moment (take (place + 1) commands)
-first_more commands place d first within so =
-    let c = get_or commands place d in
-    ap (λ (o : Option ℕ). option_or o (moment_of c)) so
-    ∙ sym (first-snoc (take place commands) c)
+pub first_more : (commands : List (Event ℕ)) (place : ℕ) (d : Event ℕ) (now first : Option ℕ) → place < length commands → now ≡ moment_of (get_or commands place d)
+    → first ≡ first_moment (take place commands) → option_or first now ≡ first_moment (take (place + 1) commands)
+first_more commands place d now first within is so =
+    ap (λ (o : Option ℕ). option_or o now) so
+    ∙ ap (λ (o : Option ℕ). option_or (first_moment (take place commands)) o) is
+    ∙ sym (first-snoc (take place commands) (get_or commands place d))
     ∙ ap first_moment (sym (take_one commands place d within))
+
+-- their period
+pub period_more : (commands : List (Event ℕ)) (place : ℕ) (d : Event ℕ) (now : Option ℕ) (before period : Period) → place < length commands
+    → now ≡ moment_of (get_or commands place d) → IsPeriod (take place commands) before
+    → period ≡ record { first = option_or before.first now; last = option_or now before.last } → IsPeriod (take (place + 1) commands) period
+period_more commands place d now before period within is so with = record {
+  first = ap (λ (p : Period). p.first) with ∙ first_more commands place d now before.first within is so.first;
+  last = ap (λ (p : Period). p.last) with ∙ last_more commands place d now before.last within is so.last;
+}
 
 -- ---- where moments fall
 
@@ -69,9 +79,17 @@ found_until commands place d within none =
     ∙ find-append (falls commands) (enumerate_from 0 (take place commands)) ((place, get_or commands place d) ∷ [])
     ∙ ap (λ (o : Option (ℕ × Event ℕ)). option_or o (find (falls commands) ((place, get_or commands place d) ∷ []))) none
 
-pub none_more : (commands : List (Event ℕ)) (place : ℕ) (d : Event ℕ) → place < length commands → NoneFalls commands place
-    → is_before (moment_of (get_or commands place d)) (last_moment (take place commands)) ≡ false → NoneFalls commands (place + 1)
-none_more commands place d within none no = found_until commands place d within none ∙ rw no refl
+-- what a command is asked for whose moment and the one told before are known
+fell_here : (commands : List (Event ℕ)) (place : ℕ) (d : Event ℕ) (now told : Option ℕ) (falls_here : Bool) → now ≡ moment_of (get_or commands place d)
+    → told ≡ last_moment (take place commands) → is_before now told ≡ falls_here → is_before (moment_of (get_or commands place d)) (last_moment (take place commands)) ≡ falls_here
+fell_here commands place d now told falls_here is so asked =
+    ap (λ (o : Option ℕ). is_before o (last_moment (take place commands))) (sym is) ∙ ap (is_before now) (sym so) ∙ asked
+
+pub none_more : (commands : List (Event ℕ)) (place : ℕ) (d : Event ℕ) (now told : Option ℕ) → place < length commands → now ≡ moment_of (get_or commands place d)
+    → told ≡ last_moment (take place commands) → NoneFalls commands place → is_before now told ≡ false → NoneFalls commands (place + 1)
+none_more commands place d now told within is so none asked =
+    let stays = fell_here commands place d now told false is so asked in
+    found_until commands place d within none ∙ rw stays refl
 
 enumerate_from-append : {X : Type 0} (n : ℕ) (xs ys : List X) → enumerate_from n (xs ++ ys) ≡ enumerate_from n xs ++ enumerate_from (n + length xs) ys
 enumerate_from-append n [] ys = let e : n + 0 ≡ n = omega arith in rw e refl
@@ -80,13 +98,14 @@ enumerate_from-append n (x ∷ xs) ys =
     ap (λ l. (n, x) ∷ l) (enumerate_from-append (n + 1) xs ys ∙ ap (λ (m : ℕ). enumerate_from (n + 1) xs ++ enumerate_from m ys) e)
 
 -- the first that falls
-pub found_first : (commands : List (Event ℕ)) (place : ℕ) (d : Event ℕ) → place < length commands → NoneFalls commands place
-    → is_before (moment_of (get_or commands place d)) (last_moment (take place commands)) ≡ true → first_fall commands ≡ Some place
-found_first commands place d within none yes =
+pub found_first : (commands : List (Event ℕ)) (place : ℕ) (d : Event ℕ) (now told : Option ℕ) → place < length commands → now ≡ moment_of (get_or commands place d)
+    → told ≡ last_moment (take place commands) → NoneFalls commands place → is_before now told ≡ true → first_fall commands ≡ Some place
+found_first commands place d now told within is so none asked =
+    let fell = fell_here commands place d now told true is so asked in
     let c = get_or commands place d in
     let before = enumerate_from 0 (take (place + 1) commands) in
     let rest = enumerate_from (0 + length (take (place + 1) commands)) (drop (place + 1) commands) in
-    let found : find (falls commands) ((place, c) ∷ []) ≡ Some (place, c) = rw yes refl in
+    let found : find (falls commands) ((place, c) ∷ []) ≡ Some (place, c) = rw fell refl in
     ap (λ (o : Option (ℕ × Event ℕ)). option_map (λ (p : ℕ × Event ℕ). p.0) o)
     (ap (λ (l : List (Event ℕ)). find (falls commands) (enumerate_from 0 l)) (sym (take-append-drop (place + 1) commands))
     ∙ ap (find (falls commands)) (enumerate_from-append 0 (take (place + 1) commands) (drop (place + 1) commands))
@@ -116,11 +135,11 @@ none_told (x ∷ xs) none = none_or (moment_of x) (first_moment xs) (last_moment
 
 longer_by : (first last now : Option ℕ) → (first ≡ None → last ≡ None) → is_before now last ≡ false
     → unwrap_or last 0 - unwrap_or first 0 ≤ unwrap_or (option_or now last) 0 - unwrap_or (option_or first now) 0
-longer_by None last None law no = omega arith
-longer_by (Some first) last None law no = omega arith
-longer_by (Some first) None (Some now) law no = omega arith
-longer_by (Some first) (Some told) (Some now) law no = let le : told ≤ now = ltb-false now told no in omega arith
-longer_by None last (Some now) law no = let none : unwrap_or last 0 ≡ 0 = ap (λ (o : Option ℕ). unwrap_or o 0) (law refl) in omega (arith, none)
+longer_by None last None law stays = omega arith
+longer_by (Some first) last None law stays = omega arith
+longer_by (Some first) None (Some now) law stays = omega arith
+longer_by (Some first) (Some told) (Some now) law stays = let le : told ≤ now = ltb-false now told stays in omega arith
+longer_by None last (Some now) law stays = let none : unwrap_or last 0 ≡ 0 = ap (λ (o : Option ℕ). unwrap_or o 0) (law refl) in omega (arith, none)
 
 split_none : {X : Type 0} (before : Option X) (falls_here : Bool) (x : X) → option_or before (if falls_here then Some x else None) ≡ None → (before ≡ None) × (falls_here ≡ false)
 split_none None false x none = (refl, refl)
@@ -139,8 +158,8 @@ longer_one : (commands : List (Event ℕ)) (place : ℕ) (d : Event ℕ) → pla
 longer_one commands place d within none =
     let before = take place commands in
     let now = moment_of (get_or commands place d) in
-    let last : option_or now (last_moment before) ≡ last_moment (take (place + 1) commands) = last_more commands place d (last_moment before) within refl in
-    let first : option_or (first_moment before) now ≡ first_moment (take (place + 1) commands) = first_more commands place d (first_moment before) within refl in
+    let last : option_or now (last_moment before) ≡ last_moment (take (place + 1) commands) = last_more commands place d now (last_moment before) within refl refl in
+    let first : option_or (first_moment before) now ≡ first_moment (take (place + 1) commands) = first_more commands place d now (first_moment before) within refl refl in
     subst (λ (l : Option ℕ). duration before ≤ unwrap_or l 0 - unwrap_or (first_moment (take (place + 1) commands)) 0) last
     (subst (λ (f : Option ℕ). duration before ≤ unwrap_or (option_or now (last_moment before)) 0 - unwrap_or f 0) first
     (longer_by (first_moment before) (last_moment before) now (none_told before) (none_here commands place d within none).1))
@@ -209,3 +228,21 @@ few_between commands passed within =
     let below : passed < wide * unit_of commands = omega (arith, within, less) in
     let unit : 0 < unit_of commands = omega arith in
     (div-lt_iff_lt-mul unit).1 below
+
+-- ---- what the code counts
+
+-- how many moments pass in a period
+pub passed_in : (commands : List (Event ℕ)) (period : Period) (passed : ℕ) → IsPeriod commands period → passed ≡ unwrap_or period.last 0 - unwrap_or period.first 0
+    → passed ≡ duration commands
+passed_in commands period passed is so =
+    so
+    ∙ ap (λ (o : Option ℕ). unwrap_or o 0 - unwrap_or period.first 0) is.last
+    ∙ ap (λ (o : Option ℕ). unwrap_or (last_moment commands) 0 - unwrap_or o 0) is.first
+
+-- up to a command fewer columns are between commands than there are commands
+pub few_before : (commands : List (Event ℕ)) (d : Event ℕ) (place passed unit : ℕ) → place < length commands → unit ≡ unit_of commands → first_fall commands ≡ None
+    → passed ≡ duration (take (place + 1) commands) → passed / unit < length commands
+few_before commands d place passed unit within is rise so =
+    let le : passed ≤ duration commands = rw so (within_all commands d (place + 1) (omega arith) rise) in
+    let few : passed / unit_of commands < max 1 (length commands) = few_between commands passed le in
+    rw is (omega (arith, few))
