@@ -33,7 +33,7 @@ word_of_key key.Lock = codes "held by a context"
 word_of_key key.Waiting = codes "waits for the buffer"
 word_of_key key.Wait = codes "waits for an earlier job"
 word_of_key key.Credits = codes "credits in use"
-word_of_key key.End = codes "jobs left at the end"
+word_of_key key.End = codes "left at the end"
 word_of_key (key.Sign sign) = word_of_sign sign
 
 -- how an edge with its sign is drawn

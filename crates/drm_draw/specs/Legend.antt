@@ -9,7 +9,7 @@ use Rattle.drm_picture.specs.declared.marks.Mark.{Mark}
 use Rattle.drm_picture.specs.declared.marks.Sign.{Sign}
 use Rattle.drm_picture.specs.declared.marks.Sign.TheVariants as sign
 use Rattle.drm_picture.specs.declared.picture.Picture.{Picture}
-use Rattle.drm_svg.specs.Ends.{left_open}
+use Rattle.drm_svg.specs.Ends.{is_marked}
 use Rattle.drm_svg.specs.Owners.{job_of}
 use Rattle.drm_draw.specs.declared.legend.Key.{Key}
 use Rattle.drm_draw.specs.declared.legend.Key.TheVariants as key
@@ -91,7 +91,7 @@ occurs picture key.Lock = is_any picture.locks.items
 occurs picture key.Waiting = is_any picture.waiting.items
 occurs picture key.Wait = is_any picture.waits.items
 occurs picture key.Credits = is_any picture.jobs.items
-occurs picture key.End = nat_lt 0 (left_open picture)
+occurs picture key.End = is_marked picture
 occurs picture (key.Sign sign) = list_any (λ mark. same_sign mark.sign sign) picture.marks.items
 
 -- the legend: of all keys those of what occurs

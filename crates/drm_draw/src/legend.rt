@@ -5,7 +5,7 @@ ghost use Rattle.std.specs.Prelude.{◌≡◌, IfOk, filter};
 ghost use Rattle.drm_draw.specs.Legend.{all_keys, any_looks, any_of, entity_keys, has_entity, has_look, is_of, legend_of, occurs as occurs_in, same_look, same_sign};
 
 use drm_picture::{Bar, Look, Mark, Picture, Sign};
-use drm_svg::{job, left_open};
+use drm_svg::{is_marked, job};
 use drm_types::EntityId;
 use std::alloc::{AllocError, Global};
 
@@ -28,7 +28,7 @@ pub(crate) enum Key {
     Wait,
     /// The line of the credits in use.
     Credits,
-    /// The line where a script ends that leaves jobs without an outcome.
+    /// The line where a script ends that leaves jobs without an outcome, or buffers that contexts hold.
     End,
     /// A mark.
     Sign(Sign),
@@ -164,7 +164,7 @@ fn occurs(picture: &Picture, key: Key) -> bool
         Key::Waiting => 0 < picture.waiting.len(),
         Key::Wait => 0 < picture.waits.len(),
         Key::Credits => 0 < picture.jobs.len(),
-        Key::End => 0 < left_open(picture),
+        Key::End => is_marked(picture),
         Key::Sign(sign) => is_any_sign(sign, &picture.marks),
     }
 }

@@ -1,14 +1,18 @@
 -- Columns: what is told of one, and which one is found.
-use Rattle.std.proofs.Common.{◌≡◌, ◌∙◌, ◌⊎◌, inl, inr, ℕ, List, ◌+◌, ◌-◌, ◌≤◌, Option, ap, get_or, length, sym, take}
+use Rattle.std.proofs.Common.{◌≡◌, ◌∙◌, ℕ, List, ◌+◌, ◌-◌, ◌<◌, ◌≤◌, ◌^◌, Option, ap, arith, get_or, inl, inr, length, sym, take}
+use Rattle.std.specs.Prelude.{min}
+use Rattle.std.proofs.lemmas.Bool.{cases_lt}
 use Rattle.std.proofs.lemmas.List.{get_or_past}
 use Rattle.drm_core.specs.declared.event.Event.{Event}
 use Rattle.drm_picture.specs.Columns.{last_moment}
+use Rattle.drm_picture.specs.Commands.{moment_of}
 use Rattle.drm_picture.specs.declared.picture.Picture.{Picture}
-use Rattle.drm_svg.specs.Head.{column_in, column_text}
+use Rattle.drm_svg.specs.Axis.{tick_in, tick_text}
+use Rattle.drm_svg.specs.Head.{column_in, column_text, new_moment}
 use Rattle.drm_svg.specs.Layout.{column_at}
 
 -- what is told of the column of a command
-pub column_is : (picture : Picture) (place column : ℕ) (told : Option ℕ) (command : Event ℕ) (d : Event ℕ) → column ≡ column_at picture place
+pub column_is : (picture : Picture) (place column : ℕ) (told : Option ℕ) (command d : Event ℕ) → column ≡ column_at picture place
     → told ≡ last_moment (take place picture.columns.items) → command ≡ get_or picture.columns.items place d
     → column_text picture.first place column told command ≡ column_in picture (place, get_or picture.columns.items place d)
 column_is picture place column told command d at last is =
@@ -16,7 +20,22 @@ column_is picture place column told command d at last is =
     ∙ ap (λ (t : Option ℕ). column_text picture.first place (column_at picture place) t command) last
     ∙ ap (λ (e : Event ℕ). column_text picture.first place (column_at picture place) (last_moment (take place picture.columns.items)) e) is
 
--- what is found of two places, of which either both are the same or both are past the end
-pub found_past : (columns : List ℕ) (behind m n : ℕ) → (m ≡ n) ⊎ ((length columns ≤ m) × (length columns ≤ n)) → get_or columns m behind ≡ get_or columns n behind
-found_past columns behind m n (inl same) = ap (λ (k : ℕ). get_or columns k behind) same
-found_past columns behind m n (inr past) = get_or_past columns m behind past.0 ∙ sym (get_or_past columns n behind past.1)
+-- its tick
+pub tick_is : (picture : Picture) (place column : ℕ) (told now new : Option ℕ) (d : Event ℕ) → column ≡ column_at picture place → new ≡ new_moment told now
+    → told ≡ last_moment (take place picture.columns.items) → now ≡ moment_of (get_or picture.columns.items place d)
+    → tick_text column new ≡ tick_in picture (place, get_or picture.columns.items place d)
+tick_is picture place column told now new d at differs last is =
+    ap (λ (c : ℕ). tick_text c new) at
+    ∙ ap (λ (t : Option ℕ). tick_text (column_at picture place) t) differs
+    ∙ ap (λ (t : Option ℕ). tick_text (column_at picture place) (new_moment t now)) last
+    ∙ ap (λ (t : Option ℕ). tick_text (column_at picture place) (new_moment (last_moment (take place picture.columns.items)) t)) is
+
+-- what is found at a place that is counted with care is what is at the place
+pub found_at_end : (columns : List ℕ) (behind first from span place : ℕ) → length columns < 2 ^ 64
+    → place ≡ min (min (from - first + (span - (first - from))) (2 ^ 64 - 1)) (length columns)
+    → get_or columns place behind ≡ get_or columns (from + span - first) behind
+found_at_end columns behind first from span place few is =
+    elim (cases_lt (from + span - first) (length columns)) [
+      | inl within ↦ ap (λ (k : ℕ). get_or columns k behind) (omega (arith, is, within))
+      | inr past ↦ get_or_past columns place behind (omega (arith, is, past)) ∙ sym (get_or_past columns (from + span - first) behind past)
+    ]

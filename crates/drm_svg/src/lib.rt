@@ -21,7 +21,7 @@ mod text;
 mod titles;
 
 pub use bars::put_entity_class;
-pub use ends::left_open;
+pub use ends::is_marked;
 pub use fences::Fences;
 pub use layout::{LaneRows, Layout, has_credits, lay_out};
 pub use owners::job;
