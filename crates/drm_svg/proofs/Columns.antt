@@ -1,8 +1,5 @@
 -- Columns: what is told of one, and which one is found.
-use Rattle.std.proofs.Common.{◌≡◌, ◌∙◌, ℕ, List, ◌+◌, ◌-◌, ◌<◌, ◌≤◌, ◌^◌, Option, ap, arith, get_or, inl, inr, length, sym, take}
-use Rattle.std.specs.Prelude.{min}
-use Rattle.std.proofs.lemmas.Bool.{cases_lt}
-use Rattle.std.proofs.lemmas.List.{get_or_past}
+use Rattle.std.proofs.Common.{◌≡◌, ◌∙◌, ℕ, Option, ap, get_or, take}
 use Rattle.drm_core.specs.declared.event.Event.{Event}
 use Rattle.drm_picture.specs.Columns.{last_moment}
 use Rattle.drm_picture.specs.Commands.{moment_of}
@@ -29,13 +26,3 @@ tick_is picture place column told now new d at differs last is =
     ∙ ap (λ (t : Option ℕ). tick_text (column_at picture place) t) differs
     ∙ ap (λ (t : Option ℕ). tick_text (column_at picture place) (new_moment t now)) last
     ∙ ap (λ (t : Option ℕ). tick_text (column_at picture place) (new_moment (last_moment (take place picture.columns.items)) t)) is
-
--- what is found at a place that is counted with care is what is at the place
-pub found_at_end : (columns : List ℕ) (behind first from span place : ℕ) → length columns < 2 ^ 64
-    → place ≡ min (min (from - first + (span - (first - from))) (2 ^ 64 - 1)) (length columns)
-    → get_or columns place behind ≡ get_or columns (from + span - first) behind
-found_at_end columns behind first from span place few is =
-    elim (cases_lt (from + span - first) (length columns)) [
-      | inl within ↦ ap (λ (k : ℕ). get_or columns k behind) (omega (arith, is, within))
-      | inr past ↦ get_or_past columns place behind (omega (arith, is, past)) ∙ sym (get_or_past columns (from + span - first) behind past)
-    ]
