@@ -1,11 +1,17 @@
 //! The title of a picture.
 
 ghost use Rattle.std.specs.Prelude.{◌≡◌, ◌==◌, ◌++◌, if◌then◌else◌, IfOk, OnOk};
-ghost use Rattle.drm_draw.specs.Heading.{counted, device_of, heading_of, scale_text, span_of};
+ghost use Rattle.drm_draw.specs.Heading.{counted, device_of, fall_text, heading_of, scale_text, span_of};
 
 use drm_picture::{Picture, Scale, Shape};
 use drm_svg::{put_number, put_text, put_wide};
 use std::alloc::{AllocError, Global};
+
+/// For how many moments a free column stands.
+const FREE_COLUMN: &str = "; a free column is ";
+
+/// Where moments fall.
+const FALL: &str = "; moments fall at command ";
 
 // Puts what of how many commands is drawn: so many from the first on.
 fn put_span(out: &mut Vec<u8>, first: usize, count: usize, total: usize) -> Result<(), AllocError>
@@ -54,6 +60,14 @@ fn put_device(out: &mut Vec<u8>, shape: Shape) -> Result<(), AllocError>
     put_counted(out, u64::from(shape.buffers), " buffer", " buffers")
 }
 
+// Puts that moments fall at the command with this place in the part, of which the first has this number.
+fn put_fall(out: &mut Vec<u8>, first: usize, place: usize) -> Result<(), AllocError>
+    ensures { OnOk result (out.new.items ≡ out.old.items ++ fall_text first place) }
+{
+    put_text(out, FALL)?;
+    put_wide(out, first as u128 + place as u128)
+}
+
 // Puts what columns stand for other than commands, of which the first has this number.
 fn put_scale(out: &mut Vec<u8>, first: usize, scale: Scale) -> Result<(), AllocError>
     ensures { OnOk result (out.new.items ≡ out.old.items ++ scale_text first scale) }
@@ -61,13 +75,10 @@ fn put_scale(out: &mut Vec<u8>, first: usize, scale: Scale) -> Result<(), AllocE
     match scale {
         Scale::Command => Ok(()),
         Scale::Moment { unit } => {
-            put_text(out, "; a free column is ")?;
+            put_text(out, FREE_COLUMN)?;
             put_counted(out, unit, " moment", " moments")
         }
-        Scale::Falling { place } => {
-            put_text(out, "; moments fall at command ")?;
-            put_wide(out, first as u128 + place as u128)
-        }
+        Scale::Falling { place } => put_fall(out, first, place),
     }
 }
 
