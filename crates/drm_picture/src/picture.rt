@@ -68,8 +68,8 @@ pub fn part(steps: &[Step], from: usize, to: usize) -> &[Step]
     &run[from.min(run.len())..]
 }
 
-/// Returns the picture of a run of a device of this shape, from one place to before another. Where its moments are asked
-/// for and they fall, it is that of its commands, and its scale says so.
+/// Returns the picture of a run of a device of this shape, from one place to before another. Where its moments are
+/// asked for and they fall, it is that of its commands, and its scale says so.
 pub fn picture_of(
     alloc: Global,
     shape: Shape,

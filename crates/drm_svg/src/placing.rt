@@ -53,7 +53,7 @@ fn bars_for(picture: &Picture, lane: Lane) -> (&[Bar], &[Bar])
     }
 }
 
-/// Returns the column of a command of the part, by its place there, or the one behind the last of what is behind the part.
+/// Returns the column of a command of the part, by its place there. What is behind the part is behind the last column.
 pub fn column_at(picture: &Picture, place: usize) -> usize
     ensures { result ≡ column_at_place picture.now place }
 {
