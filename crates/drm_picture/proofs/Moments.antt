@@ -1,6 +1,6 @@
 -- Columns: the moments of one command more, and that there are at most twice as many columns as commands.
-use Rattle.std.proofs.Common.{◌≡◌, ◌∙◌, ℕ, zero, suc, Bool, true, false, List, [], ◌∷◌, ◌++◌, ◌+◌, ◌-◌, ◌*◌, ◌/◌, ◌<◌, ◌≤◌, Option, Some, None, ap, arith, drop, find, get_or, inl, inr, length, map, option_map, refl, subst, sym, take, unwrap_or}
-use Rattle.std.specs.Prelude.{if◌then◌else◌, max, nat_lt}
+use Rattle.std.proofs.Common.{◌≡◌, ◌∙◌, ℕ, zero, suc, Bool, true, false, List, [], ◌∷◌, ◌++◌, ◌+◌, ◌-◌, ◌*◌, ◌/◌, ◌<◌, ◌≤◌, Option, Some, None, ap, arith, drop, find, get_or, inl, inr, length, option_map, refl, subst, sym, take, unwrap_or}
+use Rattle.std.specs.Prelude.{if◌then◌else◌, max}
 use Rattle.std.specs.List.{enumerate_from}
 use Rattle.std.specs.Option.{option_or}
 use Rattle.std.proofs.lemmas.Bool.{cases_lt, ltb-false}

@@ -1,4 +1,4 @@
-use Rattle.std.proofs.Common.{◌≡◌, ◌∙◌, ◌+◌, ◌/◌, ℕ, [], ◌∷◌, ◌++◌, ap, arith}
+use Rattle.std.proofs.Common.{◌∙◌, ◌+◌, ◌/◌, ℕ, [], ◌∷◌, ◌++◌, ap, arith}
 use Rattle.drm_core.specs.declared.event.Event.{Event}
 use Rattle.drm_picture.specs.Columns.{column_at}
 use Rattle.drm_picture.specs.Commands.{moment_of}

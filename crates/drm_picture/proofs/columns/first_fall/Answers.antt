@@ -1,6 +1,6 @@
 use Rattle.std.proofs.Common.{◌∙◌, ap, arith, sym}
 use Rattle.drm_picture.specs.Commands.{moment_of}
-use Rattle.drm_picture.proofs.Moments.{found_first, last_more, none_first, none_more}
+use Rattle.drm_picture.proofs.Moments.{found_first, last_more, none_more}
 use Rattle.drm_picture.proofs.columns.first_fall.Goals as goal
 
 pub returns-then-is_earlier : goal.returns-then-is_earlier
