@@ -1,11 +1,10 @@
 -- The legend of a picture: a key for each thing that occurs in it, and for nothing else.
-use Rattle.std.specs.Prelude.{ℕ, zero, suc, Bool, true, false, ◌+◌, ◌==◌, ◌||◌, List, [], ◌∷◌, ◌++◌, filter, length, nat_lt}
+use Rattle.std.specs.Prelude.{ℕ, zero, suc, Bool, true, false, ◌==◌, ◌||◌, List, [], ◌∷◌, ◌++◌, filter, length, nat_lt}
 use Rattle.std.specs.List.{list_any}
 use Rattle.std.specs.Option.{option_map_or}
 use Rattle.drm_picture.specs.declared.bars.Bar.{Bar}
 use Rattle.drm_picture.specs.declared.bars.Look.{Look}
 use Rattle.drm_picture.specs.declared.bars.Look.TheVariants as look
-use Rattle.drm_picture.specs.declared.marks.Mark.{Mark}
 use Rattle.drm_picture.specs.declared.marks.Sign.{Sign}
 use Rattle.drm_picture.specs.declared.marks.Sign.TheVariants as sign
 use Rattle.drm_picture.specs.declared.picture.Picture.{Picture}
