@@ -1,5 +1,5 @@
 -- How what was asked for ended.
-use Rattle.std.specs.Prelude.{ℕ, Bool, true, false, List, Result, Ok, Err, codes}
+use Rattle.std.specs.Prelude.{ℕ, Bool, false, List, Result, Ok, Err, codes}
 use Rattle.drm_conform.specs.Judging.{text_of_judged}
 use Rattle.drm_engine.specs.Endings as ends
 use Rattle.drm_engine.specs.Failures.{EndsBy}

@@ -18,7 +18,6 @@ use Rattle.drm_picture.specs.declared.columns.Axis.{Axis}
 use Rattle.drm_picture.specs.declared.columns.Axis.TheVariants as axis
 use Rattle.drm_draw.specs.Drawing.{Draws}
 use Rattle.drm_explore.specs.Exploring.{Explores}
-use Rattle.drm_explore.specs.declared.exploring.Options.{Options}
 use Rattle.drm_explore.specs.declared.exploring.Wanted.{Wanted}
 use Rattle.drm_explore.specs.declared.exploring.Wanted.TheVariants as wanted
 use Rattle.drm_why.specs.Whys.{Whys}
