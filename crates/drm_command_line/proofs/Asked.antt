@@ -53,7 +53,7 @@ known_asks name rows known =
       | inr (inr (inl named)) ↦ (Run engine.Check, (named, (λ is. absurd (different (codes "check") (codes "replay") refl (sym named ∙ is)))))
       | inr (inr (inr (inl named))) ↦ run_asks name rows named (known.numbers named)
       | inr (inr (inr (inr (inl named)))) ↦ let word = given (codes "number") rows in (Explain word.0, (named, word.1))
-      | inr (inr (inr (inr (inr (inl named))))) ↦ let from = given (codes "from") rows in let to = given (codes "to") rows in (Draw from.0 to.0, (named, from.1, to.1))
+      | inr (inr (inr (inr (inr (inl named))))) ↦ let from = given (codes "from") rows in let to = given (codes "to") rows in let by = given (codes "by") rows in (Draw from.0 to.0 by.0, (named, from.1, to.1, by.1))
       | inr (inr (inr (inr (inr (inr (inl named)))))) ↦ let most = given (codes "states") rows in let reached = given (codes "final") rows in (Explore _ _ most.0 _ reached.0 _, (named, refl, refl, most.1, refl, reached.1, refl))
       | inr (inr (inr (inr (inr (inr (inr (inl named))))))) ↦ let fence = given (codes "fence") rows in (Why fence.0 _ _, (named, fence.1, refl, refl))
       | inr (inr (inr (inr (inr (inr (inr (inr (inl named)))))))) ↦ (Test _, (named, refl))

@@ -63,9 +63,9 @@ run_app = with_rule (with_rule (new_app (codes "run")) (number_rule (codes "thre
 abbrev pub explain_app : App
 explain_app = with_rule (new_app (codes "explain")) (word_rule (codes "number"))
 
--- draws a part of a run
+-- draws a part of a run, by what a word names
 abbrev pub draw_app : App
-draw_app = with_rule (with_rule (new_app (codes "draw")) (text_rule (codes "from"))) (text_rule (codes "to"))
+draw_app = with_rule (with_rule (with_rule (new_app (codes "draw")) (text_rule (codes "from"))) (text_rule (codes "to"))) (text_rule (codes "by"))
 
 -- explores all orders of a script by these rules, as many states at most
 abbrev pub orders_app : App
@@ -125,7 +125,7 @@ Asks name rows ReplayAsJournal = (name ≡ codes "replay") × (is_set (codes "wo
 Asks name rows (Work submitters turns) =
     (name ≡ codes "run") × IsNumber (codes "threads") most_submitters rows submitters × IsNumber (codes "turns") most_turns rows turns
 Asks name rows (Explain word) = (name ≡ codes "explain") × Gives (codes "number") rows word
-Asks name rows (Draw from to) = (name ≡ codes "draw") × Gives (codes "from") rows from × Gives (codes "to") rows to
+Asks name rows (Draw from to by) = (name ≡ codes "draw") × Gives (codes "from") rows from × Gives (codes "to") rows to × Gives (codes "by") rows by
 Asks name rows (Explore backs_off reaps most stuck reached cover) =
     (name ≡ codes "explore") × (backs_off ≡ not (is_set (codes "mutex") rows)) × (reaps ≡ not (is_set (codes "no-reap") rows)) × Gives (codes "states") rows most
     × (stuck ≡ is_set (codes "stuck") rows) × Gives (codes "final") rows reached × (cover ≡ is_set (codes "cover") rows)

@@ -53,7 +53,8 @@ begins with 'refused 46 F'.";
 pub(crate) const DRAW_HELP: &str = "\
 Reads a script from standard input, and writes one SVG image that any browser shows: from left to right the commands, from \
 the top the rings, the entities, the buffers and the fences. A picture has at most 5000 commands: '--from' and '--to' draw a \
-part, the commands counted from 0, '--to' the first that is not drawn.
+part, the commands counted from 0, '--to' the first that is not drawn. With '--by moment' time goes from left to right where the \
+moments of the part rise, with an axis; else the title says that they fall.
 
 Example:
   drmsim draw < examples/first_fill.script > run.svg";

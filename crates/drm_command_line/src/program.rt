@@ -159,6 +159,12 @@ fn draw_command<'a>(alloc: Global) -> Result<Command<'a>, AllocError>
         "The first command to draw, counted from 0",
     );
     let to = text(alloc, "to", "M", "The first command behind those to draw");
+    let by = text(
+        alloc,
+        "by",
+        "WORD",
+        "What goes from left to right: 'command', as if not given, or 'moment'",
+    );
     command(
         alloc,
         "draw",
@@ -166,7 +172,8 @@ fn draw_command<'a>(alloc: Global) -> Result<Command<'a>, AllocError>
         DRAW_HELP,
     )
     .arg(from)?
-    .arg(to)
+    .arg(to)?
+    .arg(by)
 }
 
 /// Returns the command that explores all orders of a script, with the options that say how.

@@ -31,12 +31,14 @@ pub enum Request<'a> {
     },
     /// To explain the number that a word spells, or to list all numbers where there is no word.
     Explain(Option<&'a str>),
-    /// To draw the part of a run between the numbers that two words spell.
+    /// To draw the part of a run between the numbers that two words spell, by what a third one names.
     Draw {
         /// The first command that is drawn.
         from: Option<&'a str>,
         /// The first that is not.
         to: Option<&'a str>,
+        /// The word that says what goes from left to right.
+        by: Option<&'a str>,
     },
     /// To find what all orders of a script lead to.
     Explore {
@@ -130,6 +132,7 @@ fn request_of<'a>(name: &str, command: &ArgMatches<'a>) -> Request<'a>
         "draw" => Request::Draw {
             from: command.get_str("from"),
             to: command.get_str("to"),
+            by: command.get_str("by"),
         },
         "explore" => Request::Explore {
             backs_off: !is_on(command, "mutex"),

@@ -24,10 +24,11 @@ fn command_lines(rt: HostRuntime) -> Result<(), Fail> {
         (&["drmsim", "explain", "46"], Request::Explain(Some("46"))),
         (&["drmsim", "explain"], Request::Explain(None)),
         (
-            &["drmsim", "draw", "--to", "7"],
+            &["drmsim", "draw", "--by", "moment", "--to", "7"],
             Request::Draw {
                 from: None,
                 to: Some("7"),
+                by: Some("moment"),
             },
         ),
         (

@@ -6,6 +6,7 @@ use Rattle.drm_job.specs.declared.Draft.{Draft}
 use Rattle.drm_state.specs.declared.answer.Answer.{Answer}
 use Rattle.drm_core.specs.declared.event.Event.{Event}
 use Rattle.drm_core.specs.Jobs.{job_of, with_job}
+use Rattle.drm_picture.specs.declared.columns.Axis.{Axis}
 use Rattle.drm_picture.specs.declared.command.Request.{Request}
 use Rattle.drm_picture.specs.declared.command.Step.{Step}
 use Rattle.drm_picture.specs.declared.picture.Picture.{Picture}
@@ -49,15 +50,15 @@ AreSteps events answers steps = (map asked steps ≡ map asked_by events) × (ma
 abbrev pub limits_of : DeviceSpec → List ℕ
 limits_of spec = map (λ ring. ring.credit_limit) spec.rings
 
--- the text of the picture of the part of these steps from one place to before another, on rings of these limits
-abbrev pub IsDrawn : Shape → List ℕ → ℕ → ℕ → List Step → List ℕ → Type 0
-IsDrawn shape limits from to steps text =
-    (picture : Picture) × IsPicture shape from to steps picture × IsPage limits (part_of 0 from (part_of 0 to steps)) (part_of from to steps) picture text
+-- the text of the picture of the part of these steps from one place to before another, on rings of these limits, with this axis
+abbrev pub IsDrawn : Shape → List ℕ → Axis → ℕ → ℕ → List Step → List ℕ → Type 0
+IsDrawn shape limits axis from to steps text =
+    (picture : Picture) × IsPicture shape axis from to steps picture × IsPage limits (part_of 0 from (part_of 0 to steps)) (part_of from to steps) picture text
 
 -- the text of the picture of a part of what the script does
-abbrev pub IsDrawnOf : Script → ℕ → ℕ → List ℕ → Type 0
-IsDrawnOf script from to text =
-    (answers : List Answer) × (steps : List Step) × AreAnswers script answers × AreSteps script.lines answers steps × IsDrawn (shape_of script.spec) (limits_of script.spec) from to steps text
+abbrev pub IsDrawnOf : Script → Axis → ℕ → ℕ → List ℕ → Type 0
+IsDrawnOf script axis from to text =
+    (answers : List Answer) × (steps : List Step) × AreAnswers script answers × AreSteps script.lines answers steps × IsDrawn (shape_of script.spec) (limits_of script.spec) axis from to steps text
 
 -- how many commands of the script are in the part
 abbrev pub IsTooLong : Script → ℕ → ℕ → Type 0
@@ -65,19 +66,19 @@ IsTooLong script from to =
     (answers : List Answer) × (steps : List Step) × AreAnswers script answers × AreSteps script.lines answers steps × (5000 < length (part_of from to steps))
 
 -- what each ending says of a script that was read, and of what the writer holds before and after
-abbrev pub DrawsScript : Script → ℕ → ℕ → Option (List ℕ) → Option (List ℕ) → Ending → Type 0
-DrawsScript script from to old new ending.Done = (text : List ℕ) × IsDrawnOf script from to text × Appends old new text
-DrawsScript script from to old new ending.TooMany = IsTooLong script from to × Keeps old new
-DrawsScript script from to old new ending.NoMemory = Keeps old new
-DrawsScript script from to old new ending.NoOutput = (text : List ℕ) × IsDrawnOf script from to text × AppendsFront old new text
-DrawsScript script from to old new other = ⊥
+abbrev pub DrawsScript : Script → Axis → ℕ → ℕ → Option (List ℕ) → Option (List ℕ) → Ending → Type 0
+DrawsScript script axis from to old new ending.Done = (text : List ℕ) × IsDrawnOf script axis from to text × Appends old new text
+DrawsScript script axis from to old new ending.TooMany = IsTooLong script from to × Keeps old new
+DrawsScript script axis from to old new ending.NoMemory = Keeps old new
+DrawsScript script axis from to old new ending.NoOutput = (text : List ℕ) × IsDrawnOf script axis from to text × AppendsFront old new text
+DrawsScript script axis from to old new other = ⊥
 
 -- what each ending says of the input and of what the writer holds before and after: a drawing has no other
-abbrev pub Draws : ℕ → ℕ → Option (List ℕ) → Option (List ℕ) → Option (List ℕ) → Ending → Type 0
-Draws from to input old new ending.Done = SpellsScript input (λ script. DrawsScript script from to old new ending.Done)
-Draws from to input old new (ending.Fault fault) = Replays input old new (ending.Fault fault)
-Draws from to input old new ending.TooMany = SpellsScript input (λ script. DrawsScript script from to old new ending.TooMany)
-Draws from to input old new ending.NoMemory = Keeps old new
-Draws from to input old new ending.NoInput = Keeps old new
-Draws from to input old new ending.NoOutput = SpellsScript input (λ script. DrawsScript script from to old new ending.NoOutput)
-Draws from to input old new other = ⊥
+abbrev pub Draws : Axis → ℕ → ℕ → Option (List ℕ) → Option (List ℕ) → Option (List ℕ) → Ending → Type 0
+Draws axis from to input old new ending.Done = SpellsScript input (λ script. DrawsScript script axis from to old new ending.Done)
+Draws axis from to input old new (ending.Fault fault) = Replays input old new (ending.Fault fault)
+Draws axis from to input old new ending.TooMany = SpellsScript input (λ script. DrawsScript script axis from to old new ending.TooMany)
+Draws axis from to input old new ending.NoMemory = Keeps old new
+Draws axis from to input old new ending.NoInput = Keeps old new
+Draws axis from to input old new ending.NoOutput = SpellsScript input (λ script. DrawsScript script axis from to old new ending.NoOutput)
+Draws axis from to input old new other = ⊥

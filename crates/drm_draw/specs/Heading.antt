@@ -1,7 +1,10 @@
 -- The title of a picture.
-use Rattle.std.specs.Prelude.{ℕ, ◌+◌, ◌-◌, ◌==◌, List, ◌++◌, codes, decimal, if◌then◌else◌, length}
+use Rattle.std.specs.Prelude.{ℕ, ◌+◌, ◌-◌, ◌==◌, List, [], ◌++◌, codes, decimal, if◌then◌else◌, length}
+use Rattle.drm_picture.specs.declared.columns.Scale.{Scale}
+use Rattle.drm_picture.specs.declared.columns.Scale.TheVariants as scale
 use Rattle.drm_picture.specs.declared.picture.Picture.{Picture}
 use Rattle.drm_picture.specs.declared.picture.Shape.{Shape}
+use Rattle.drm_draw.specs.declared.heading.TheConstants.{FALL, FREE_COLUMN}
 
 -- what of how many commands is drawn: so many from the first on
 abbrev pub span_of : ℕ → ℕ → ℕ → List ℕ
@@ -21,6 +24,17 @@ device_of shape =
     ++ counted shape.entities (codes " entity, ") (codes " entities, ")
     ++ counted shape.buffers (codes " buffer") (codes " buffers")
 
--- the title: what of how many commands is drawn, and of which device
+-- moments fall at the command with this place in the part, of which the first has this number
+abbrev pub fall_text : ℕ → ℕ → List ℕ
+fall_text first place = FALL.now ++ decimal (first + place)
+
+-- what columns stand for other than commands, of which the first has this number
+abbrev pub scale_text : ℕ → Scale → List ℕ
+scale_text first scale.Command = []
+scale_text first (scale.Moment unit) = FREE_COLUMN.now ++ counted unit (codes " moment") (codes " moments")
+scale_text first (scale.Falling place) = fall_text first place
+
+-- the title: what of how many commands is drawn, of which device, and what columns stand for
 unfoldable pub heading_of : Picture → List ℕ
-heading_of picture = span_of picture.first (length picture.columns.items) picture.total ++ codes "; " ++ device_of picture.shape
+heading_of picture =
+    span_of picture.first (length picture.columns.items) picture.total ++ codes "; " ++ device_of picture.shape ++ scale_text picture.first picture.scale

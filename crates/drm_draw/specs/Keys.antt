@@ -5,7 +5,7 @@ use Rattle.drm_picture.specs.declared.bars.Look.{Look}
 use Rattle.drm_picture.specs.declared.bars.Look.TheVariants as look
 use Rattle.drm_svg.specs.Bars.{class_of_entity}
 use Rattle.drm_svg.specs.Signs.{shape_of, sign_of_look, word_of_look, word_of_sign}
-use Rattle.drm_draw.specs.declared.keys.TheConstants.{EDGE, HALT, HALT_RECT, KEY, KEYS, KEY_END, KEY_TEXT, LINE, LOCK, RECT, SIGN, SIGN_END, SKIPPED, SWATCH, WAIT, WAITING}
+use Rattle.drm_draw.specs.declared.keys.TheConstants.{EDGE, END, HALT, HALT_RECT, KEY, KEYS, KEY_END, KEY_TEXT, LINE, LOCK, RECT, SIGN, SIGN_END, SKIPPED, SWATCH, WAIT, WAITING}
 use Rattle.drm_draw.specs.declared.legend.Key.{Key}
 use Rattle.drm_draw.specs.declared.legend.Key.TheVariants as key
 
@@ -33,6 +33,7 @@ word_of_key key.Lock = codes "held by a context"
 word_of_key key.Waiting = codes "waits for the buffer"
 word_of_key key.Wait = codes "waits for an earlier job"
 word_of_key key.Credits = codes "credits in use"
+word_of_key key.End = codes "left at the end"
 word_of_key (key.Sign sign) = word_of_sign sign
 
 -- how an edge with its sign is drawn
@@ -52,6 +53,7 @@ sample_of key.Lock = LOCK.now
 sample_of key.Waiting = WAITING.now
 sample_of key.Wait = WAIT.now
 sample_of key.Credits = LINE.now
+sample_of key.End = END.now
 sample_of (key.Sign sign) = shape_of sign
 
 -- the place of a key

@@ -1,14 +1,14 @@
 -- The legend of a picture: a key for each thing that occurs in it, and for nothing else.
-use Rattle.std.specs.Prelude.{ℕ, zero, suc, Bool, true, false, ◌+◌, ◌==◌, ◌||◌, List, [], ◌∷◌, ◌++◌, filter, length, nat_lt}
+use Rattle.std.specs.Prelude.{ℕ, zero, suc, Bool, true, false, ◌==◌, ◌||◌, List, [], ◌∷◌, ◌++◌, filter, length, nat_lt}
 use Rattle.std.specs.List.{list_any}
 use Rattle.std.specs.Option.{option_map_or}
 use Rattle.drm_picture.specs.declared.bars.Bar.{Bar}
 use Rattle.drm_picture.specs.declared.bars.Look.{Look}
 use Rattle.drm_picture.specs.declared.bars.Look.TheVariants as look
-use Rattle.drm_picture.specs.declared.marks.Mark.{Mark}
 use Rattle.drm_picture.specs.declared.marks.Sign.{Sign}
 use Rattle.drm_picture.specs.declared.marks.Sign.TheVariants as sign
 use Rattle.drm_picture.specs.declared.picture.Picture.{Picture}
+use Rattle.drm_svg.specs.Ends.{is_marked}
 use Rattle.drm_svg.specs.Owners.{job_of}
 use Rattle.drm_draw.specs.declared.legend.Key.{Key}
 use Rattle.drm_draw.specs.declared.legend.Key.TheVariants as key
@@ -18,10 +18,10 @@ abbrev pub entity_keys : ℕ → List Key
 entity_keys zero = []
 entity_keys (suc n) = entity_keys n ++ key.Entity n ∷ []
 
--- the keys of outcomes and of entities that were stopped
+-- the keys of outcomes, of entities that were stopped, and of lines
 abbrev pub look_keys : List Key
 look_keys = key.Outcome look.Good ∷ key.Outcome look.Cancelled ∷ key.Outcome look.Stopped ∷ key.Outcome look.Open ∷ key.Skipped
-    ∷ key.Halt look.Guilty ∷ key.Halt look.Stopped ∷ key.Lock ∷ key.Waiting ∷ key.Wait ∷ key.Credits ∷ []
+    ∷ key.Halt look.Guilty ∷ key.Halt look.Stopped ∷ key.Lock ∷ key.Waiting ∷ key.Wait ∷ key.Credits ∷ key.End ∷ []
 
 -- the keys of marks
 abbrev pub sign_keys : List Key
@@ -90,6 +90,7 @@ occurs picture key.Lock = is_any picture.locks.items
 occurs picture key.Waiting = is_any picture.waiting.items
 occurs picture key.Wait = is_any picture.waits.items
 occurs picture key.Credits = is_any picture.jobs.items
+occurs picture key.End = is_marked picture
 occurs picture (key.Sign sign) = list_any (λ mark. same_sign mark.sign sign) picture.marks.items
 
 -- the legend: of all keys those of what occurs

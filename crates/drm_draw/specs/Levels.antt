@@ -1,5 +1,5 @@
 -- The credits of a ring that are in use, command by command.
-use Rattle.std.specs.Prelude.{ℕ, Bool, false, ◌+◌, ◌-◌, ◌==◌, List, Option, fold, if◌then◌else◌, min, slice_get}
+use Rattle.std.specs.Prelude.{ℕ, Bool, false, ◌+◌, ◌-◌, ◌==◌, List, fold, if◌then◌else◌, min, slice_get}
 use Rattle.std.specs.Option.{option_map_or}
 use Rattle.drm_state.specs.declared.answer.Answer.{Answer}
 use Rattle.drm_state.specs.declared.answer.Answer.TheVariants as answer

@@ -19,9 +19,9 @@ use Rattle.drm_draw.specs.declared.page.TheConstants.{HEAD, HEADING, PAGE_END, P
 abbrev pub columns_of_text : List ℕ → ℕ
 columns_of_text text = (4 * length text + 11) / 10
 
--- how many columns a picture has: four for names, one for each command and one behind them, and as many as its title needs
+-- how many columns a page has: four for names, those of the picture and one behind them, and as many as its title needs
 abbrev pub columns_of : Picture → ℕ
-columns_of picture = max (length picture.columns.items + 5) (columns_of_text (heading_of picture))
+columns_of picture = max (picture.width + 5) (columns_of_text (heading_of picture))
 
 abbrev pub greater_of : Option ℕ → Option ℕ → Option ℕ
 greater_of (Some a) (Some b) = Some (max a b)
@@ -107,7 +107,7 @@ frame_of picture layout = record {
 
 -- what is in a picture, and the credits of its rings
 unfoldable pub content_text : List ℕ → List Step → List Step → Picture → Layout → List ℕ
-content_text limits before part picture layout = inside_text picture layout ++ credits_text limits picture.armed.items before part layout
+content_text limits before part picture layout = inside_text picture layout ++ credits_text limits before part picture layout
 
 -- the text of a page with this frame above its legend, on rings of these limits, of these steps behind others
 unfoldable pub upper_text : Frame → List ℕ → List Step → List Step → Picture → Layout → List ℕ

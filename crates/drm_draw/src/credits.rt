@@ -4,8 +4,8 @@ ghost use Rattle.std.specs.Prelude.{◌≡◌, ◌<◌, ◌^◌, ◌++◌, OnOk}
 ghost use Rattle.drm_draw.specs.Credits.{all_turns, credits_text, credits_title, lane_credits, limit_of, limit_text, line_text, path_end, path_text, ring_text, turn_text, turn_to, y_of};
 
 use crate::levels::{last_level, next_level};
-use drm_picture::{Lane, Request, Step};
-use drm_svg::{LaneRows, Layout, has_credits, put_number, put_text, put_wide};
+use drm_picture::{Lane, Picture, Step};
+use drm_svg::{LaneRows, Layout, column_at, has_credits, put_number, put_text, put_wide};
 use drm_types::RingId;
 use std::alloc::AllocError;
 
@@ -72,18 +72,18 @@ fn put_turns(
     out: &mut Vec<u8>,
     ring: RingId,
     limit: u16,
-    armed: &[Request],
+    picture: &Picture,
     row: usize,
     level: u128,
     part: &[Step],
 ) -> Result<(), AllocError>
     requires { level < 2 ^ 99 }
-    ensures { OnOk result (out.new.items ≡ out.old.items ++ all_turns ring limit armed.now row level part.now) }
+    ensures { OnOk result (out.new.items ≡ out.old.items ++ all_turns ring limit picture.now row level part.now) }
 {
     let mut before = level;
-    for (column, step) in part.iter().enumerate() {
-        let next = next_level(ring, limit, armed, before, step);
-        put_turn_to(out, row, limit, column, before, next)?;
+    for (place, step) in part.iter().enumerate() {
+        let next = next_level(ring, limit, &picture.armed, before, step);
+        put_turn_to(out, row, limit, column_at(picture, place), before, next)?;
         before = next;
     }
     Ok(())
@@ -115,11 +115,11 @@ fn put_limit(out: &mut Vec<u8>, row: usize, limit: u16) -> Result<(), AllocError
 
 // Puts the line on to the end of the last column.
 #[tactic(auto, unfolding(crate::specs::Credits::path_end))]
-fn put_path_end(out: &mut Vec<u8>, part: &[Step]) -> Result<(), AllocError>
-    ensures { OnOk result (out.new.items ≡ out.old.items ++ path_end part.now) }
+fn put_path_end(out: &mut Vec<u8>, picture: &Picture) -> Result<(), AllocError>
+    ensures { OnOk result (out.new.items ≡ out.old.items ++ path_end picture.now) }
 {
     put_text(out, "H")?;
-    put_number(out, part.len() as u64)?;
+    put_number(out, picture.width as u64)?;
     put_text(out, CREDITS_END)
 }
 
@@ -129,18 +129,18 @@ fn put_path(
     out: &mut Vec<u8>,
     ring: RingId,
     limit: u16,
-    armed: &[Request],
+    picture: &Picture,
     row: usize,
     level: u128,
     part: &[Step],
 ) -> Result<(), AllocError>
     requires { level < 2 ^ 99 }
-    ensures { OnOk result (out.new.items ≡ out.old.items ++ path_text ring limit armed.now row level part.now) }
+    ensures { OnOk result (out.new.items ≡ out.old.items ++ path_text ring limit picture.now row level part.now) }
 {
     put_text(out, CREDITS_LINE)?;
     put_wide(out, height(row, limit, level))?;
-    put_turns(out, ring, limit, armed, row, level, part)?;
-    put_path_end(out, part)
+    put_turns(out, ring, limit, picture, row, level, part)?;
+    put_path_end(out, picture)
 }
 
 // Puts the line of a ring, what it tells and its limit.
@@ -149,17 +149,17 @@ fn put_ring(
     out: &mut Vec<u8>,
     ring: RingId,
     limit: u16,
-    armed: &[Request],
+    picture: &Picture,
     row: usize,
     level: u128,
     part: &[Step],
 ) -> Result<(), AllocError>
     requires { level < 2 ^ 99 }
-    ensures { OnOk result (out.new.items ≡ out.old.items ++ ring_text ring limit armed.now row level part.now) }
+    ensures { OnOk result (out.new.items ≡ out.old.items ++ ring_text ring limit picture.now row level part.now) }
 {
     put_title(out, ring, limit)?;
     put_limit(out, row, limit)?;
-    put_path(out, ring, limit, armed, row, level, part)
+    put_path(out, ring, limit, picture, row, level, part)
 }
 
 // The limit of a ring, of those of all rings.
@@ -176,19 +176,19 @@ fn limit(limits: &[u16], ring: RingId) -> u16
 fn put_lane(
     out: &mut Vec<u8>,
     limits: &[u16],
-    armed: &[Request],
     before: &[Step],
     part: &[Step],
+    picture: &Picture,
     lane: Lane,
     row: usize,
 ) -> Result<(), AllocError>
-    ensures { OnOk result (out.new.items ≡ out.old.items ++ lane_credits limits.now armed.now before.now part.now lane row) }
+    ensures { OnOk result (out.new.items ≡ out.old.items ++ lane_credits limits.now before.now part.now picture.now lane row) }
 {
     match lane {
         Lane::Ring(ring) => {
             let limit = limit(limits, ring);
-            let level = last_level(ring, limit, armed, before);
-            put_ring(out, ring, limit, armed, row, level, part)
+            let level = last_level(ring, limit, &picture.armed, before);
+            put_ring(out, ring, limit, picture, row, level, part)
         }
         _ => Ok(()),
     }
@@ -198,15 +198,15 @@ fn put_lane(
 fn put_line(
     out: &mut Vec<u8>,
     limits: &[u16],
-    armed: &[Request],
     before: &[Step],
     part: &[Step],
+    picture: &Picture,
     rows: &LaneRows,
 ) -> Result<(), AllocError>
-    ensures { OnOk result (out.new.items ≡ out.old.items ++ line_text limits.now armed.now before.now part.now rows.now) }
+    ensures { OnOk result (out.new.items ≡ out.old.items ++ line_text limits.now before.now part.now picture.now rows.now) }
 {
     if has_credits(rows.lane, &rows.bars) {
-        return put_lane(out, limits, armed, before, part, rows.lane, rows.bottom);
+        return put_lane(out, limits, before, part, picture, rows.lane, rows.bottom);
     }
     Ok(())
 }
@@ -215,15 +215,15 @@ fn put_line(
 pub(crate) fn put_credits(
     out: &mut Vec<u8>,
     limits: &[u16],
-    armed: &[Request],
     before: &[Step],
     part: &[Step],
+    picture: &Picture,
     layout: &Layout,
 ) -> Result<(), AllocError>
-    ensures { OnOk result (out.new.items ≡ out.old.items ++ credits_text limits.now armed.now before.now part.now layout.now) }
+    ensures { OnOk result (out.new.items ≡ out.old.items ++ credits_text limits.now before.now part.now picture.now layout.now) }
 {
     for rows in &layout.lanes {
-        put_line(out, limits, armed, before, part, rows)?;
+        put_line(out, limits, before, part, picture, rows)?;
     }
     Ok(())
 }

@@ -58,6 +58,9 @@ const WAIT: &str = "<g class='wait'><path d='M5 1V7'/><circle cx='5' cy='7' r='1
 /// The line of the credits in use.
 const LINE: &str = "<g class='credits'><path d='M0 8H3V3H7V6H10'/></g>";
 
+/// The line where a script ends that leaves jobs without an outcome, or buffers that contexts hold.
+const END: &str = "<path style='stroke:#d55e00' d='M5 1v8'/>";
+
 // What an edge and a sign say.
 fn outcome_word(look: Look) -> &'static str
     ensures { result.now ≡ word_of_outcome look }
@@ -98,6 +101,7 @@ fn put_word(out: &mut Vec<u8>, key: Key) -> Result<(), AllocError>
         Key::Waiting => put_text(out, "waits for the buffer"),
         Key::Wait => put_text(out, "waits for an earlier job"),
         Key::Credits => put_text(out, "credits in use"),
+        Key::End => put_text(out, "left at the end"),
         Key::Sign(sign) => put_text(out, sign_word(sign)),
     }
 }
@@ -145,6 +149,7 @@ fn put_sample(out: &mut Vec<u8>, key: Key) -> Result<(), AllocError>
         Key::Waiting => put_text(out, WAITING),
         Key::Wait => put_text(out, WAIT),
         Key::Credits => put_text(out, LINE),
+        Key::End => put_text(out, END),
         Key::Sign(sign) => put_text(out, sign_shape(sign)),
     }
 }

@@ -5,7 +5,7 @@ ghost use Rattle.std.specs.Prelude.{◌≡◌, IfOk, filter};
 ghost use Rattle.drm_draw.specs.Legend.{all_keys, any_looks, any_of, entity_keys, has_entity, has_look, is_of, legend_of, occurs as occurs_in, same_look, same_sign};
 
 use drm_picture::{Bar, Look, Mark, Picture, Sign};
-use drm_svg::job;
+use drm_svg::{is_marked, job};
 use drm_types::EntityId;
 use std::alloc::{AllocError, Global};
 
@@ -28,12 +28,14 @@ pub(crate) enum Key {
     Wait,
     /// The line of the credits in use.
     Credits,
+    /// The line where a script ends that leaves jobs without an outcome, or buffers that contexts hold.
+    End,
     /// A mark.
     Sign(Sign),
 }
 
 /// The keys that a picture may have beside those of entities, in their order: outcomes and bars first, and then marks.
-const OTHER_KEYS: [Key; 20] = [
+const OTHER_KEYS: [Key; 21] = [
     Key::Outcome(Look::Good),
     Key::Outcome(Look::Cancelled),
     Key::Outcome(Look::Stopped),
@@ -45,6 +47,7 @@ const OTHER_KEYS: [Key; 20] = [
     Key::Waiting,
     Key::Wait,
     Key::Credits,
+    Key::End,
     Key::Sign(Sign::Ran),
     Key::Sign(Sign::Stalled),
     Key::Sign(Sign::Hang),
@@ -161,6 +164,7 @@ fn occurs(picture: &Picture, key: Key) -> bool
         Key::Waiting => 0 < picture.waiting.len(),
         Key::Wait => 0 < picture.waits.len(),
         Key::Credits => 0 < picture.jobs.len(),
+        Key::End => is_marked(picture),
         Key::Sign(sign) => is_any_sign(sign, &picture.marks),
     }
 }

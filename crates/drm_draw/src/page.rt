@@ -75,13 +75,13 @@ fn text_columns(text: &[u8]) -> u128
     (4 * text.len() as u128 + 11) / 10
 }
 
-// How many columns a picture with this title has.
+// How many columns the page of a picture with this title has.
 fn columns(picture: &Picture, heading: &[u8]) -> u128
     requires { heading.now ≡ heading_of picture.now }
     ensures value { result ≡ columns_of picture.now }
     ensures small { result < 2 ^ 66 }
 {
-    (picture.columns.len() as u128 + 5).max(text_columns(heading))
+    (picture.width as u128 + 5).max(text_columns(heading))
 }
 
 // The greater of two moments, or the one that there is.
@@ -289,7 +289,7 @@ fn put_content(
     ensures { OnOk result (out.new.items ≡ out.old.items ++ content_text limits.now before.now part.now picture.now layout.now) }
 {
     put_inside(alloc, out, picture, layout)?;
-    put_credits(out, limits, &picture.armed, before, part, layout)
+    put_credits(out, limits, before, part, picture, layout)
 }
 
 // Puts the page of a picture above its legend.

@@ -1,3 +1,4 @@
+pub mod Moments
 pub mod Fences
 pub mod Lasts
 pub mod Latest

@@ -9,7 +9,7 @@ use Rattle.std.proofs.lemmas.Option.{slice_get-get_or, slice_get_past}
 use Rattle.std.proofs.lemmas.List.Folds.{find_at}
 use Rattle.std.proofs.Math.Seq.{take-suc}
 use Rattle.std.proofs.lemmas.Grind.{flat_map-append}
-use Rattle.std.proofs.lemmas.List.{length-take-le, map-append, reverse-append}
+use Rattle.std.proofs.lemmas.List.{get_or_default, length-take-le, map-append, reverse-append}
 use Rattle.std.proofs.lemmas.List.Elements.{filter_map-append}
 
 pub enumerate_from-snoc : {X : Type 0} (n : ℕ) (xs : List X) (x : X) → enumerate_from n (xs ++ x ∷ []) ≡ enumerate_from n xs ++ (n + length xs, x) ∷ []
@@ -34,6 +34,16 @@ placed_more xs place x within found =
     ap (enumerate_from 0) (take-more xs place x within found)
     ∙ enumerate_from-snoc 0 (take place xs) x
     ∙ ap (λ (n : ℕ). enumerate_from 0 (take place xs) ++ (n, x) ∷ []) few
+
+-- the next element, of which something is made
+pub made_next : {X Y : Type 0} (h : ℕ × X → Y) (xs : List X) (place : ℕ) (d : X) (ys : List Y) → place < length xs
+    → ys ≡ map h (enumerate_from 0 (take place xs)) → ys ++ h (place, get_or xs place d) ∷ [] ≡ map h (enumerate_from 0 (take (place + 1) xs))
+made_next h xs place d ys within so =
+    let x = get_or xs place d in
+    let found : x ≡ get_or xs place x = get_or_default xs place d x within in
+    ap (λ l. l ++ h (place, x) ∷ []) so
+    ∙ sym (map-append h (enumerate_from 0 (take place xs)) ((place, x) ∷ []))
+    ∙ ap (map h) (sym (placed_more xs place x within found))
 
 -- one element more, of which something is kept or nothing
 pub kept_more : {X Y : Type 0} (h : ℕ × X → Option Y) (xs : List X) (place : ℕ) (x : X) (ys : List Y) → place < length xs → x ≡ get_or xs place x

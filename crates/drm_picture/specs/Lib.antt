@@ -1,5 +1,6 @@
 pub mod Commands
 pub mod Bars
+pub mod Columns
 pub mod Armed
 pub mod Ends
 pub mod Packets

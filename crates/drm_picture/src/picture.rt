@@ -1,10 +1,11 @@
 //! A picture, and how it comes of a run.
 
-ghost use Rattle.std.specs.Prelude.{◌≡◌, IfOk, take};
+ghost use Rattle.std.specs.Prelude.{◌≡◌, ◌≤◌, ◌*◌, IfOk, length, take};
 ghost use Rattle.drm_picture.specs.Pictures.{IsPicture, part_of};
 
 use crate::armed::requests;
 use crate::bars::{Bar, Kind, bars};
+use crate::columns::{Axis, Scale, columns, scale_for, width};
 use crate::command::{Request, Step, commands, run_before};
 use crate::marks::{Mark, marks};
 use crate::reach::reaches;
@@ -33,6 +34,12 @@ pub struct Picture {
     pub total: usize,
     /// A column for each command of the part.
     pub columns: Vec<Event<EntityId>>,
+    /// What the columns stand for.
+    pub scale: Scale,
+    /// How many columns are left of that of each command.
+    pub lefts: Vec<usize>,
+    /// How many columns there are, those between commands too.
+    pub width: usize,
     /// The jobs that the run arms up to the end of the part, in the order of their fences.
     pub armed: Vec<Request>,
     /// The jobs on their rings.
@@ -61,17 +68,24 @@ pub fn part(steps: &[Step], from: usize, to: usize) -> &[Step]
     &run[from.min(run.len())..]
 }
 
-/// Returns the picture of a run of a device of this shape, from one place to before another.
+/// Returns the picture of a run of a device of this shape, from one place to before another. Where its moments are
+/// asked for and they fall, it is that of its commands, and its scale says so.
 pub fn picture_of(
     alloc: Global,
     shape: Shape,
+    axis: Axis,
     steps: &[Step],
     from: usize,
     to: usize,
 ) -> Result<Picture, AllocError>
-    ensures { IfOk result (λ picture. IsPicture shape from to steps.now picture) }
+    ensures drawn { IfOk result (λ picture. IsPicture shape axis from to steps.now picture) }
+    ensures few { IfOk result (λ picture. picture.width ≤ 2 * length picture.columns.items) }
 {
     let run = run_before(steps, to);
+    let commands = commands(alloc, part(steps, from, to))?;
+    let scale = scale_for(axis, &commands);
+    let lefts = columns(alloc, axis, scale, &commands)?;
+    let width = width(axis, scale, &commands);
     let fences = bars(alloc, Kind::Fence, from, run)?;
     let reaches = reaches(alloc, run, &fences)?;
     let waiting = waiting(alloc, from, run, &fences, &reaches)?;
@@ -80,7 +94,10 @@ pub fn picture_of(
         shape,
         first: from,
         total: steps.len(),
-        columns: commands(alloc, part(steps, from, to))?,
+        columns: commands,
+        scale,
+        lefts,
+        width,
         armed: requests(alloc, run)?,
         jobs: bars(alloc, Kind::Job, from, run)?,
         queued: bars(alloc, Kind::Queued, from, run)?,

@@ -1,19 +1,9 @@
 -- Lists with their places, one element more.
-use Rattle.std.proofs.Common.{◌≡◌, ◌∙◌, ℕ, List, [], ◌∷◌, ◌++◌, ◌+◌, ◌<◌, ◌≤◌, ap, append-nil, append_assoc, refl, sym, subst, arith, below_more, flat_map, length, map, take, get_or}
+use Rattle.std.proofs.Common.{◌≡◌, ◌∙◌, ℕ, List, [], ◌∷◌, ◌++◌, ◌+◌, ◌<◌, ◌≤◌, ap, append-nil, append_assoc, refl, sym, subst, arith, below_more, flat_map, length, take, get_or}
 use Rattle.std.specs.List.{enumerate_from}
 use Rattle.std.proofs.lemmas.Grind.{flat_map-append}
-use Rattle.std.proofs.lemmas.List.{get_or_append_left, get_or_at, get_or_default, length-append, map-append, take-append-le, take_at}
+use Rattle.std.proofs.lemmas.List.{get_or_append_left, get_or_at, get_or_default, length-append, take-append-le, take_at}
 use Rattle.drm_picture.proofs.Places.{placed_more}
-
--- the next element, of which something is made
-pub made_next : {X Y : Type 0} (h : ℕ × X → Y) (xs : List X) (place : ℕ) (d : X) (ys : List Y) → place < length xs
-    → ys ≡ map h (enumerate_from 0 (take place xs)) → ys ++ h (place, get_or xs place d) ∷ [] ≡ map h (enumerate_from 0 (take (place + 1) xs))
-made_next h xs place d ys within so =
-    let x = get_or xs place d in
-    let found : x ≡ get_or xs place x = get_or_default xs place d x within in
-    ap (λ l. l ++ h (place, x) ∷ []) so
-    ∙ sym (map-append h (enumerate_from 0 (take place xs)) ((place, x) ∷ []))
-    ∙ ap (map h) (sym (placed_more xs place x within found))
 
 -- one element more, of which a text is told
 pub told_more : {X : Type 0} (h : ℕ × X → List ℕ) (xs : List X) (place : ℕ) (d : X) → place < length xs

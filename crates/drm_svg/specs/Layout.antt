@@ -1,5 +1,5 @@
 -- Where everything of a picture is drawn: rows of ten pixels, and columns of ten.
-use Rattle.std.specs.Prelude.{◌≡◌, ℕ, zero, suc, Bool, false, ◌+◌, ◌-◌, ◌<◌, ◌≤◌, ◌==◌, List, [], ◌∷◌, ◌++◌, All, AllPairs, Any, filter, find, if◌then◌else◌, length, map, min, nat_lt, slice_index_or, take}
+use Rattle.std.specs.Prelude.{◌≡◌, ℕ, zero, suc, Bool, false, ◌+◌, ◌-◌, ◌<◌, ◌≤◌, ◌==◌, List, [], ◌∷◌, ◌++◌, All, AllPairs, Any, filter, find, if◌then◌else◌, length, map, nat_lt, slice_index_or, take}
 use Rattle.std.specs.List.{enumerate_from}
 use Rattle.std.specs.Option.{option_map_or}
 use Rattle.drm_picture.specs.declared.bars.Bar.{Bar}
@@ -18,13 +18,21 @@ same_lane (lane.Buffer a) (lane.Buffer b) = a == b
 same_lane (lane.Fence a) (lane.Fence b) = a == b
 same_lane _ _ = false
 
--- the column where a bar begins: that of its command, or the first that is drawn
-abbrev pub left_of : Picture → Bar → ℕ
-left_of picture bar = bar.from - picture.first
+-- the column of a command of the part, by its place there: of what is behind the part, the one behind the last
+abbrev pub column_at : Picture → ℕ → ℕ
+column_at picture place = slice_index_or picture.lefts.items place picture.width
 
--- how many columns it lasts, of those that are drawn
+-- the column of a command of the run: of what is before the part, the first
+abbrev pub column_of : Picture → ℕ → ℕ
+column_of picture place = column_at picture (place - picture.first)
+
+-- the column where a bar begins: that of the command that begins it
+abbrev pub left_of : Picture → Bar → ℕ
+left_of picture bar = column_of picture bar.from
+
+-- how many columns it lasts: to that of the command that ends it
 abbrev pub width_of : Picture → Bar → ℕ
-width_of picture bar = min (bar.span - (picture.first - bar.from)) (length picture.columns.items - left_of picture bar)
+width_of picture bar = column_of picture (bar.from + bar.span) - left_of picture bar
 
 -- a bar in a row, cut where the drawn part begins and ends
 abbrev pub placed_at : Picture → ℕ → Bar → Placed

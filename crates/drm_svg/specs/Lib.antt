@@ -7,4 +7,6 @@ pub mod Owners
 pub mod Titles
 pub mod Bars
 pub mod Head
+pub mod Axis
+pub mod Ends
 pub mod Svg

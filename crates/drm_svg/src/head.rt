@@ -5,6 +5,7 @@ ghost use Rattle.drm_svg.specs.Head.{above_text, column_text, columns_text, fenc
 
 use crate::bars::put_bars;
 use crate::layout::{LaneRows, Layout};
+use crate::placing::column_at;
 use crate::text::{put_later, put_name, put_number, put_text};
 use drm_core::Event;
 use drm_picture::{Lane, Picture, moment, word};
@@ -92,11 +93,17 @@ pub(crate) fn put_fences(
 
 // Puts where a word above a column begins, and the number of the column's command.
 #[tactic(auto, unfolding(crate::specs::Head::above_text))]
-fn put_above(out: &mut Vec<u8>, first: usize, place: usize, above: &str) -> Result<(), AllocError>
-    ensures { OnOk result (out.new.items ≡ out.old.items ++ above_text first place above.now) }
+fn put_above(
+    out: &mut Vec<u8>,
+    first: usize,
+    place: usize,
+    column: usize,
+    above: &str,
+) -> Result<(), AllocError>
+    ensures { OnOk result (out.new.items ≡ out.old.items ++ above_text first place column above.now) }
 {
     put_text(out, ABOVE)?;
-    put_number(out, place as u64)?;
+    put_number(out, column as u64)?;
     put_text(out, "7 ")?;
     put_text(out, above)?;
     put_text(out, TURNED)?;
@@ -105,7 +112,7 @@ fn put_above(out: &mut Vec<u8>, first: usize, place: usize, above: &str) -> Resu
 }
 
 // A moment, if it differs from the one that was told last.
-fn differing(told: Option<Moment>, moment: Option<Moment>) -> Option<Moment>
+pub(crate) fn differing(told: Option<Moment>, moment: Option<Moment>) -> Option<Moment>
     ensures { result ≡ new_moment told moment }
 {
     match (told, moment) {
@@ -119,13 +126,14 @@ fn put_moment(
     out: &mut Vec<u8>,
     first: usize,
     place: usize,
+    column: usize,
     moment: Option<Moment>,
 ) -> Result<(), AllocError>
-    ensures { OnOk result (out.new.items ≡ out.old.items ++ moment_above first place moment) }
+    ensures { OnOk result (out.new.items ≡ out.old.items ++ moment_above first place column moment) }
 {
     match moment {
         Some(now) => {
-            put_above(out, first, place, "-32")?;
+            put_above(out, first, place, column, "-32")?;
             put_number(out, now)?;
             put_text(out, TEXT_END)
         }
@@ -139,28 +147,27 @@ fn put_column(
     out: &mut Vec<u8>,
     first: usize,
     place: usize,
+    column: usize,
     told: Option<Moment>,
     command: &Event<EntityId>,
 ) -> Result<(), AllocError>
-    ensures { OnOk result (out.new.items ≡ out.old.items ++ column_text first place told command.now) }
+    ensures { OnOk result (out.new.items ≡ out.old.items ++ column_text first place column told command.now) }
 {
-    put_above(out, first, place, "-3")?;
+    put_above(out, first, place, column, "-3")?;
     put_text(out, word(command))?;
     put_text(out, TEXT_END)?;
-    put_moment(out, first, place, differing(told, moment(command)))
+    put_moment(out, first, place, column, differing(told, moment(command)))
 }
 
-/// Puts the columns of these commands, of which the first has this number.
-pub(crate) fn put_columns(
-    out: &mut Vec<u8>,
-    first: usize,
-    columns: &[Event<EntityId>],
-) -> Result<(), AllocError>
-    ensures { OnOk result (out.new.items ≡ out.old.items ++ columns_text first columns.now) }
+/// Puts the columns of a picture.
+pub(crate) fn put_columns(out: &mut Vec<u8>, picture: &Picture) -> Result<(), AllocError>
+    ensures { OnOk result (out.new.items ≡ out.old.items ++ columns_text picture.now) }
 {
+    let first = picture.first;
     let mut told = None;
-    for (place, command) in columns.iter().enumerate() {
-        put_column(out, first, place, told, command)?;
+    for (place, command) in picture.columns.iter().enumerate() {
+        let column = column_at(picture, place);
+        put_column(out, first, place, column, told, command)?;
         told = moment(command).or(told);
     }
     Ok(())

@@ -7,7 +7,9 @@
 //! work of the crate above.
 #![tactic(auto)]
 
+mod axis;
 mod bars;
+mod ends;
 mod fences;
 mod head;
 mod layout;
@@ -19,10 +21,11 @@ mod text;
 mod titles;
 
 pub use bars::put_entity_class;
+pub use ends::is_marked;
 pub use fences::Fences;
 pub use layout::{LaneRows, Layout, has_credits, lay_out};
 pub use owners::job;
-pub use placing::Placed;
+pub use placing::{Placed, column_at};
 pub use signs::{look_sign, look_word, sign_shape, sign_word};
 pub use svg::put_inside;
 pub use text::{put_number, put_text, put_wide};

@@ -1,7 +1,7 @@
 //! The rows of one lane: each bar in the first that is free where it begins.
 
 ghost use Rattle.std.specs.Prelude.{◌≡◌, ℕ, ◌+◌, ◌-◌, ◌++◌, ◌<◌, ◌≤◌, ◌^◌, OnOk, IfOk, length, min, slice_index};
-ghost use Rattle.drm_svg.specs.Layout.{bars_of_kind, left_of, placed_at, same_lane, width_of};
+ghost use Rattle.drm_svg.specs.Layout.{bars_of_kind, column_at as column_at_place, column_of, left_of, placed_at, same_lane, width_of};
 ghost use Rattle.drm_svg.specs.Placing.{ArePlaced, AreTaken, PlacesBar, PlacesIn, TakesRow};
 
 use drm_picture::{Bar, Lane, Picture};
@@ -53,11 +53,38 @@ fn bars_for(picture: &Picture, lane: Lane) -> (&[Bar], &[Bar])
     }
 }
 
+/// Returns the column of a command of the part, by its place there. What is behind the part is behind the last column.
+pub fn column_at(picture: &Picture, place: usize) -> usize
+    ensures { result ≡ column_at_place picture.now place }
+{
+    match picture.lefts.as_slice().get(place) {
+        Some(column) => *column,
+        None => picture.width,
+    }
+}
+
+/// The column of a command of the run.
+pub(crate) fn column(picture: &Picture, place: usize) -> usize
+    ensures { result ≡ column_of picture.now place }
+{
+    column_at(picture, place.saturating_sub(picture.first))
+}
+
 // The column where a bar begins.
 fn left(picture: &Picture, bar: &Bar) -> usize
     ensures { result ≡ left_of picture.now bar.now }
 {
-    bar.from.saturating_sub(picture.first)
+    column(picture, bar.from)
+}
+
+// The column where a bar ends. What ends behind all places that there are, ends behind the last column.
+fn right(picture: &Picture, bar: &Bar) -> usize
+    ensures { result ≡ column_of picture.now (bar.now.from + bar.now.span) }
+{
+    let before = picture.first.saturating_sub(bar.from);
+    let from = bar.from.saturating_sub(picture.first);
+    let place = from.saturating_add(bar.span.saturating_sub(before));
+    column_at(picture, place.min(picture.lefts.len()))
 }
 
 // How many columns a bar lasts, of those that are drawn.
@@ -65,9 +92,7 @@ fn width(picture: &Picture, bar: &Bar) -> usize
     ensures value { result ≡ width_of picture.now bar.now }
     ensures fits { left_of picture.now bar.now + result < 2 ^ 64 }
 {
-    let before = picture.first.saturating_sub(bar.from);
-    let columns = picture.columns.len().saturating_sub(left(picture, bar));
-    bar.span.saturating_sub(before).min(columns)
+    right(picture, bar).saturating_sub(left(picture, bar))
 }
 
 /// A bar in a row.

@@ -3,9 +3,12 @@
 ghost use Rattle.std.specs.Prelude.{◌≡◌, ◌++◌, OnOk, flat_map};
 ghost use Rattle.drm_svg.specs.Svg.{dot_text, inside_text, line_text, mark_place, mark_text, mark_title, wait_text, wait_title};
 
+use crate::axis::put_axis;
 use crate::bars::put_halts;
+use crate::ends::put_end;
 use crate::head::{put_columns, put_fences, put_lanes};
 use crate::layout::Layout;
+use crate::placing::column;
 use crate::signs::{sign_shape, sign_word};
 use crate::text::{put_name, put_number, put_text};
 use drm_picture::{Mark, Picture, Wait};
@@ -42,7 +45,7 @@ fn put_mark_place(
     ensures { OnOk result (out.new.items ≡ out.old.items ++ mark_place picture.now layout.now mark.now) }
 {
     put_text(out, MARK)?;
-    put_number(out, mark.place.saturating_sub(picture.first) as u64)?;
+    put_number(out, column(picture, mark.place) as u64)?;
     put_text(out, "0 ")?;
     put_number(out, layout.row(mark.lane) as u64)?;
     put_text(out, "0")
@@ -133,7 +136,7 @@ fn put_wait(
 ) -> Result<(), AllocError>
     ensures { OnOk result (out.new.items ≡ out.old.items ++ wait_text picture.now layout.now wait.now) }
 {
-    let column = wait.place.saturating_sub(picture.first);
+    let column = column(picture, wait.place);
     let from = layout.fence_row(wait.fence);
     let to = layout.fence_row(wait.earlier);
     put_wait_title(out, wait)?;
@@ -151,8 +154,8 @@ fn put_waits(out: &mut Vec<u8>, picture: &Picture, layout: &Layout) -> Result<()
     Ok(())
 }
 
-/// Puts what is in a picture that is laid out: the lanes, the fences, the columns, the waits, the stopped entities and the
-/// marks.
+/// Puts what is in a picture that is laid out: the lanes, the fences, the columns, the axis, the waits, the stopped
+/// entities, the marks, and the mark of the end.
 #[tactic(auto, unfolding(crate::specs::Svg::inside_text))]
 pub fn put_inside(
     alloc: Global,
@@ -164,8 +167,10 @@ pub fn put_inside(
 {
     put_lanes(alloc, out, picture, &layout.lanes)?;
     put_fences(alloc, out, picture, layout)?;
-    put_columns(out, picture.first, &picture.columns)?;
+    put_columns(out, picture)?;
+    put_axis(out, picture)?;
     put_waits(out, picture, layout)?;
     put_halts(out, picture, layout)?;
-    put_marks(out, picture, layout)
+    put_marks(out, picture, layout)?;
+    put_end(out, picture, layout)
 }

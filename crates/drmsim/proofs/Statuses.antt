@@ -13,12 +13,13 @@ use Rattle.drm_engine.specs.declared.ending.Ending.{Ending}
 use Rattle.drm_engine.specs.declared.ending.Ending.TheVariants as ending
 use Rattle.drm_explain.specs.Telling.{Tells}
 use Rattle.drm_explore.specs.declared.exploring.Wanted.{Wanted}
+use Rattle.drm_picture.specs.declared.columns.Axis.{Axis}
 use Rattle.drm_command_line.specs.CommandLine.{IsAsked}
 use Rattle.drm_command_line.specs.declared.request.Request.{Request}
 use Rattle.drm_command_line.specs.declared.request.Request.TheVariants as request
 use Rattle.drm_conform.specs.declared.options.Options.{Options}
 use Rattle.drm_why.specs.declared.asking.Question.{Question}
-use Rattle.drmsim.specs.Statuses.{Does, DrawsBetween, EndsAs, ExploresAsked, JudgesAsked, MayHappen, TestsScript, WhysAsked}
+use Rattle.drmsim.specs.Statuses.{Does, DrawsAsked, DrawsBetween, EndsAs, ExploresAsked, JudgesAsked, MayHappen, TestsScript, WhysAsked}
 use Rattle.drmsim.specs.declared.outcome.Outcome.TheVariants as outcome
 
 pub untouched : (bytes : Option (List ℕ)) → Keeps bytes bytes
@@ -32,10 +33,14 @@ runs_without_memory engine.Serial input bytes = untouched bytes
 runs_without_memory engine.Check input bytes = untouched bytes
 
 -- so does a drawing
-drawn_without_memory : (from to : Option ℕ) (source : SourceState) (sink : SinkState) → DrawsBetween from to source source sink sink ending.NoMemory
-drawn_without_memory (Some from) (Some to) source sink = untouched sink.contents
-drawn_without_memory (Some from) None source sink = (refl, refl)
-drawn_without_memory None to source sink = (refl, refl)
+part_without_memory : (axis : Axis) (from to : Option ℕ) (source : SourceState) (sink : SinkState) → DrawsBetween axis from to source source sink sink ending.NoMemory
+part_without_memory axis (Some from) (Some to) source sink = untouched sink.contents
+part_without_memory axis (Some from) None source sink = (refl, refl)
+part_without_memory axis None to source sink = (refl, refl)
+
+drawn_without_memory : (asked : Option Axis) (from to : Option ℕ) (source : SourceState) (sink : SinkState) → DrawsAsked asked from to source source sink sink (outcome.Ended ending.NoMemory)
+drawn_without_memory (Some axis) from to source sink = part_without_memory axis from to source sink
+drawn_without_memory None from to source sink = (refl, refl)
 
 -- an exploration for which memory was refused leaves what the writer holds
 explored_without_memory : (backs_off reaps : Bool) (most : Option ℕ) (told : Option Wanted) (source : SourceState) (sink : SinkState)
@@ -65,7 +70,7 @@ done_without_memory request.ReplayWithWords source sink = (untouched sink.conten
 done_without_memory request.ReplayAsJournal source sink = untouched sink.contents
 done_without_memory (request.Work submitters turns) source sink = untouched sink.contents
 done_without_memory (request.Explain word) source sink = (refl, untouched sink.contents)
-done_without_memory (request.Draw from to) source sink = drawn_without_memory _ _ source sink
+done_without_memory (request.Draw from to by) source sink = drawn_without_memory _ _ _ source sink
 done_without_memory (request.Explore backs_off reaps most stuck reached cover) source sink = explored_without_memory backs_off reaps _ _ source sink
 done_without_memory (request.Why fence all rings) source sink = why_without_memory _ source sink
 done_without_memory (request.Test lowers) source sink = tested_without_memory lowers source sink
@@ -90,7 +95,7 @@ may_happen words request.ReplayWithWords is = tt
 may_happen words request.ReplayAsJournal is = tt
 may_happen words (request.Work submitters turns) is = is.3.1.1
 may_happen words (request.Explain word) is = tt
-may_happen words (request.Draw from to) is = tt
+may_happen words (request.Draw from to by) is = tt
 may_happen words (request.Explore backs_off reaps most stuck reached cover) is = tt
 may_happen words (request.Why fence all rings) is = tt
 may_happen words (request.Test lowers) is = tt

@@ -1,5 +1,5 @@
 -- How what was asked for ended.
-use Rattle.std.specs.Prelude.{ℕ, Bool, true, false, List, Result, Ok, Err, codes}
+use Rattle.std.specs.Prelude.{ℕ, Bool, false, List, Result, Ok, Err, codes}
 use Rattle.drm_conform.specs.Judging.{text_of_judged}
 use Rattle.drm_engine.specs.Endings as ends
 use Rattle.drm_engine.specs.Failures.{EndsBy}
@@ -24,6 +24,7 @@ status_of_outcome (outcome.Judged judged) = ends.status_of judged.ending
 status_of_outcome outcome.NoLimits = 2
 status_of_outcome outcome.NoFinal = 2
 status_of_outcome outcome.NoFence = 2
+status_of_outcome outcome.NoAxis = 2
 
 -- what is printed of it
 abbrev pub text_of_outcome : Outcome → List ℕ
@@ -34,6 +35,7 @@ text_of_outcome outcome.NoLimits =
     codes "error: '--limit' takes rings and numbers, as in gfx=3,sdma=2, and '--tolerance' a number of microseconds\n\nFor more information, try '--help'."
 text_of_outcome outcome.NoFinal = codes "error: '--final' takes the number of a final, 0 to 4294967295\n\nFor more information, try '--help'."
 text_of_outcome outcome.NoFence = codes "error: 'why' takes the number of a fence, '--all' or '--rings'\n\nFor more information, try '--help'."
+text_of_outcome outcome.NoAxis = codes "error: '--by' takes 'command' or 'moment'\n\nFor more information, try '--help'."
 
 -- an engine ended so that this holds of its ending
 abbrev pub Ends : (Ending → Type 0) → Outcome → Type 0
@@ -58,3 +60,4 @@ EndsSo before after old new (outcome.Judged judged) = EndsBy before after old ne
 EndsSo before after old new outcome.NoLimits = NoneFailed before after old new
 EndsSo before after old new outcome.NoFinal = NoneFailed before after old new
 EndsSo before after old new outcome.NoFence = NoneFailed before after old new
+EndsSo before after old new outcome.NoAxis = NoneFailed before after old new

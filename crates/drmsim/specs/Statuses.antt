@@ -1,6 +1,7 @@
 -- What each request comes to, and the exit status of the program.
-use Rattle.std.specs.Prelude.{◌≡◌, ◌⊎◌, ◌<◌, ◌≤◌, ℕ, Bool, true, false, List, Option, Some, None, option_map, if◌then◌else◌}
+use Rattle.std.specs.Prelude.{◌≡◌, ◌⊎◌, ◌<◌, ◌≤◌, ℕ, Bool, true, false, List, Option, Some, None, codes, option_map, if◌then◌else◌}
 use Rattle.std.specs.Option.{option_map_or}
+use Rattle.std.specs.Str.{bytes_eq}
 use Rattle.clap.specs.Words.{IsAmong, Kinds, Text}
 use Rattle.clap.specs.declared.error.kind.ErrorKind.{ErrorKind}
 use Rattle.clap.specs.declared.error.kind.ErrorKind.TheVariants as kind
@@ -13,9 +14,10 @@ use Rattle.drm_words.specs.Replaying.{ReplaysWithWords}
 use Rattle.drm_script_writer.specs.Recording.{Records}
 use Rattle.drm_run.specs.Runs as worked
 use Rattle.drm_explain.specs.Telling.{Tells}
+use Rattle.drm_picture.specs.declared.columns.Axis.{Axis}
+use Rattle.drm_picture.specs.declared.columns.Axis.TheVariants as axis
 use Rattle.drm_draw.specs.Drawing.{Draws}
 use Rattle.drm_explore.specs.Exploring.{Explores}
-use Rattle.drm_explore.specs.declared.exploring.Options.{Options}
 use Rattle.drm_explore.specs.declared.exploring.Wanted.{Wanted}
 use Rattle.drm_explore.specs.declared.exploring.Wanted.TheVariants as wanted
 use Rattle.drm_why.specs.Whys.{Whys}
@@ -49,11 +51,29 @@ DrawsNothing before after old new ending.NoCount = IsUnused before after old new
 DrawsNothing before after old new ending.NoMemory = IsUnused before after old new
 DrawsNothing before after old new other = ⊥
 
--- what each ending of a drawing says of the part between two numbers, if there are both
-abbrev pub DrawsBetween : Option ℕ → Option ℕ → SourceState → SourceState → SinkState → SinkState → Ending → Type 0
-DrawsBetween (Some from) (Some to) before after old new ended = Draws from to before.remaining old.contents new.contents ended
-DrawsBetween (Some from) None before after old new ended = DrawsNothing before after old new ended
-DrawsBetween None to before after old new ended = DrawsNothing before after old new ended
+-- what each ending of a drawing along this axis says of the part between two numbers, if there are both
+abbrev pub DrawsBetween : Axis → Option ℕ → Option ℕ → SourceState → SourceState → SinkState → SinkState → Ending → Type 0
+DrawsBetween axis (Some from) (Some to) before after old new ended = Draws axis from to before.remaining old.contents new.contents ended
+DrawsBetween axis (Some from) None before after old new ended = DrawsNothing before after old new ended
+DrawsBetween axis None to before after old new ended = DrawsNothing before after old new ended
+
+-- what goes from left to right in a drawing, by a word: commands where there is none
+abbrev pub axis_of_text : Text → Option Axis
+axis_of_text text = if bytes_eq text (codes "command") then Some axis.Command else if bytes_eq text (codes "moment") then Some axis.Moment else None
+
+abbrev pub axis_asked : Option Text → Option Axis
+axis_asked word = option_map_or axis_of_text word (Some axis.Command)
+
+-- what each outcome of a drawing says for which a word names no axis
+abbrev pub DrawsAlongNothing : SourceState → SourceState → SinkState → SinkState → Outcome → Type 0
+DrawsAlongNothing before after old new outcome.NoAxis = IsUnused before after old new
+DrawsAlongNothing before after old new (outcome.Ended ending.NoMemory) = IsUnused before after old new
+DrawsAlongNothing before after old new other = ⊥
+
+-- what each outcome of a drawing says of an axis and two numbers, if words spell them
+abbrev pub DrawsAsked : Option Axis → Option ℕ → Option ℕ → SourceState → SourceState → SinkState → SinkState → Outcome → Type 0
+DrawsAsked (Some axis) from to before after old new came = Ends (DrawsBetween axis from to before after old new) came
+DrawsAsked None from to before after old new came = DrawsAlongNothing before after old new came
 
 -- what is wanted of all orders: a script to a stuck state, else a cover, else a script to the final that a word spells, else the table
 abbrev pub wanted_asked : Bool → Bool → Option Text → Option Wanted
@@ -129,8 +149,8 @@ Does request.ReplayWithWords before after old new came = EndsInWords (ReplaysWit
 Does request.ReplayAsJournal before after old new came = Ends (Records before.remaining old.contents new.contents) came
 Does (request.Work submitters turns) before after old new came = Ends (worked.Runs submitters turns before.remaining old.contents new.contents) came
 Does (request.Explain word) before after old new came = (after ≡ before) × Ends (Tells (option_map (λ w. w.now) word) old.contents new.contents) came
-Does (request.Draw from to) before after old new came =
-    Ends (DrawsBetween (number_of_word 0 (option_map (λ w. w.now) from)) (number_of_word 4294967295 (option_map (λ w. w.now) to)) before after old new) came
+Does (request.Draw from to by) before after old new came =
+    DrawsAsked (axis_asked (option_map (λ w. w.now) by)) (number_of_word 0 (option_map (λ w. w.now) from)) (number_of_word 4294967295 (option_map (λ w. w.now) to)) before after old new came
 Does (request.Explore backs_off reaps most stuck reached cover) before after old new came =
     ExploresAsked backs_off reaps (number_of_word 1000000 (option_map (λ w. w.now) most)) (wanted_asked stuck cover (option_map (λ w. w.now) reached)) before after old new came
 Does (request.Why fence all rings) before after old new came = WhysAsked (question_asked (option_map (λ w. w.now) fence) all rings) before after old new came

@@ -5,13 +5,14 @@ ghost use Rattle.drm_conform.specs.Asked.{options_asked};
 ghost use Rattle.drm_engine.specs.Failures.{EndsBy};
 ghost use Rattle.drm_words.specs.Replaying.{ReplaysWithWords};
 ghost use Rattle.drmsim.specs.Outcomes.{EndsInWords, EndsSo};
-ghost use Rattle.drmsim.specs.Statuses.{DrawsBetween, ExploresAsked, JudgesAsked, WhysAsked, number_of_word, question_asked, wanted_asked};
+ghost use Rattle.drmsim.specs.Statuses.{DrawsAsked, DrawsBetween, ExploresAsked, JudgesAsked, WhysAsked, axis_asked, axis_of_text, number_of_word, question_asked, wanted_asked};
 
 use crate::outcome::Outcome;
 use drm_conform::{conform, read_options};
 use drm_draw::draw;
 use drm_engine::Ending;
 use drm_explore::{Options, Wanted, explore};
+use drm_picture::Axis;
 use drm_stream::{Sink, Source};
 use drm_text::read_number;
 use drm_why::{Question, why};
@@ -46,20 +47,63 @@ pub(crate) fn replay_in_words<R: Read, W: Write>(
 }
 
 /// Draws the part of a run between the numbers that two words spell.
-pub(crate) fn draw_part<R: Read, W: Write>(
+fn draw_part<R: Read, W: Write>(
     alloc: Global,
+    axis: Axis,
     from: Option<&str>,
     to: Option<&str>,
     reader: &mut Source<R>,
     writer: &mut Sink<W>,
 ) -> Ending
-    ensures ending { DrawsBetween (number_of_word 0 (option_map (λ w. w.now) from.entry)) (number_of_word 4294967295 (option_map (λ w. w.now) to.entry))
+    ensures ending { DrawsBetween axis (number_of_word 0 (option_map (λ w. w.now) from.entry)) (number_of_word 4294967295 (option_map (λ w. w.now) to.entry))
         reader.old reader.new writer.old writer.new result }
     ensures failures { EndsBy reader.old reader.new writer.old writer.new result }
 {
     match (number_or(0, from), number_or(u32::MAX, to)) {
-        (Some(from), Some(to)) => draw(alloc, from as u32, to as u32, reader, writer),
+        (Some(from), Some(to)) => draw(alloc, axis, from as u32, to as u32, reader, writer),
         _ => Ending::NoCount,
+    }
+}
+
+/// Returns the axis that a word names.
+fn axis_named(word: &str) -> Option<Axis>
+    ensures { result ≡ axis_of_text word.entry.now }
+{
+    if word == "command" {
+        return Some(Axis::Command);
+    }
+    if word == "moment" {
+        return Some(Axis::Moment);
+    }
+    None
+}
+
+/// Returns the axis that a word names, or that of commands where there is no word.
+fn axis(by: Option<&str>) -> Option<Axis>
+    ensures { result ≡ axis_asked (option_map (λ w. w.now) by.entry) }
+{
+    match by {
+        Some(word) => axis_named(word),
+        None => Some(Axis::Command),
+    }
+}
+
+/// Draws the part of a run between the numbers that two words spell, along the axis that a third one names.
+pub(crate) fn draw_run<R: Read, W: Write>(
+    alloc: Global,
+    from: Option<&str>,
+    to: Option<&str>,
+    by: Option<&str>,
+    reader: &mut Source<R>,
+    writer: &mut Sink<W>,
+) -> Outcome
+    ensures outcome { DrawsAsked (axis_asked (option_map (λ w. w.now) by.entry)) (number_of_word 0 (option_map (λ w. w.now) from.entry))
+        (number_of_word 4294967295 (option_map (λ w. w.now) to.entry)) reader.old reader.new writer.old writer.new result }
+    ensures failures { EndsSo reader.old reader.new writer.old writer.new result }
+{
+    match axis(by) {
+        Some(axis) => Outcome::Ended(draw_part(alloc, axis, from, to, reader, writer)),
+        None => Outcome::NoAxis,
     }
 }
 

@@ -23,7 +23,7 @@ mod asking;
 mod outcome;
 mod progress;
 
-use asking::{Exploration, draw_part, explore_orders, judge_log, replay_in_words, tell_why};
+use asking::{Exploration, draw_run, explore_orders, judge_log, replay_in_words, tell_why};
 use clap::error::ErrorKind as WordsError;
 use drm_command_line::{Request, read_words};
 use drm_engine::Ending;
@@ -159,7 +159,7 @@ fn fulfil<H: Threads + Wait + Sync, R: Read, W: Write>(
             rt, threads, submitters, turns, reader, writer,
         )),
         Request::Explain(word) => Outcome::Ended(tell_word(alloc, word, writer)),
-        Request::Draw { from, to } => Outcome::Ended(draw_part(alloc, from, to, reader, writer)),
+        Request::Draw { from, to, by } => draw_run(alloc, from, to, by, reader, writer),
         Request::Explore {
             backs_off,
             reaps,

@@ -23,6 +23,8 @@ pub enum Outcome {
     NoFinal,
     /// No word behind `why` spells the number of a fence. Nothing was read, and nothing written.
     NoFence,
+    /// The word behind `--by` names nothing that goes from left to right. Nothing was read, and nothing written.
+    NoAxis,
 }
 
 impl Outcome {
@@ -34,7 +36,7 @@ impl Outcome {
             Outcome::Ended(ending) => ending.is_told(),
             Outcome::Faulty(_) => false,
             Outcome::Judged(judged) => judged.ending.is_told(),
-            Outcome::NoLimits | Outcome::NoFinal | Outcome::NoFence => false,
+            Outcome::NoLimits | Outcome::NoFinal | Outcome::NoFence | Outcome::NoAxis => false,
         }
     }
 
@@ -46,7 +48,7 @@ impl Outcome {
             Outcome::Ended(ending) => ending.status(),
             Outcome::Faulty(_) => 2,
             Outcome::Judged(judged) => judged.ending.status(),
-            Outcome::NoLimits | Outcome::NoFinal | Outcome::NoFence => 2,
+            Outcome::NoLimits | Outcome::NoFinal | Outcome::NoFence | Outcome::NoAxis => 2,
         }
     }
 }
@@ -70,6 +72,10 @@ impl fmt::Display for Outcome {
             Outcome::NoFence => write!(
                 f,
                 "error: 'why' takes the number of a fence, '--all' or '--rings'\n\nFor more information, try '--help'."
+            ),
+            Outcome::NoAxis => write!(
+                f,
+                "error: '--by' takes 'command' or 'moment'\n\nFor more information, try '--help'."
             ),
         }
     }

@@ -7,7 +7,7 @@ pub returns-in-explain : goal.returns-in-explain
 returns-in-explain c = (c.in-explain.is, gives_first (found_of c.args.command.now) _ _ c.get_str.ensures)
 
 pub returns-in-draw : goal.returns-in-draw
-returns-in-draw c = (c.in-draw.is, gives_first (found_of c.args.command.now) _ _ c.get_str-in-draw.ensures, gives_first (found_of c.args.command.now) _ _ c.get_str-in-draw-2.ensures)
+returns-in-draw c = (c.in-draw.is, gives_first (found_of c.args.command.now) _ _ c.get_str-in-draw.ensures, gives_first (found_of c.args.command.now) _ _ c.get_str-in-draw-2.ensures, gives_first (found_of c.args.command.now) _ _ c.get_str-in-draw-3.ensures)
 
 pub returns-in-explore : goal.returns-in-explore
 returns-in-explore c = (

@@ -4,7 +4,7 @@ use Rattle.drm_draw.proofs.drawing.draw.Goals as goal
 
 pub returns-in-Ok-clause-ending : goal.returns-in-Ok-clause-ending
 returns-in-Ok-clause-ending g c =
-    draws_spelled c.in-Ok.script c.args.from c.args.to c.args.reader.now.remaining c.args.writer.now.contents c.draw_script.new.writer.contents c.draw_script.result c.in-Ok.ensures.value
+    draws_spelled c.in-Ok.script c.args.axis c.args.from c.args.to c.args.reader.now.remaining c.args.writer.now.contents c.draw_script.new.writer.contents c.draw_script.result c.in-Ok.ensures.value
     c.draw_script.ensures.ending
 
 pub returns-in-Ok-clause-most : goal.returns-in-Ok-clause-most

@@ -17,7 +17,7 @@ returns-in-Ok-put_all-clause-ending g c =
     let of = played c.args.script c.in-Ok-build.core c.take_steps.new.core c.args.script.lines (λ answers. AreSteps c.args.script.lines answers c.in-Ok-take_steps.steps.items)
     c.every_run_is_lawful.ensures c.headline.ensures c.in-Ok-build.ensures.ok.0 refl c.requires.exist c.in-Ok-take_steps.ensures in (
       c.in-Ok-text_of.text.items,
-      drawn_of c.args.script c.args.from c.args.to c.in-Ok-take_steps.steps.items c.deref-3.result.now c.shape-shape.result c.deref-2.result.now c.in-Ok-text_of.text.items of c.shape-shape.ensures (c.deref-2.ensures.value ∙ c.in-Ok.ensures) c.deref-3.ensures.value c.in-Ok-text_of.ensures,
+      drawn_of c.args.script c.args.axis c.args.from c.args.to c.in-Ok-take_steps.steps.items c.deref-3.result.now c.shape-shape.result c.deref-2.result.now c.in-Ok-text_of.text.items of c.shape-shape.ensures (c.deref-2.ensures.value ∙ c.in-Ok.ensures) c.deref-3.ensures.value c.in-Ok-text_of.ensures,
       rw c.deref-4.ensures.value at c.in-Ok-put_all.ensures.ok,
     )
 
@@ -26,7 +26,7 @@ returns-clause-ending g c =
     let of = played c.args.script c.in-Ok-build.core c.take_steps.new.core c.args.script.lines (λ answers. AreSteps c.args.script.lines answers c.in-Ok-take_steps.steps.items)
     c.every_run_is_lawful.ensures c.headline.ensures c.in-Ok-build.ensures.ok.0 refl c.requires.exist c.in-Ok-take_steps.ensures in (
       c.in-Ok-text_of.text.items,
-      drawn_of c.args.script c.args.from c.args.to c.in-Ok-take_steps.steps.items c.deref-3.result.now c.shape-shape.result c.deref-2.result.now c.in-Ok-text_of.text.items of c.shape-shape.ensures (c.deref-2.ensures.value ∙ c.in-Ok.ensures) c.deref-3.ensures.value c.in-Ok-text_of.ensures,
+      drawn_of c.args.script c.args.axis c.args.from c.args.to c.in-Ok-take_steps.steps.items c.deref-3.result.now c.shape-shape.result c.deref-2.result.now c.in-Ok-text_of.text.items of c.shape-shape.ensures (c.deref-2.ensures.value ∙ c.in-Ok.ensures) c.deref-3.ensures.value c.in-Ok-text_of.ensures,
       rw c.deref-4.ensures.value at c.in-Err.ensures.err,
     )
 

@@ -12,7 +12,7 @@ returns c =
     IfOk-weaker c.page.result _ _
     (λ text same. (
       picture,
-      c.in_ok-picture.ensures,
+      c.in_ok-picture.ensures.drawn,
       subst (λ (steps : List Step). IsPage c.args.limits.now before steps picture text.items) c.part-2.ensures
           (subst (λ (steps : List Step). IsPage c.args.limits.now steps c.part-2.result.now picture text.items) (c.part-before.ensures ∙ ap (part_of 0 c.args.from) c.part.ensures) same),
     ))

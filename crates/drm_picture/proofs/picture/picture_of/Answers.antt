@@ -1,7 +1,9 @@
-use Rattle.std.proofs.Common.{◌∙◌, ap, map, refl, subst, sym}
+use Rattle.std.proofs.Common.{◌∙◌, ℕ, List, ap, length, map, refl, subst, sym}
 use Rattle.std.specs.List.{All}
+use Rattle.drm_core.specs.declared.event.Event.{Event}
 use Rattle.drm_picture.specs.Armed.{requests_of}
 use Rattle.drm_picture.specs.Bars.{bars_of}
+use Rattle.drm_picture.specs.Columns.{column_at, columns_of, scale_of}
 use Rattle.drm_picture.specs.Latest.{EndsIn}
 use Rattle.drm_picture.specs.Marks.{marks_of}
 use Rattle.drm_picture.specs.Waiting.{waiting_of}
@@ -12,10 +14,10 @@ use Rattle.drm_picture.proofs.Fences.{fences-end}
 use Rattle.drm_picture.proofs.picture.picture_of.Goals as goal
 
 pub reaches-requires : goal.reaches-requires
-reaches-requires c = subst (All (EndsIn c.run_before-run.result.now)) (sym (c.deref.ensures.value ∙ c.in_ok-fences.ensures)) (fences-end c.args.from c.run_before-run.result.now)
+reaches-requires c = subst (All (EndsIn c.run_before-run.result.now)) (sym (c.deref-4.ensures.value ∙ c.in_ok-fences.ensures)) (fences-end c.args.from c.run_before-run.result.now)
 
-pub returns : goal.returns
-returns c =
+pub returns-clause-drawn : goal.returns-clause-drawn
+returns-clause-drawn c =
     let run = c.run_before-run.ensures in
     let from = c.args.from in
     record {
@@ -23,6 +25,9 @@ returns c =
       first = refl;
       total = refl;
       columns = c.in_ok-commands.ensures ∙ ap (map (λ (step : Step). step.command)) c.part.ensures;
+      scale = c.scale_for-scale.ensures ∙ ap (scale_of c.args.axis) c.deref.ensures.value;
+      lefts = c.in_ok-lefts.ensures ∙ ap (columns_of c.scale_for-scale.result) c.deref-2.ensures.value;
+      width = c.width-width.ensures.value ∙ ap (λ (commands : List (Event ℕ)). column_at c.scale_for-scale.result commands (length commands)) c.deref-3.ensures.value;
       armed = c.in_ok-requests.ensures ∙ ap requests_of run;
       jobs = c.in_ok-bars.ensures ∙ ap (bars_of kind.Job from) run;
       queued = c.in_ok-bars-2.ensures ∙ ap (bars_of kind.Queued from) run;

@@ -1,7 +1,7 @@
 use Rattle.std.proofs.Common.{◌∙◌, [], ◌∷◌, ◌++◌, ◌+◌, ap, arith}
 use Rattle.drm_svg.specs.Layout.{placed_at}
 use Rattle.drm_svg.specs.declared.placing.Placed.{Placed}
-use Rattle.drm_svg.proofs.Places.{made_next}
+use Rattle.drm_picture.proofs.Places.{made_next}
 use Rattle.drm_svg.proofs.layout.place_fences.Goals as goal
 
 pub loop-place-preserved : goal.loop-place-preserved
