@@ -1,12 +1,7 @@
 -- The least active fence, entry by entry.
-use Rattle.std.proofs.Common.{◌≡◌, ℕ, Bool, true, false, not, ◌&&◌, cond, min, List, ◌∷◌, map, Option, Some, None, refl, ap, arith}
-use Rattle.std.specs.Prelude.{filter}
+use Rattle.std.proofs.Common.{◌≡◌, ℕ, min, Option, Some, None, refl, ap, arith}
 use Rattle.std.specs.Option.{option_map_or}
-use Rattle.drm_types.specs.declared.access.Usage.{Usage}
-use Rattle.drm_types.specs.Usages.{is_as_strong}
-use Rattle.drm_resv.specs.declared.entry.Entry.{Entry}
-use Rattle.drm_resv.specs.Entries.{entries_of}
-use Rattle.drm_resv.specs.Active.{least, least_active, lesser}
+use Rattle.drm_resv.specs.Active.{lesser}
 
 -- the lesser of two that may be there
 abbrev pub joined : Option ℕ → Option ℕ → Option ℕ

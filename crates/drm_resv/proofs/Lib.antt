@@ -1,4 +1,4 @@
 pub mod NotedIs
 pub mod AddedIs
 pub mod ActiveIs
-pub mod SpansAre
+pub mod EndsAre

@@ -1,6 +1,5 @@
 -- Lists that stand one behind another in one list.
-use Rattle.std.specs.Prelude.{ℕ, ◌+◌, ◌*◌, ◌≤◌, List, length, map, slice_range, All}
-use Rattle.drm_resv.specs.declared.stored.Span.{Span}
+use Rattle.std.specs.Prelude.{◌≡◌, ℕ, ◌+◌, ◌*◌, ◌^◌, ◌<◌, ◌≤◌, List, [], ◌∷◌, length, slice_range}
 use Rattle.drm_resv.specs.Latest.{IsPerEntity}
 
 -- the lists by their number, and for how many there is room
@@ -8,24 +7,24 @@ pub record ListsWithPlaces : Type 0 where
   pub lists : List (List (ℕ × ℕ))
   pub places : ℕ
 
-abbrev pub list_at : List (ℕ × ℕ) → Span → List (ℕ × ℕ)
-list_at fences span = slice_range fences span.from span.to
+-- the lists from a place on, each from where the one before ends to its own end
+abbrev pub lists_from : List (ℕ × ℕ) → ℕ → List ℕ → List (List (ℕ × ℕ))
+lists_from fences from [] = []
+lists_from fences from (to ∷ ends) = slice_range fences from to ∷ lists_from fences to ends
 
-abbrev pub lists_at : List (ℕ × ℕ) → List Span → List (List (ℕ × ℕ))
-lists_at fences spans = map (list_at fences) spans
+-- one of these lists: it has at most 64 fences, one of each entity
+pub record IsListed (fences : List (ℕ × ℕ)) (from to : ℕ) : Type 0 where
+  pub ordered : from ≤ to
+  pub within : to ≤ length fences
+  pub few : to ≤ from + 64
+  pub once : IsPerEntity (slice_range fences from to)
 
--- the places of a list: of at most 64 fences, one of each entity
-pub record IsSpan (fences : List (ℕ × ℕ)) (span : Span) : Type 0 where
-  pub ordered : span.from ≤ span.to
-  pub within : span.to ≤ length fences
-  pub few : span.to ≤ span.from + 64
-  pub once : IsPerEntity (list_at fences span)
+-- the ends of such lists from a place on, of which the last is the end of all fences
+abbrev pub AreEnds : List (ℕ × ℕ) → ℕ → List ℕ → Type 0
+AreEnds fences from [] = from ≡ length fences
+AreEnds fences from (to ∷ ends) = IsListed fences from to × AreEnds fences to ends
 
--- the places of all lists, which have no more fences than 64 each
-pub record AreSpans (fences : List (ℕ × ℕ)) (spans : List Span) : Type 0 where
-  pub each : All (IsSpan fences) spans
-  pub few : length fences ≤ 64 * length spans
-
--- room for so many lists is room for all of their fences
-abbrev pub HasRoom : ℕ → ℕ → Type 0
-HasRoom lists fences = 64 * lists ≤ fences
+-- room for so many lists is room for all of their fences, and each end is a `u32`
+pub record HasRoom (lists fences : ℕ) : Type 0 where
+  pub room : 64 * lists ≤ fences
+  pub counted : 64 * lists < 2 ^ 32
