@@ -9,6 +9,7 @@
 
 mod deps;
 mod entry;
+mod lists;
 mod resv;
 mod stored;
 

@@ -1,13 +1,13 @@
-ghost use Rattle.std.specs.Prelude.{◌≡◌, ℕ, ◌<◌, ◌≤◌, IsTrue, IsFalse, [], length, OnOk, IsOk, slice_get, Some, cond, not, ◌&&◌};
-ghost use Rattle.drm_resv.specs.Entries.{added_to, entries_of, replaces};
+ghost use Rattle.std.specs.Prelude.{◌≡◌, ◌<◌, IsTrue, All, [], OnOk, IsOk, cond, not, ◌&&◌};
+ghost use Rattle.drm_resv.specs.Entries.{added_to, entries_of};
 ghost use Rattle.drm_resv.specs.Noting.{all_noted};
 ghost use Rattle.drm_resv.specs.Active.{least_active as least_active_of, lesser};
 ghost use Rattle.drm_types.specs.Usages.{is_as_strong};
-ghost use Rattle.drm_resv.specs.declared.entry.Entry.{Entry};
 ghost use Rattle.drm_fence.specs.Fences.{has_ended_at};
 
 use crate::deps::Deps;
 use crate::entry::Entry;
+use crate::lists::Lists;
 use drm_fence::Timeline;
 use drm_types::{EntityId, FenceId, Usage};
 use std::alloc::{AllocError, Global};
@@ -17,21 +17,22 @@ use std::marker::Model;
 ///
 /// Contracts see it as what is kept and whether there is room for one more use. Room says nothing of what is kept:
 /// callers compare `kept` alone.
+///
+/// What it keeps lies in a box, which the first `reserve` takes. So a reservation that goes to its holder and back
+/// moves as one pointer.
 #[derive(Drop)]
 pub struct Resv {
-    entries: Vec<Entry>,
-    history: Vec<(FenceId, Usage)>,
+    alloc: Global,
+    lists: Option<Box<Lists>>,
 }
 
 impl Model for Resv {
-    ghost use Rattle.std.specs.Prelude.{◌&&◌, ◌<◌, nat_lt, vec_len, vec_capacity, All};
-    ghost use Rattle.drm_resv.specs.Reservation.{WithRoom};
+    ghost use Rattle.std.specs.Option.{option_map_or};
+    ghost use Rattle.drm_resv.specs.Reservation.{WithRoom, unused};
 
     ghost Value = { WithRoom };
 
-    ghost view = { λ r. record { kept = record { entries = r.entries.items; history = r.history.items }; has_room = nat_lt (vec_len r.entries) (vec_capacity r.entries) && nat_lt (vec_len r.history) (vec_capacity r.history) } };
-
-    ghost invariant = { λ r. All (λ e. e.entity < 64) r.entries.items };
+    ghost view = { λ r. option_map_or (λ lists. lists.value) r.lists unused };
 }
 
 impl Resv {
@@ -39,31 +40,34 @@ impl Resv {
     pub fn new(alloc: Global) -> Resv
         ensures { result.kept ≡ record { entries = []; history = [] } }
     {
-        Resv {
-            entries: Vec::new(alloc),
-            history: Vec::new(alloc),
-        }
+        Resv { alloc, lists: None }
     }
 
     /// Returns the entries to wait for (`dma_resv_for_each_fence`).
     pub fn fences(&self) -> &[Entry]
         ensures { result.now ≡ self.now.kept.entries }
     {
-        &self.entries
+        self.entries()
     }
 
     /// Returns each fence that was ever added, with its usage, in order. It is never cut.
     pub fn history(&self) -> &[(FenceId, Usage)]
         ensures { result.now ≡ self.now.kept.history }
     {
-        &self.history
+        match &self.lists {
+            Some(lists) => lists.history(),
+            None => &[],
+        }
     }
 
     /// Returns whether there is room for one use more.
     pub fn has_room(&self) -> bool
         ensures { result ≡ self.now.has_room }
     {
-        self.entries.len() < self.entries.capacity() && self.history.len() < self.history.capacity()
+        match &self.lists {
+            Some(lists) => lists.has_room(),
+            None => false,
+        }
     }
 
     /// Takes room for one use more (`dma_resv_reserve_fences`). Nothing but the room may change, and room that was
@@ -74,16 +78,20 @@ impl Resv {
         ensures room { IsTrue self.old.has_room → IsTrue self.new.has_room }
         ensures succeeds { IsTrue self.old.has_room → IsOk result }
     {
-        self.entries.reserve(1)?;
-        self.history.reserve(1)?;
-        Ok(())
+        if let Some(lists) = &mut self.lists {
+            return lists.reserve();
+        }
+        let mut lists = Box::new(self.alloc, Lists::new(self.alloc))?;
+        let reserved = lists.reserve();
+        self.lists = Some(lists);
+        reserved
     }
 
     /// Notes the fences of the usage and of all stronger ones (`drm_sched_job_add_resv_dependencies`), ended ones too.
     pub fn collect(&self, usage: Usage, deps: &mut Deps)
         ensures { deps.new ≡ all_noted deps.old (entries_of usage self.now.kept.entries) }
     {
-        for entry in &self.entries {
+        for entry in self.entries() {
             if entry.usage.is_as_strong_as(usage) {
                 deps.note(entry.entity, entry.fence);
             }
@@ -96,7 +104,7 @@ impl Resv {
         ensures { result ≡ least_active_of (has_ended_at timeline.now.list) usage self.now.kept.entries }
     {
         let mut found = None;
-        for entry in &self.entries {
+        for entry in self.entries() {
             found = with_entry(found, entry, usage, timeline);
         }
         found
@@ -110,17 +118,19 @@ impl Resv {
         requires entity { entity < 64 }
         ensures { self.new.kept ≡ added_to (has_ended_at timeline.now.list) self.old.kept (record { fence = fence; entity = entity; usage = usage }) }
     {
-        let new = Entry {
-            fence,
-            entity,
-            usage,
-        };
-        self.history.push_reserved((fence, usage));
-        let place = place_for(&self.entries, &new, timeline);
-        if place < self.entries.len() {
-            self.entries[place] = new;
-        } else {
-            self.entries.push_reserved(new);
+        if let Some(lists) = &mut self.lists {
+            lists.add(fence, entity, usage, timeline);
+        }
+    }
+
+    // Lends the entries, with what the type keeps of them.
+    fn entries(&self) -> &[Entry]
+        ensures list { result.now ≡ self.now.kept.entries }
+        ensures within { All (λ e. e.entity < 64) result.now }
+    {
+        match &self.lists {
+            Some(lists) => lists.entries(),
+            None => &[],
         }
     }
 }
@@ -141,20 +151,4 @@ fn with_entry(
         Some(other) => Some(other.min(entry.fence)),
         None => Some(entry.fence),
     }
-}
-
-// The place of the first entry that the new one may replace, or the end.
-fn place_for(entries: &[Entry], new: &Entry, timeline: &Timeline) -> usize
-    ensures before { (k : ℕ) (e : Entry) → k < result → slice_get entries.now k ≡ Some e → IsFalse (replaces (has_ended_at timeline.now.list) new.now e) }
-    ensures here { (e : Entry) → slice_get entries.now result ≡ Some e → IsTrue (replaces (has_ended_at timeline.now.list) new.now e) }
-    ensures within { result ≤ length entries.now }
-{
-    let mut place = 0;
-    while place < entries.len() {
-        if new.replaces(&entries[place], timeline) {
-            return place;
-        }
-        place += 1;
-    }
-    place
 }

@@ -1,5 +1,5 @@
 use Rattle.std.proofs.Common.{rules}
-use Rattle.drm_resv.proofs.resv.Resv.fences.Goals as goal
+use Rattle.drm_resv.proofs.lists.Lists.entries.Goals as goal
 
 pub returns : goal.returns
 returns c = search rules

@@ -1,5 +1,5 @@
 use Rattle.std.proofs.Common.{rules}
-use Rattle.drm_resv.proofs.resv.Resv.reserve.Goals as goal
+use Rattle.drm_resv.proofs.lists.Lists.reserve.Goals as goal
 
 pub returns-in_err-reserve-clause-succeeds : goal.returns-in_err-reserve-clause-succeeds
 returns-in_err-reserve-clause-succeeds c = search rules

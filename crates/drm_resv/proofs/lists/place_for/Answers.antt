@@ -3,7 +3,7 @@ use Rattle.std.proofs.lemmas.Option.{slice_get-get_or}
 use Rattle.drm_fence.specs.Fences.{has_ended_at}
 use Rattle.drm_resv.specs.Entries.{replaces}
 use Rattle.drm_resv.proofs.AddedIs.{one_more_fails, past_end}
-use Rattle.drm_resv.proofs.resv.place_for.Goals as goal
+use Rattle.drm_resv.proofs.lists.place_for.Goals as goal
 
 pub loop-place-preserved : goal.loop-place-preserved
 loop-place-preserved c =

@@ -1,5 +1,5 @@
 use Rattle.std.proofs.Common.{rules}
-use Rattle.drm_resv.proofs.resv.Resv.new.Goals as goal
+use Rattle.drm_resv.proofs.lists.Lists.new.Goals as goal
 
 pub returns : goal.returns
 returns c = search rules
