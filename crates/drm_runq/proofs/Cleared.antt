@@ -8,7 +8,7 @@ use Rattle.drm_types.specs.Priorities.{rank_of}
 use Rattle.drm_runq.specs.declared.key.Key.{Key}
 use Rattle.drm_runq.specs.declared.queue.Place.{Place}
 use Rattle.drm_runq.specs.Keys.{HasKey}
-use Rattle.drm_runq.specs.Sorted.{weight, weight_of, IsOrderOf}
+use Rattle.drm_runq.specs.Sorted.{weight, weight_of, IsSortedQueue, StandsBy, IsOrderOf}
 
 get_remove_before : {X : Type 0} (xs : List X) (k i : ℕ) → i < k → slice_get (remove xs k) i ≡ slice_get xs i
 get_remove_before xs zero i lt = absurd (omega (arith, lt))
@@ -68,23 +68,22 @@ length_remove (y ∷ xs) zero x at = omega arith
 length_remove (y ∷ xs) (suc k) x at = omega (arith, length_remove xs k x at)
 
 -- the entity stands at the place that the search gives
-pub place_is : (keys : List (Option Key)) (order : List Place) (place e : ℕ) (key : Key) → IsOrderOf keys order → HasKey keys e key
+pub place_is : (order : List Place) (place e : ℕ) (key : Key) → IsSortedQueue order → StandsBy order key e
     → ((i : ℕ) (p : Place) → i < place → slice_get order i ≡ Some p → weight p < weight_of (rank_of key.priority) key.age e)
     → ((i : ℕ) (p : Place) → place ≤ i → slice_get order i ≡ Some p → weight_of (rank_of key.priority) key.age e ≤ weight p)
-    → (p : Place) × (slice_get order place ≡ Some p) × (p.entity ≡ e) × (p.key ≡ key)
-place_is keys order place e key is has before after =
-    let w = is.whole e key has in
-    let heavy : weight w.1 ≡ weight_of (rank_of key.priority) key.age e =
-    ap (λ (k : Key). weight_of (rank_of k.priority) k.age w.1.entity) w.4 ∙ ap (weight_of (rank_of key.priority) key.age) w.3 in
+    → slice_get order place ≡ Some (record { key = key; entity = e })
+place_is order place e key sorted stands before after =
+    let it : Place = record { key = key; entity = e } in
+    let w = stands.there in
     elim (cases_eq w.0 place) [
-      | inl same ↦ (w.1, subst (λ i. slice_get order i ≡ Some w.1) same w.2, w.3, w.4)
+      | inl same ↦ subst (λ i. slice_get order i ≡ Some it) same w.1
       | inr apart ↦
-          elim (nat_lt w.0 place) as (λ t. nat_lt w.0 place ≡ t → (p : Place) × (slice_get order place ≡ Some p) × (p.entity ≡ e) × (p.key ≡ key)) [
-            | true ↦ λ lt. absurd (omega (arith, heavy, before w.0 w.1 (ltb-true w.0 place lt) w.2))
+          elim (nat_lt w.0 place) as (λ t. nat_lt w.0 place ≡ t → slice_get order place ≡ Some it) [
+            | true ↦ λ lt. absurd (omega (arith, before w.0 it (ltb-true w.0 place lt) w.1))
             | false ↦ λ ge.
                 let past : place < w.0 = omega (arith, ltb-false w.0 place ge, apart) in
-                let q = there_below order place w.0 w.1 past w.2 in
-                absurd (omega (arith, heavy, is.sorted place w.0 q.0 w.1 past q.1 w.2, after place q.0 (omega arith) q.1))
+                let q = there_below order place w.0 it past w.1 in
+                absurd (omega (arith, sorted place w.0 q.0 it past q.1 w.1, after place q.0 (omega arith) q.1))
           ] refl
     ]
   where
@@ -140,11 +139,8 @@ order_cleared keys order place e key is has at = record {
 
 -- what the code leaves
 pub cleared_by : (keys : List (Option Key)) (order seen new : List Place) (place e : ℕ) (key : Key) → seen ≡ order → IsOrderOf keys order → HasKey keys e key
-    → ((i : ℕ) (p : Place) → i < place → slice_get seen i ≡ Some p → weight p < weight_of (rank_of key.priority) key.age e)
-    → ((i : ℕ) (p : Place) → place ≤ i → slice_get seen i ≡ Some p → weight_of (rank_of key.priority) key.age e ≤ weight p)
-    → new ≡ remove order place → IsOrderOf (set keys e None) new
-cleared_by keys order seen new place e key seen_is is has before after new_is =
-    let at = place_is keys order place e key is has
-    (λ i p lt at_i. before i p lt (subst (λ (l : List Place). slice_get l i ≡ Some p) (sym seen_is) at_i))
-    (λ i p le at_i. after i p le (subst (λ (l : List Place). slice_get l i ≡ Some p) (sym seen_is) at_i)) in
-    subst (IsOrderOf (set keys e None)) (sym new_is) (order_cleared keys order place e key is has at)
+    → slice_get seen place ≡ Some (record { key = key; entity = e }) → new ≡ remove order place → IsOrderOf (set keys e None) new
+cleared_by keys order seen new place e key seen_is is has at new_is =
+    let it : Place = record { key = key; entity = e } in
+    let there : slice_get order place ≡ Some it = subst (λ (l : List Place). slice_get l place ≡ Some it) seen_is at in
+    subst (IsOrderOf (set keys e None)) (sym new_is) (order_cleared keys order place e key is has (it, there, refl, refl))

@@ -17,6 +17,11 @@ abbrev pub IsSortedQueue : List Place → Type 0
 IsSortedQueue order =
     (i j : ℕ) (p q : Place) → i < j → slice_get order i ≡ Some p → slice_get order j ≡ Some q → weight p < weight q
 
+-- the entity stands in the order by this key, and by no other
+pub record StandsBy (order : List Place) (key : Key) (entity : ℕ) : Type 0 where
+  pub there : (i : ℕ) × (slice_get order i ≡ Some (record { key = key; entity = entity }))
+  pub alone : (i : ℕ) (p : Place) → slice_get order i ≡ Some p → p.entity ≡ entity → p.key ≡ key
+
 -- the order has the entities that have a key, each once, sorted
 pub record IsOrderOf (keys : List (Option Key)) (order : List Place) : Type 0 where
   pub sorted : IsSortedQueue order

@@ -1,8 +1,8 @@
-ghost use Rattle.std.specs.Prelude.{◌≡◌, ℕ, ◌<◌, ◌≤◌, Some, None, IfOk, IfSome, IfNone, length, replicate, slice_set, slice_get, IsTrue, ◌↔◌};
+ghost use Rattle.std.specs.Prelude.{◌≡◌, ℕ, ◌<◌, ◌≤◌, Some, None, IfOk, IfSome, IfNone, length, replicate, remove, slice_set, slice_get, vec_capacity, IsTrue, ◌↔◌};
 ghost use Rattle.drm_runq.specs.Keys.{HasKey, IsFirstReady, NoneReady};
 ghost use Rattle.drm_runq.specs.declared.key.Key.{Key};
 ghost use Rattle.drm_runq.specs.declared.queue.Place.{Place};
-ghost use Rattle.drm_runq.specs.Sorted.{IsSortedQueue, weight, weight_of};
+ghost use Rattle.drm_runq.specs.Sorted.{IsSortedQueue, StandsBy, weight, weight_of};
 ghost use Rattle.drm_types.specs.Priorities.{rank_of};
 
 use crate::key::Key;
@@ -59,8 +59,8 @@ impl RunQueue {
     }
 
     /// Gives the entity this key, in place of the one that it may have (`drm_sched_rq_add_entity`). It takes as many
-    /// comparisons as the number of entities has binary digits, twice where there was one, and moves the entities
-    /// behind it.
+    /// comparisons as the number of entities has binary digits, and moves the entities behind it. An entity that had
+    /// a key is taken out first, as `clear` does it.
     pub fn set(&mut self, entity: EntityId, priority: Priority, age: FenceId)
         requires { entity < length self.old }
         ensures { self.new ≡ slice_set self.old entity (Some (record { priority = priority; age = age })) }
@@ -73,14 +73,17 @@ impl RunQueue {
         self.keys[entity as usize] = Some(key);
     }
 
-    /// Takes the entity out, if it is there (`drm_sched_rq_remove_entity`).
+    /// Takes the entity out, if it is there (`drm_sched_rq_remove_entity`). It takes one comparison if the entity
+    /// stands at the front, and otherwise one more than the number of entities has binary digits. It moves the
+    /// entities behind it.
+    #[inline]
     pub fn clear(&mut self, entity: EntityId)
         requires { entity < length self.old }
         ensures { self.new ≡ slice_set self.old entity None }
     {
         if let Some(key) = self.keys[entity as usize] {
-            let place = place_of(&self.order, key, entity);
-            self.order.remove(place);
+            let place = find(&self.order, key, entity);
+            take_out(&mut self.order, place);
             self.keys[entity as usize] = None;
         }
     }
@@ -102,7 +105,33 @@ impl RunQueue {
     }
 }
 
-// Where the key of the entity stands, or would stand: a binary search.
+// Returns where the entity stands, which has this key. A pick nearly always takes out the first entity, so the front is
+// looked at before a search.
+fn find(order: &[Place], key: Key, entity: EntityId) -> usize
+    requires sorted { IsSortedQueue order.now }
+    requires there { StandsBy order.now key entity }
+    ensures { slice_get order.now result ≡ Some (record { key = key; entity = entity }) }
+{
+    match order.first() {
+        Some(front) if front.entity == entity => 0,
+        _ => place_of(order, key, entity),
+    }
+}
+
+// Takes out what stands at this place. The last is popped, since nothing stands behind it that would move.
+fn take_out(order: &mut Vec<Place>, place: usize)
+    requires { place < length order.old.items }
+    ensures items { order.new.items ≡ remove order.old.items place }
+    ensures room { vec_capacity order.new ≡ vec_capacity order.old }
+{
+    if place + 1 == order.len() {
+        order.pop();
+    } else {
+        order.remove(place);
+    }
+}
+
+// Returns where the key of the entity stands, or would stand: a binary search.
 fn place_of(order: &[Place], key: Key, entity: EntityId) -> usize
     requires { IsSortedQueue order.now }
     ensures within { result ≤ length order.now }

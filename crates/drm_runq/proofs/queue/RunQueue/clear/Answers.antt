@@ -11,7 +11,7 @@ invariant_of-self c =
     let has : HasKey c.self.inside.keys.items c.args.entity c.in-Some.key =
     slice_get-get_or c.self.inside.keys.items c.args.entity _ inside ∙ ap Some (sym c.index.ensures ∙ c.in-Some.is) in
     let count : length (set c.self.inside.keys.items c.args.entity None) ≡ length c.self.inside.keys.items = length-set c.self.inside.keys.items c.args.entity None in (
-      cleared_by _ _ _ _ _ c.args.entity c.in-Some.key c.deref.ensures.value c.self.invariant.0 has c.place_of-place.ensures.before c.place_of-place.ensures.after c.remove.ensures.items,
-      omega (arith, count, c.self.invariant.1, c.remove.ensures.capacity),
+      cleared_by _ _ _ _ _ c.args.entity c.in-Some.key c.deref.ensures.value c.self.invariant.0 has c.find-place.ensures c.take_out.ensures.items,
+      omega (arith, count, c.self.invariant.1, c.take_out.ensures.room),
       omega (arith, count, c.self.invariant.2),
     )
