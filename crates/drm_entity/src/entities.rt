@@ -14,7 +14,7 @@ pub struct Links {
     /// The last number of the queue, where it has one.
     pub last: FenceId,
     /// How many numbers the queue has.
-    pub len: usize,
+    pub len: u32,
     /// Whether the entity takes no more jobs.
     pub is_stopped: bool,
     /// Whether the entity is guilty of a hang.
@@ -30,7 +30,7 @@ pub struct Entities {
 }
 
 impl Model for Entities {
-    ghost use Rattle.std.specs.Prelude.{map, vec_capacity};
+    ghost use Rattle.std.specs.Prelude.{◌<◌, ◌^◌, map, vec_capacity};
     ghost use Rattle.drm_entity.specs.Rows.{EntityRows};
     ghost use Rattle.drm_entity.specs.Linked.{row_of, IsLinked};
 
@@ -38,7 +38,7 @@ impl Model for Entities {
 
     ghost view = { λ e. record { places = vec_capacity e.next; rows = map (row_of e.next.items) e.links.items } };
 
-    ghost invariant = { λ e. IsLinked e.next.items e.links.items };
+    ghost invariant = { λ e. IsLinked e.next.items e.links.items × (vec_capacity e.next < 2 ^ 32) };
 }
 
 // There is a link for this number, which has a place. Those that are new lead nowhere.

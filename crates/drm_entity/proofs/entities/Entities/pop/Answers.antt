@@ -21,25 +21,25 @@ returns-then-links-eq0-clause-none c =
 pub index-requires : goal.index-requires
 index-requires c =
     let at = link_at _ _ _ _ _ _ c.self.view_is c.requires c.index_mut-links.ensures.value in
-    let fits = first_fits _ _ _ _ c.self.invariant at c.if-links-eq0.false in omega (arith, fits)
+    let fits = first_fits _ _ _ _ c.self.invariant.0 at c.if-links-eq0.false in omega (arith, fits)
 
 pub invariant_of-self-2 : goal.invariant_of-self-2
 invariant_of-self-2 c =
     let next = c.self.inside.next.items in
     let l = c.index_mut-links.result.now in
     let at = link_at _ _ _ _ _ _ c.self.view_is c.requires c.index_mut-links.ensures.value in
-    let fits = first_fits _ _ _ _ c.self.invariant at c.if-links-eq0.false in
+    let fits = first_fits _ _ _ _ c.self.invariant.0 at c.if-links-eq0.false in
     let behind : c.index.result.now ≡ get_or next l.first 0 =
     sym (get_or_from_slice_get next l.first _ 0 (slice_get-get_or _ _ _ fits ∙ ap Some (sym c.index.ensures))) in
     let rest = popped_rest next l (record l { first = c.index.result.now; len = l.len - 1 }) c.if-links-eq0.false behind refl in
-    linked_popped _ _ _ _ _ _ c.self.invariant at rest.0 refl rest.1
+    (linked_popped _ _ _ _ _ _ c.self.invariant.0 at rest.0 refl rest.1, c.self.invariant.1)
 
 pub returns-clause-some : goal.returns-clause-some
 returns-clause-some c =
     let next = c.self.inside.next.items in
     let l = c.index_mut-links.result.now in
     let at = link_at _ _ _ _ _ _ c.self.view_is c.requires c.index_mut-links.ensures.value in
-    let fits = first_fits _ _ _ _ c.self.invariant at c.if-links-eq0.false in
+    let fits = first_fits _ _ _ _ c.self.invariant.0 at c.if-links-eq0.false in
     let behind : c.index.result.now ≡ get_or next l.first 0 =
     sym (get_or_from_slice_get next l.first _ 0 (slice_get-get_or _ _ _ fits ∙ ap Some (sym c.index.ensures))) in
     let left : Links = record l { first = c.index.result.now; len = l.len - 1 } in

@@ -1,4 +1,4 @@
-use Rattle.std.proofs.Common.{◌≡◌, ℕ, ◌+◌, List, [], ◌∷◌, ◌++◌, length-set, set, map, Vec, Global, refl, sym, ap, subst, arith}
+use Rattle.std.proofs.Common.{◌≡◌, ℕ, ◌+◌, ◌^◌, ◌<◌, List, [], ◌∷◌, ◌++◌, length-set, set, map, Vec, Global, refl, sym, ap, subst, arith}
 use Rattle.drm_entity.specs.declared.entities.Links.{Links}
 use Rattle.drm_entity.proofs.entities.Entities.push.Goals.{then-links-eq0, else-links-eq0}
 use Rattle.drm_entity.proofs.Seen.{link_at, last_fits, fresh_nowhere}
@@ -17,13 +17,13 @@ longer l number = record l { last = number; len = l.len + 1 }
 pub index_mut-requires : goal.index_mut-requires
 index_mut-requires c =
     let at = link_at _ _ _ _ _ _ c.self.view_is c.requires.entity c.index_mut-links.ensures.value in
-    let linked = alike_linked _ _ _ c.self.invariant c.add_links.ensures.links c.add_links.ensures.longer in
+    let linked = alike_linked _ _ _ c.self.invariant.0 c.add_links.ensures.links c.add_links.ensures.longer in
     let fits = last_fits _ _ _ _ linked at c.if-links-eq0.false in omega (arith, fits)
 
 pub overflow_add-links : goal.overflow_add-links
 overflow_add-links c =
     let at = link_at _ _ _ _ _ _ c.self.view_is c.requires.entity c.index_mut-links.ensures.value in
-    let linked = alike_linked _ _ _ c.self.invariant c.add_links.ensures.links c.add_links.ensures.longer in
+    let linked = alike_linked _ _ _ c.self.invariant.0 c.add_links.ensures.links c.add_links.ensures.longer in
     let view = alike_shown _ _ _ c.add_links.new.next.items _ _ c.self.view_is c.add_links.ensures.links c.add_links.ensures.room in
     let room = queue_fits _ _ _ c.args.number _ linked at c.add_links.ensures.there (fresh_nowhere _ _ _ _ _ view c.requires.fresh) in
     elim c.if-links-eq0.branch [
@@ -38,23 +38,30 @@ invariant_of-self c =
     let links = c.self.inside.links.items in
     let l = c.index_mut-links.result.now in
     let at = link_at _ _ _ _ _ _ c.self.view_is c.requires.entity c.index_mut-links.ensures.value in
-    let linked = alike_linked _ _ _ c.self.invariant c.add_links.ensures.links c.add_links.ensures.longer in
+    let linked = alike_linked _ _ _ c.self.invariant.0 c.add_links.ensures.links c.add_links.ensures.longer in
     let view = alike_shown _ _ _ next _ _ c.self.view_is c.add_links.ensures.links c.add_links.ensures.room in
     let fits = c.add_links.ensures.there in
+    let room : vec_capacity c.add_links.new.next < 2 ^ 32 = omega (arith, c.self.invariant.1, c.add_links.ensures.room) in
     let fresh = fresh_nowhere _ _ _ _ _ view c.requires.fresh in
     elim c.if-links-eq0.branch [
       | then-links-eq0 w ↦
           let new = longer (record l { first = number }) number in
-          subst (λ n. IsLinked n.items (set links c.args.entity (longer c.if-links-eq0.links number))) (sym (ap (λ t. t.1.1.0) w.self-inside-is))
-          (subst (λ k. IsLinked next (set links c.args.entity (longer k number))) (sym w.links-is)
-          (linked_pushed _ _ _ _ number _ new linked at refl fits fresh (pushed_first next l new number w.if-links-eq0.true refl (omega (arith, w.if-links-eq0.true)))
-          refl (omega arith) (λ f m away at_f. refl)))
+          subst (λ n. IsLinked n.items (set links c.args.entity (longer c.if-links-eq0.links number)) × (vec_capacity n < 2 ^ 32))
+          (sym (ap (λ t. t.1.1.0) w.self-inside-is)) (
+            subst (λ k. IsLinked next (set links c.args.entity (longer k number))) (sym w.links-is)
+                (linked_pushed _ _ _ _ number _ new linked at refl fits fresh (pushed_first next l new number w.if-links-eq0.true refl (omega (arith, w.if-links-eq0.true)))
+                refl (omega arith) (λ f m away at_f. refl)),
+            room,
+          )
       | else-links-eq0 w ↦
-          subst (λ n. IsLinked n.items (set links c.args.entity (longer c.if-links-eq0.links number))) (sym (ap (λ t. t.1.1.0) w.self-inside-is))
-          (subst (λ k. IsLinked (set next l.last number) (set links c.args.entity (longer k number))) (sym w.links-is)
-          (linked_pushed _ _ _ _ number _ (longer l number) linked at (length-set _ _ _) fits fresh
-          (pushed_more _ _ _ number _ (longer l number) linked at w.if-links-eq0.false refl refl) refl (omega arith)
-          (others_kept _ _ _ number _ linked at w.if-links-eq0.false)))
+          subst (λ n. IsLinked n.items (set links c.args.entity (longer c.if-links-eq0.links number)) × (vec_capacity n < 2 ^ 32))
+          (sym (ap (λ t. t.1.1.0) w.self-inside-is)) (
+            subst (λ k. IsLinked (set next l.last number) (set links c.args.entity (longer k number))) (sym w.links-is)
+                (linked_pushed _ _ _ _ number _ (longer l number) linked at (length-set _ _ _) fits fresh
+                (pushed_more _ _ _ number _ (longer l number) linked at w.if-links-eq0.false refl refl) refl (omega arith)
+                (others_kept _ _ _ number _ linked at w.if-links-eq0.false)),
+            room,
+          )
     ]
 
 pub returns : goal.returns
@@ -64,7 +71,7 @@ returns c =
     let links = c.self.inside.links.items in
     let l = c.index_mut-links.result.now in
     let at = link_at _ _ _ _ _ _ c.self.view_is c.requires.entity c.index_mut-links.ensures.value in
-    let linked = alike_linked _ _ _ c.self.invariant c.add_links.ensures.links c.add_links.ensures.longer in
+    let linked = alike_linked _ _ _ c.self.invariant.0 c.add_links.ensures.links c.add_links.ensures.longer in
     let view = alike_shown _ _ _ next _ _ c.self.view_is c.add_links.ensures.links c.add_links.ensures.room in
     let more = λ (r : EntityRow). record r { queue = r.queue ++ number ∷ [] } in
     let shows = λ (n : Vec ℕ Global) (k : Links). ◌≡◌ {A = EntityRows} (record { places = vec_capacity n; rows = map (row_of n.items) (set links c.args.entity (longer k number)) }) (pushed c.args.self.now c.args.entity number) in

@@ -7,7 +7,7 @@ use Rattle.drm_entity.proofs.entities.Entities.stop.Goals as goal
 pub invariant_of-self : goal.invariant_of-self
 invariant_of-self c =
     let at = link_at _ _ _ _ _ _ c.self.view_is c.requires c.index_mut-links.ensures.value in
-    linked_marked _ _ _ _ _ c.self.invariant at refl refl refl
+    (linked_marked _ _ _ _ _ c.self.invariant.0 at refl refl refl, c.self.invariant.1)
 
 pub returns : goal.returns
 returns c =
