@@ -1,7 +1,7 @@
 ghost use Rattle.std.specs.Prelude.{◌≡◌, ◌≢◌, ℕ, ◌+◌, ◌*◌, ◌<◌, ◌≤◌, [], not, IfOk, length, vec_capacity, filter, slice_get, slice_set, Some, None, IfSome, IfNone, IsTrue, IsFalse};
 ghost use Rattle.drm_fence.specs.Cells.{pairs_in, is_released, fence_of};
 ghost use Rattle.drm_fence.specs.Waiting.{without_entity};
-ghost use Rattle.drm_fence.specs.Linked.{IsLinked, IsOf, IsEarly, behind_of};
+ghost use Rattle.drm_fence.specs.Linked.{IsLinked, IsOf, IsEarly, behind_of, linked_place};
 ghost use Rattle.drm_fence.specs.declared.pair.Pair.{Pair};
 
 use crate::links::{Links, empty_rings, join};
@@ -56,7 +56,7 @@ impl Table {
         ensures places { length self.new.links.items ≡ length self.old.links.items + 1 }
         ensures room { vec_capacity self.new.links ≡ vec_capacity self.old.links }
     {
-        let end = self.links.len();
+        let end = self.cells.len() as u16;
         self.links.push_reserved(Links {
             before: end,
             behind: end,
@@ -94,24 +94,25 @@ impl Table {
         ensures room { vec_capacity self.new.links ≡ vec_capacity self.old.links }
     {
         let (before, behind) = self.gap_for(pair);
-        join(&mut self.links, before, place);
-        join(&mut self.links, place, behind);
+        let cells = self.cells.len();
+        join(&mut self.links, cells, pair.fence, before, place as u16);
+        join(&mut self.links, cells, pair.fence, place as u16, behind);
         self.cells[place] = Some(pair);
         self.unmet[pair.entity as usize] += 1;
     }
 
-    // The neighbours between which a pair goes: at the front of the list of its fence where it is early, else at the
-    // end.
-    fn gap_for(&self, pair: Pair) -> (usize, usize)
+    // Returns the links to the neighbours between which a pair goes: at the front of the list of its fence where it is
+    // early, else at the end.
+    fn gap_for(&self, pair: Pair) -> (u16, u16)
         requires linked { IsLinked self.now.cells.items self.now.unmet.items self.now.links.items }
         requires fence { length self.now.cells.items + pair.fence < length self.now.links.items }
-        ensures inside { IsOf self.now.cells.items (length self.now.links.items) result.0 pair.fence }
-        ensures neighbours { behind_of self.now.links.items result.0 ≡ result.1 }
-        ensures front { IsTrue pair.is_early → result.0 < length self.now.cells.items → IsEarly self.now.cells.items result.0 }
-        ensures behind { IsEarly self.now.cells.items result.1 → IsTrue pair.is_early }
+        ensures inside { let place = linked_place (length self.now.cells.items) pair.fence in IsOf self.now.cells.items (length self.now.links.items) (place result.0) pair.fence }
+        ensures neighbours { let place = linked_place (length self.now.cells.items) pair.fence in place (behind_of self.now.links.items (place result.0)) ≡ place result.1 }
+        ensures front { let place = linked_place (length self.now.cells.items) pair.fence in IsTrue pair.is_early → place result.0 < length self.now.cells.items → IsEarly self.now.cells.items (place result.0) }
+        ensures behind { let place = linked_place (length self.now.cells.items) pair.fence in IsEarly self.now.cells.items (place result.1) → IsTrue pair.is_early }
     {
-        let end = self.cells.len() + pair.fence as usize;
-        let links = self.links[end];
+        let links = self.links[self.cells.len() + pair.fence as usize];
+        let end = self.cells.len() as u16;
         if pair.is_early {
             (end, links.behind)
         } else {
@@ -130,7 +131,8 @@ impl Table {
         ensures room { vec_capacity self.new.links ≡ vec_capacity self.old.links }
     {
         let Links { before, behind } = self.links[place];
-        join(&mut self.links, before, behind);
+        let cells = self.cells.len();
+        join(&mut self.links, cells, pair.fence, before, behind);
         self.cells[place] = None;
         self.unmet[pair.entity as usize] -= 1;
     }
@@ -150,7 +152,8 @@ impl Table {
         ensures some { IfSome result (λ found. (slice_get self.now.cells.items found.0 ≡ Some (Some found.1)) × IsTrue (is_released why found.1)) }
         ensures none { IfNone result ((k : ℕ) (p : Pair) → slice_get self.now.cells.items k ≡ Some (Some p) → IsFalse (is_released why p)) }
     {
-        let place = self.links[self.cells.len() + why.fence() as usize].behind;
+        // A link to the end leads to no cell, so there is no pair.
+        let place = self.links[self.cells.len() + why.fence() as usize].behind as usize;
         let pair = self.pair_at(place)?;
         if why.releases(pair) {
             Some((place, pair))

@@ -6,7 +6,8 @@ use Rattle.drm_fence.proofs.table.Table.add_list.Goals as goal
 
 pub returns-clause-linked : goal.returns-clause-linked
 returns-clause-linked c =
+    let cells = c.args.self.now.cells.items in
     let links = c.args.self.now.links.items in
-    let end : c.len-end.result ≡ length links = omega (arith, c.len-end.ensures) in
+    let end : c.len-end.result ≡ length cells = omega (arith, c.len-end.ensures) in
     let pushed = c.push_reserved.ensures.items ∙ ap (λ n. let last : Links = record { before = n; behind = n } in links ++ last ∷ []) end in
-    subst (IsLinked c.args.self.now.cells.items c.args.self.now.unmet.items) (sym pushed) (more_linked _ _ links c.requires.linked c.requires.places)
+    subst (IsLinked cells c.args.self.now.unmet.items) (sym pushed) (more_linked cells _ links c.requires.linked c.requires.places)

@@ -12,7 +12,7 @@ returns-clause-linked c =
     let counts : c.in_ok-vec-2.field-0.items ≡ replicate c.args.entities 0 = search rules in
     subst (λ (l : List (Option Pair)). IsLinked l c.in_ok-vec-2.field-0.items c.in_ok-empty_rings.field-0.items) (sym cells)
     (subst (λ l. IsLinked (replicate (c.args.entities * 64) None) l c.in_ok-empty_rings.field-0.items) (sym counts)
-    (none_linked c.args.entities c.in_ok-empty_rings.field-0.items c.requires c.in_ok-empty_rings.ensures.places c.in_ok-empty_rings.ensures.behind c.in_ok-empty_rings.ensures.before))
+    (none_linked c.args.entities c.in_ok-empty_rings.field-0.items c.requires c.in_ok-empty_rings.ensures.places))
 
 pub returns-clause-pairs : goal.returns-clause-pairs
 returns-clause-pairs c =
