@@ -1,5 +1,5 @@
 -- A finish of a complete head is the finish of its definition, and keeps the tables whole.
-use Rattle.std.proofs.Common.{◌≡◌, ℕ, ◌+◌, set, ◌<◌, true, false, not, cond, List, ◌∷◌, length, map, Some, None, refl, sym, ap, subst, ◌∙◌, inl, inr, arith, slice_get, suc, drop, ◌-◌}
+use Rattle.std.proofs.Common.{◌≡◌, ℕ, ◌+◌, set, ◌<◌, true, not, cond, List, ◌∷◌, length, map, Some, None, refl, sym, ap, subst, ◌∙◌, inl, inr, arith, slice_get, suc, drop, ◌-◌}
 use Rattle.std.specs.declared.alloc.Global.{Global}
 use Rattle.std.specs.Prelude.{vec_capacity, Vec}
 use Rattle.std.specs.Option.{option_map_or}

@@ -24,10 +24,12 @@ use Rattle.drm_entity.specs.Rows.{EntityRows, queue_at, popped}
 use Rattle.drm_state.specs.declared.journal.JobRecord.{JobRecord}
 use Rattle.drm_ring.specs.RingRows.{RingRow, pending_at, passed_at, ring_row_changed, put_in, put_row}
 use Rattle.drm_table.specs.declared.table.Table.{Table}
+use Rattle.drm_state.specs.declared.answer.Refusal.TheVariants.{Idle, NoCredit}
 use Rattle.drm_state.specs.declared.answer.Answer.TheVariants as answer
 use Rattle.drm_state.specs.Journal.{changed_at, is_complete}
 use Rattle.drm_state.specs.Choice.{choice}
 use Rattle.drm_state.specs.Ring.{credits_of, free_credits, credit_limit_of, pending_of, is_guilty, ring_changed}
+use Rattle.drm_state.specs.State.{DeviceState}
 use Rattle.drm_state.specs.Refusals.{pick_refusal}
 use Rattle.drm_state.specs.Outcomes.{pick_outcome, picked_device}
 use Rattle.drm_state.specs.Loads.{Standing, LoadsOf}
@@ -224,6 +226,14 @@ pick_done t ring now f credits r skipped journal fences put rows entities w ther
           (λ g x at_g scheduled apart. open_elsewhere t f g r x skipped journal.items items at queued at_g scheduled)) refl
           (rooms_kept t (picked_tables t journal fences rows entities) w.rooms refl room refl places left_queue.places),
     )
+
+-- a pick of a choice that does not fit
+pub pick_short : (d : DeviceState) (ring f need free : ℕ) → choice d ring ≡ Some f → need ≡ credits_of d ring f → free ≡ free_credits d ring → free < need
+    → pick_refusal d ring ≡ Some (NoCredit need free)
+pick_short d ring f need free is need_is free_is short =
+    ap (λ o. option_map_or (λ f. when (nat_lt (free_credits d ring) (credits_of d ring f)) (NoCredit (credits_of d ring f) (free_credits d ring))) o (Some Idle)) is
+    ∙ (ap (λ k. when (nat_lt (free_credits d ring) k) (NoCredit k (free_credits d ring))) (sym need_is)
+    ∙ (ap (λ k. when (nat_lt k need) (NoCredit need k)) (sym free_is) ∙ ap (λ b. when b (NoCredit need free)) (lt-ltb free need short)))
 
 -- numbers as tests
 pub not_less : (a b x y : ℕ) → b ≤ a → x ≡ a → y ≡ b → nat_lt x y ≡ false

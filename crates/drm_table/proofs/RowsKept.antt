@@ -207,3 +207,11 @@ need_fits t ring f n r row w at at_f told fits =
     let need = ap (need_of row.credits) told ∙ need_is t ring f r row w at at_f in
     let free = free_is t ring row w at in
     omega (arith, le, need, free)
+
+-- what the job needs, as the ring's list tells it
+pub need_told : (t : Table) (ring f n : ℕ) (r : JobRecord) (credits : Counted) → IsWhole t → ring < length t.spec.rings → slice_get t.journal.items f ≡ Some r
+    → IfSome (slice_get t.rings ring) (λ (z : RingRow). credits ≡ z.credits) → n ≡ r.job.credits → need_of credits n ≡ credits_of (state_of t) ring f
+need_told t ring f n r credits w there at lent told =
+    let row = row_found t ring w there in
+    let here : credits ≡ row.0.credits = subst (λ o. IfSome o (λ (z : RingRow). credits ≡ z.credits)) row.1 lent in
+    ap (λ (z : Counted). need_of z n) here ∙ (ap (need_of row.0.credits) told ∙ need_is t ring f r row.0 w row.1 at)

@@ -33,14 +33,15 @@ impl Table {
         let Some(number) = chosen else {
             return Err(PickError::Idle);
         };
-        let need = self.credits(ring, number) as u32;
-        let free = self.free_credits(ring);
-        if need > free {
-            return Err(PickError::NoCredit { need, free });
-        }
         let job = &self.journal[number as usize].job;
         let entity = job.entity();
         let credits = job.credits();
+        let ring_credits = self.rings.credits(ring);
+        let need = ring_credits.need(credits) as u32;
+        let free = ring_credits.free() as u32;
+        if need > free {
+            return Err(PickError::NoCredit { need, free });
+        }
         let skipped = self.entities.is_guilty(entity);
         schedule_job(&mut self.journal, &mut self.fences, number, skipped);
         self.entities.pop(entity);

@@ -1,5 +1,5 @@
 ghost use Rattle.std.specs.Prelude.{◌≡◌, ◌<◌, length, Some, slice_get};
-ghost use Rattle.drm_state.specs.Ring.{current_of, head_of, credits_of, free_credits};
+ghost use Rattle.drm_state.specs.Ring.{current_of, head_of};
 ghost use Rattle.drm_table.specs.Tables.{state_of, IsWhole};
 
 use drm_buffer::Store;
@@ -7,7 +7,7 @@ use drm_entity::Entities;
 use drm_fence::Timeline;
 use drm_resv::StoredDeps;
 use drm_ring::Rings;
-use drm_state::{JobRecord, Loads, counted_credits};
+use drm_state::{JobRecord, Loads};
 use drm_types::{DeviceSpec, FenceId, RingId, RingSpec};
 
 /// The tables of a device. Its calls are proved over these plain fields, and `Device` keeps them together.
@@ -49,23 +49,5 @@ impl Table {
         ensures { result ≡ head_of (state_of self.now) ring }
     {
         self.rings.head(ring)
-    }
-
-    /// The credits that the ring has left (`drm_sched_available_credits`).
-    pub(crate) fn free_credits(&self, ring: RingId) -> u32
-        requires there { ring < length self.now.spec.rings }
-        requires whole { IsWhole self.now }
-        ensures { result ≡ free_credits (state_of self.now) ring }
-    {
-        self.rings.credits(ring).free() as u32
-    }
-
-    /// How many credits the job counts with on the ring.
-    pub(crate) fn credits(&self, ring: RingId, fence: FenceId) -> u16
-        requires { ring < length self.now.spec.rings }
-        ensures { result ≡ credits_of (state_of self.now) ring fence }
-    {
-        let limit = self.ring_spec(ring).credit_limit;
-        counted_credits(&self.journal, fence, limit)
     }
 }
