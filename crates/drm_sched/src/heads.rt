@@ -21,8 +21,8 @@ use std::alloc::{AllocError, Global};
 /// for (`dependency` of `struct drm_sched_entity`).
 #[derive(Drop)]
 pub struct Heads {
-    pub queues: Vec<RunQueue>,
     pub waiters: Waiters,
+    pub queues: Vec<RunQueue>,
 }
 
 // Run queues with nothing in them, for this many entities.

@@ -53,10 +53,13 @@ impl OutMark {
 
 /// The parts of a device: its tables, what each of its rings has out, and the heads of its queues, by which a pick
 /// finds its job. `Device` keeps them together.
+///
+/// The marks stand before the first fields of the tables, since a step reads both. The heads stand behind the loads,
+/// since a finish changes both. So a call touches few cache lines.
 #[derive(Drop)]
 pub struct Parts {
-    pub table: Table,
     pub marks: Vec<Option<OutMark>>,
+    pub table: Table,
     pub heads: Heads,
 }
 
