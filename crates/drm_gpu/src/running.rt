@@ -130,7 +130,7 @@ impl Gpu {
     {
         let mut device = self.enter_for(seat, &Needs::Step(ring), rt);
         let found = Snapshot::of(&device);
-        match device.begin_step(ring) {
+        match device.begin_unblocked_step(ring) {
             Ok(
                 Begun::Work {
                     fence,

@@ -128,7 +128,27 @@ impl Device {
         ensures back { IfOk result (MayComeBack self.new ring) }
         ensures tasks { KeepsTasks self.old ring self.new }
     {
-        self.parts.begin_step(ring)
+        if self.is_step_blocked(ring) {
+            return Err(StepError::PacketOut);
+        }
+        self.begin_unblocked_step(ring)
+    }
+
+    /// Sends the ring's next packet out as `begin_step` does, for a caller who has asked `is_step_blocked` already.
+    ///
+    /// # Errors
+    ///
+    /// `Idle` if no pending job has packets left.
+    pub fn begin_unblocked_step(&mut self, ring: RingId) -> Result<Begun, StepError>
+        requires there { ring < length self.old.state.spec.rings }
+        requires free { is_step_blocked self.old ring ≡ false }
+        ensures call { BeginIs ring result self.old self.new }
+        ensures state { self.new.state ≡ self.old.state }
+        ensures runs { IfOk result MayRun }
+        ensures back { IfOk result (MayComeBack self.new ring) }
+        ensures tasks { KeepsTasks self.old ring self.new }
+    {
+        self.parts.begin_unblocked_step(ring)
     }
 
     /// Returns whether the ring has a packet out, which blocks a finish and a timeout.

@@ -1,7 +1,8 @@
 //! Packets that go out of a device with their buffers, and come back.
-ghost use Rattle.std.specs.Prelude.{◌<◌, length, IfOk};
+ghost use Rattle.std.specs.Prelude.{◌≡◌, ◌<◌, length, false, IfOk};
 ghost use Rattle.drm_sched.specs.Begun.{IsReport, HasReported, MayRun};
 ghost use Rattle.drm_sched.specs.Calls.{BeginIs};
+ghost use Rattle.drm_sched.specs.Marks.{is_step_blocked};
 ghost use Rattle.drm_sched.specs.Parts.{marked_of, IsWholeMarked, HasHeads};
 
 use crate::parts::{OutMark, Parts};
@@ -31,8 +32,9 @@ pub enum Begun {
 
 impl Parts {
     /// Sends the ring's next packet out with its buffers.
-    pub(crate) fn begin_step(&mut self, ring: RingId) -> Result<Begun, StepError>
+    pub(crate) fn begin_unblocked_step(&mut self, ring: RingId) -> Result<Begun, StepError>
         requires there { ring < length self.old.table.spec.rings }
+        requires free { is_step_blocked (marked_of self.old) ring ≡ false }
         requires whole { IsWholeMarked self.old }
         requires heads { HasHeads self.old }
         ensures call { BeginIs ring result (marked_of self.old) (marked_of self.new) }
@@ -40,9 +42,6 @@ impl Parts {
         ensures whole { IsWholeMarked self.new }
         ensures heads { HasHeads self.new }
     {
-        if self.is_step_blocked(ring) {
-            return Err(StepError::PacketOut);
-        }
         let Some(number) = self.table.current(ring) else {
             return Err(StepError::Idle);
         };

@@ -31,16 +31,16 @@ pub leave_sent-requires-clause-busy : goal.leave_sent-requires-clause-busy
 leave_sent-requires-clause-busy g c =
     let w = c.in-Ok-Work in
     let out : OutPacket = record { ring = c.args.ring; fence = w.fence; packet = w.packet; is_last = c.is_last.result; copy = w.copy; write = w.write; read = w.read } in
-    subst (IsBusy c.begin_step.new.self) (sym c.task.ensures)
-    (waits_for c.enter_for-device.result c.begin_step.new.self out
-    (subst (λ b. HasBegun c.enter_for-device.result c.args.ring b c.begin_step.new.self) w.field-0-is w.ensures.call.1)
-    (subst (MayComeBack c.begin_step.new.self c.args.ring) w.field-0-is w.ensures.back))
+    subst (IsBusy c.begin_unblocked_step.new.self) (sym c.task.ensures)
+    (waits_for c.enter_for-device.result c.begin_unblocked_step.new.self out
+    (subst (λ b. HasBegun c.enter_for-device.result c.args.ring b c.begin_unblocked_step.new.self) w.field-0-is w.ensures.call.1)
+    (subst (MayComeBack c.begin_unblocked_step.new.self c.args.ring) w.field-0-is w.ensures.back))
 
 pub returns-in-Ok-Work : goal.returns-in-Ok-Work
 returns-in-Ok-Work g c =
     let w = c.in-Ok-Work in
     let d = c.enter_for-device.result in
-    let e = c.begin_step.new.self in
+    let e = c.begin_unblocked_step.new.self in
     let s = c.leave_sent.new.seat in
     let out : OutPacket = record { ring = c.args.ring; fence = w.fence; packet = w.packet; is_last = c.is_last.result; copy = w.copy; write = w.write; read = w.read } in
     let begun = subst (λ b. HasBegun d c.args.ring b e) w.field-0-is w.ensures.call.1 in
@@ -66,20 +66,20 @@ pub leave-requires-clause-onward : goal.leave-requires-clause-onward
 leave-requires-clause-onward g c =
     let s = c.in-Ok-Stalled in
     let d = c.enter_for-device.result in
-    let e = c.begin_step.new.self in
+    let e = c.begin_unblocked_step.new.self in
     let same : e.state ≡ d.state = s.ensures.state in
     subst (λ x. GrowsTo x e) (sym c.of-found.ensures) (subst (λ (x : DeviceState). Grows x e.state) same (grows_itself e))
 
 pub leave-requires-in-Err-clause-onward : goal.leave-requires-in-Err-clause-onward
 leave-requires-in-Err-clause-onward g c =
     let d = c.enter_for-device.result in
-    let e = c.begin_step.new.self in
+    let e = c.begin_unblocked_step.new.self in
     subst (λ x. GrowsTo x e) (sym c.of-found.ensures) (subst (λ x. GrowsTo x e) c.in-Err.ensures.call.1 (grows_itself e))
 
 pub returns : goal.returns
 returns g c =
     let d = c.enter_for-device.result in
-    let e = c.begin_step.new.self in
+    let e = c.begin_unblocked_step.new.self in
     let why = c.in-Err.ensures.call in
     let idle = only_idle d c.args.ring _ (refusal_of_step c.in-Err._idle) c.enter_for-device.ensures.free why.0 in
     let step : device.StepIs c.args.ring (Err Idle) d e = record { done = tt; refused = (idle, why.1); marks = ap (λ (m : MarkedDevice). m.marks) why.1 } in (
@@ -94,7 +94,7 @@ pub returns-in-Ok-Stalled : goal.returns-in-Ok-Stalled
 returns-in-Ok-Stalled g c =
     let s = c.in-Ok-Stalled in
     let d = c.enter_for-device.result in
-    let e = c.begin_step.new.self in
+    let e = c.begin_unblocked_step.new.self in
     let begun = subst (λ b. HasBegun d c.args.ring b e) s.field-0-is s.ensures.call.1 in
     let stalls = subst (λ (x : DeviceState). step_outcome d.state c.args.ring ≡ (answer.Stalled s.fence, x)) (sym (ap (λ (m : MarkedDevice). m.state) begun.1)) begun.0 in
     let step : device.StepIs c.args.ring (Ok (Stalled s.fence)) d e = record { done = (s.ensures.call.0, stalls); refused = tt; marks = ap (λ (m : MarkedDevice). m.marks) begun.1 } in (

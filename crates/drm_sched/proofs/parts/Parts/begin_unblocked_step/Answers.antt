@@ -13,7 +13,7 @@ use Rattle.drm_table.proofs.TableFacts.{neither, next_in_range, running_at, runn
 use Rattle.drm_sched.proofs.HeadsBeside.{same_state}
 use Rattle.drm_sched.proofs.MarkedOut.{asks_is, next_is_in}
 use Rattle.drm_sched.proofs.MarkedBegun.{MayGo, sent_is, sent_marked, parts_run}
-use Rattle.drm_sched.proofs.parts.Parts.begin_step.Goals as goal
+use Rattle.drm_sched.proofs.parts.Parts.begin_unblocked_step.Goals as goal
 
 pub index-record-requires : goal.index-record-requires
 index-record-requires c =
@@ -30,7 +30,7 @@ returns-then-must_stall-clause-call c =
     let t = c.args.self.now.table in
     let is = sym c.current.ensures ∙ c.in-Some.is in
     let run = running_found t c.args.ring c.in-Some.number c.index-record.result.now c.requires.whole.table c.requires.there is c.index-record.ensures in (
-      ap (λ b. out_or b (step_refusal (state_of t) c.args.ring)) (sym c.is_step_blocked.ensures ∙ c.if-is_step_blocked.false) ∙ step_may (state_of t) c.args.ring c.in-Some.number is,
+      ap (λ b. out_or b (step_refusal (state_of t) c.args.ring)) c.requires.free ∙ step_may (state_of t) c.args.ring c.in-Some.number is,
       (
         step_stalls (state_of t) c.args.ring c.in-Some.number c.index-record.result.now c.packet-packet.result is run.current.at c.packet-packet.ensures
             (ap (must_stall c.packet-packet.result) (sym c.resets.ensures) ∙ sym c.if-must_stall.ensures),
@@ -44,7 +44,7 @@ take-write-requires c b touched =
     let t = d.table in
     let is = sym c.current.ensures ∙ c.in-Some.is in
     let run = running_found t c.args.ring c.in-Some.number c.index-record.result.now c.requires.whole.table c.requires.there is c.index-record.ensures in
-    let free = neither (ring_out (marked_of d) c.args.ring) (buffer_out (marked_of d) c.args.ring) (sym c.is_step_blocked.ensures ∙ c.if-is_step_blocked.false) in
+    let free = neither (ring_out (marked_of d) c.args.ring) (buffer_out (marked_of d) c.args.ring) c.requires.free in
     next_is_in d c.args.ring c.requires.whole c.requires.there (asks_is d c.args.ring c.requires.whole c.requires.there ∙ free.1) c.in-Some.number c.packet-packet.result is
     (ap (λ o. option_map_or (λ (z : JobRecord). slice_get z.job.packets z.ran) o None) run.current.at ∙ c.packet-packet.ensures) b touched
 
@@ -60,7 +60,7 @@ returns-clause-call c =
     c.of.ensures
     ∙ (ap (λ o. let m : Mark = record { fence = c.in-Some.number; packet = r.ran; write = o; read = c.take-write.result.1 } in m) c.take-write.ensures.write
     ∙ ap (λ o. record (mark_for (state_of t) c.in-Some.number r p) { read = o }) c.take-write.ensures.read) in (
-      ap (λ b. out_or b (step_refusal (state_of t) c.args.ring)) (sym c.is_step_blocked.ensures ∙ c.if-is_step_blocked.false) ∙ step_may (state_of t) c.args.ring c.in-Some.number is,
+      ap (λ b. out_or b (step_refusal (state_of t) c.args.ring)) c.requires.free ∙ step_may (state_of t) c.args.ring c.in-Some.number is,
       (
         r,
         run.current.at,
@@ -97,7 +97,7 @@ returns-clause-whole c =
     ∙ ap (λ o. record (mark_for (state_of t) c.in-Some.number r p) { read = o }) c.take-write.ensures.read) in
     let may : MayGo d c.args.ring c.in-Some.number r p = record {
       there = c.requires.there;
-      free = sym c.is_step_blocked.ensures ∙ c.if-is_step_blocked.false;
+      free = c.requires.free;
       current = is;
       at = run.current.at;
       next = c.packet-packet.ensures;
