@@ -3,8 +3,8 @@ ghost use Rattle.std.specs.Prelude.{◌≡◌};
 ghost use Rattle.drm_job.specs.Fault.{IsJob};
 ghost use Rattle.drm_gpu_tests.specs.Pairs.{IsPair, pair_of};
 
-use crate::calls::{begun, made, planned, submitted};
-use crate::{fill, opened};
+use crate::calls::{begun, device, has_counts, is_job, made, planned, submitted};
+use crate::fill;
 use drm_gpu::{Gpu, Pass};
 use drm_job::Job;
 use drm_types::Access::{Read, Write};
@@ -12,15 +12,11 @@ use drm_types::BufferId;
 use std::alloc::Global;
 use std::process::Abort;
 use std::sync::Wait;
-use std::test::Fail;
 
 // The job is the one that was made.
 fn is_whole<R: Abort>(job: &Job, rt: &R) {
     let declared = [(BufferId::new(0), Write), (BufferId::new(1), Read)];
-    assert!(rt; job.entity() == 1 && job.credits() == 1);
-    assert!(rt; job.declared() == declared.as_slice());
-    assert!(rt; job.after().is_empty());
-    assert!(rt; job.packets() == [fill(0, 5)].as_slice());
+    is_job(job, 1, &declared, &[fill(0, 5)], rt);
 }
 
 // A submission that holds one of its two buffers.
@@ -80,18 +76,15 @@ fn given_up_planned<R: Wait + Abort>(
 
 // The same job goes through all of them, and is armed as the device's first.
 #[test]
-fn a_job_comes_back_from_each_state(rt: HostRuntime) -> Result<(), Fail> {
+fn a_job_comes_back_from_each_state(rt: HostRuntime) {
     let alloc = rt.alloc();
     let declared = [(0, Write), (1, Read)];
     let job = made(alloc, 1, &declared, &[fill(0, 5)], &rt);
-    let Some((gpu, pass)) = opened(alloc, 8) else {
-        panic!(rt; "no device")
-    };
+    let (gpu, pass) = device(alloc, 8, &rt);
     let (pass, job) = given_up_locking(&gpu, pass, job, &rt, alloc);
     let (pass, job) = given_up_locked(&gpu, pass, job, &rt, alloc);
     let (pass, job) = given_up_planned(&gpu, pass, job, &rt, alloc);
     is_whole(&job, &rt);
     let mut pass = submitted(&gpu, pass, job, 0, &rt, alloc);
-    assert!(rt; gpu.counts(&mut pass, &rt) == (1, 0));
-    Ok(())
+    has_counts(&gpu, &mut pass, (1, 0), &rt);
 }

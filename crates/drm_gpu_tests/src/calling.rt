@@ -5,8 +5,8 @@ ghost use Rattle.drm_buffer.specs.Memory.{bytes_of};
 ghost use Rattle.drm_job.specs.Fault.{IsJob};
 ghost use Rattle.drm_gpu_tests.specs.Pairs.{IsPair, pair_of};
 
-use crate::calls::{begun, made, runs};
-use crate::{add, fill, opened};
+use crate::add;
+use crate::calls::{armed, begun, device, filling, has_counts, made, plan, ready, runs};
 use drm_gpu::{BeginError, BeginReadError, Gpu, Locking, Pass};
 use drm_job::{Draft, Job, JobFault, ShortList};
 use drm_types::Access::{Read, Write};
@@ -15,7 +15,6 @@ use std::alloc::Global;
 use std::mem;
 use std::process::Abort;
 use std::sync::Wait;
-use std::test::Fail;
 
 // Submits a job: the pass, and the job's fence where it was armed.
 fn submit<R: Wait>(
@@ -101,17 +100,7 @@ fn is_armed_by_hand<R: Wait + Abort>(locking: Locking, fence: FenceId, rt: &R) -
     assert!(rt; locking.held_at(0) == Some(BufferId::new(0)));
     assert!(rt; locking.held_at(1) == Some(BufferId::new(1)));
     assert!(rt; locking.held_at(2).is_none());
-    let Ok(locked) = locking.ready() else {
-        panic!(rt; "not all held")
-    };
-    let Ok(planned) = locked.plan() else {
-        panic!(rt; "no memory")
-    };
-    let Ok(armed) = planned.arm(rt) else {
-        panic!(rt; "not armed")
-    };
-    assert_eq!(rt; armed.fence(), fence);
-    armed.release()
+    armed(plan(ready(locking, rt), rt), fence, rt)
 }
 
 // The job is submitted, and gets this number.
@@ -133,13 +122,11 @@ fn is_submitted<R: Wait + Abort>(
 }
 
 #[test]
-fn a_caller_submits_and_reads_back(rt: HostRuntime) -> Result<(), Fail> {
+fn a_caller_submits_and_reads_back(rt: HostRuntime) {
     let alloc = rt.alloc();
-    let first = made(alloc, 0, &[(0, Write)], &[fill(0, 5)], &rt);
+    let first = filling(alloc, 0, 0, 5, &rt);
     let second = made(alloc, 1, &[(0, Read), (1, Write)], &[add(0, 1)], &rt);
-    let Some((gpu, pass)) = opened(alloc, 8) else {
-        panic!(rt; "no device")
-    };
+    let (gpu, pass) = device(alloc, 8, &rt);
     let mut out = [9; 4];
     let pass = is_submitted(&gpu, pass, first, 0, &rt, alloc);
     let pass = is_armed_by_hand(begun(&gpu, pass, second, &rt, alloc), 1, &rt);
@@ -149,7 +136,6 @@ fn a_caller_submits_and_reads_back(rt: HostRuntime) -> Result<(), Fail> {
     runs(&gpu, &mut pass, 1, 1, (1, 2), &rt);
     let (_pass, is_read) = read_back(&gpu, pass, BufferId::new(1), &mut out, &rt, alloc);
     assert!(rt; is_read && out == [5; 4]);
-    Ok(())
 }
 
 // A draft of this entity, which uses nothing.
@@ -166,11 +152,9 @@ fn draft_for(alloc: Global, entity: EntityId) -> Draft
 }
 
 #[test]
-fn a_draft_is_checked_by_the_device(rt: HostRuntime) -> Result<(), Fail> {
+fn a_draft_is_checked_by_the_device(rt: HostRuntime) {
     let alloc = rt.alloc();
-    let Some((gpu, mut pass)) = opened(alloc, 8) else {
-        panic!(rt; "no device")
-    };
+    let (gpu, mut pass) = device(alloc, 8, &rt);
     let Err((draft, fault)) = gpu.check(&mut pass, draft_for(alloc, 2), &rt) else {
         panic!(rt; "not refused")
     };
@@ -180,6 +164,5 @@ fn a_draft_is_checked_by_the_device(rt: HostRuntime) -> Result<(), Fail> {
     };
     let (mut pass, fence) = submit(&gpu, pass, job, &rt, alloc);
     assert!(rt; fence == Some(0));
-    assert!(rt; gpu.counts(&mut pass, &rt) == (1, 0));
-    Ok(())
+    has_counts(&gpu, &mut pass, (1, 0), &rt);
 }

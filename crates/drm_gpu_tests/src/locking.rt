@@ -4,14 +4,13 @@ ghost use Rattle.ww_lock.specs.Steps.{without};
 ghost use Rattle.drm_gpu_tests.specs.Locks.{HoldsNow, HoldsMore};
 ghost use Rattle.drm_gpu_tests.specs.Pairs.{IsPair};
 
-use crate::calls::{armed, begun, made, planned};
-use crate::{fill, opened};
+use crate::calls::{armed, begun, device, has_counts, made, plan, planned, ready, same};
+use crate::fill;
 use drm_gpu::{Locking, Pass};
 use drm_types::Access::{Read, Write};
 use drm_types::{BufferId, FenceId, Ticket};
 use std::process::Abort;
 use std::sync::Wait;
-use std::test::Fail;
 use ww_lock::{LockError, TryLockError};
 
 // The buffer is free, and is held from here on.
@@ -42,7 +41,7 @@ fn finds_younger<R: Abort>(locking: &mut Locking, buffer: u32, ticket: Ticket, r
     let Err(TryLockError::Younger { holder }) = locking.try_lock(BufferId::new(buffer)) else {
         panic!(rt; "not younger")
     };
-    assert_eq!(rt; holder, ticket);
+    same(holder, ticket, rt);
 }
 
 // An older submission holds the buffer.
@@ -53,7 +52,7 @@ fn finds_older<R: Abort>(locking: &mut Locking, buffer: u32, ticket: Ticket, rt:
     let Err(TryLockError::Older { holder }) = locking.try_lock(BufferId::new(buffer)) else {
         panic!(rt; "not older")
     };
-    assert_eq!(rt; holder, ticket);
+    same(holder, ticket, rt);
 }
 
 // The submission holds the buffer already.
@@ -77,7 +76,7 @@ fn backs_off<R: Wait + Abort>(locking: &mut Locking, buffer: u32, ticket: Ticket
     let Err(LockError::Backoff { holder }) = locking.lock(BufferId::new(buffer), rt) else {
         panic!(rt; "no backoff")
     };
-    assert_eq!(rt; holder, ticket);
+    same(holder, ticket, rt);
 }
 
 // The submission gives the buffer back.
@@ -123,13 +122,7 @@ fn come_back<R: Wait + Abort>(older: &mut Locking, younger: &mut Locking, rt: &R
 fn is_armed_at_once<R: Wait + Abort>(locking: Locking, fence: FenceId, rt: &R) -> Pass
     ensures { result.gpu ≡ locking.entry.pass.gpu }
 {
-    let Ok(locked) = locking.ready() else {
-        panic!(rt; "not all held")
-    };
-    let Ok(planned) = locked.plan() else {
-        panic!(rt; "no memory")
-    };
-    armed(planned, fence, rt)
+    armed(plan(ready(locking, rt), rt), fence, rt)
 }
 
 // The older has nothing yet, so it isn't ready, and goes on.
@@ -143,13 +136,11 @@ fn is_armed_later<R: Wait + Abort>(locking: Locking, fence: FenceId, rt: &R) -> 
 }
 
 #[test]
-fn the_younger_backs_off_and_comes_back(rt: HostRuntime) -> Result<(), Fail> {
+fn the_younger_backs_off_and_comes_back(rt: HostRuntime) {
     let alloc = rt.alloc();
     let first = made(alloc, 0, &[(0, Write), (1, Read)], &[fill(0, 5)], &rt);
     let second = made(alloc, 1, &[(1, Write), (0, Write)], &[fill(1, 6)], &rt);
-    let Some((gpu, pass)) = opened(alloc, 8) else {
-        panic!(rt; "no device")
-    };
+    let (gpu, pass) = device(alloc, 8, &rt);
     let (p, q) = gpu.split(pass);
     let mut older = begun(&gpu, p, first, &rt, alloc);
     let mut younger = begun(&gpu, q, second, &rt, alloc);
@@ -159,8 +150,7 @@ fn the_younger_backs_off_and_comes_back(rt: HostRuntime) -> Result<(), Fail> {
     let q = is_armed_at_once(younger, 0, &rt);
     let p = is_armed_later(older, 1, &rt);
     let mut pass = gpu.join(p, q);
-    assert!(rt; gpu.counts(&mut pass, &rt) == (2, 0));
-    Ok(())
+    has_counts(&gpu, &mut pass, (2, 0), &rt);
 }
 
 // One of the two buffers is not held, so the submission comes back with the other.
@@ -179,13 +169,10 @@ fn lacks_one<R: Wait + Abort>(locking: Locking, rt: &R) -> Pass
 }
 
 #[test]
-fn a_submission_without_a_buffer_is_not_ready(rt: HostRuntime) -> Result<(), Fail> {
+fn a_submission_without_a_buffer_is_not_ready(rt: HostRuntime) {
     let alloc = rt.alloc();
     let job = made(alloc, 0, &[(0, Write), (1, Read)], &[fill(0, 5)], &rt);
-    let Some((gpu, pass)) = opened(alloc, 8) else {
-        panic!(rt; "no device")
-    };
+    let (gpu, pass) = device(alloc, 8, &rt);
     let mut pass = lacks_one(begun(&gpu, pass, job, &rt, alloc), &rt);
-    assert!(rt; gpu.counts(&mut pass, &rt) == (1, 0));
-    Ok(())
+    has_counts(&gpu, &mut pass, (1, 0), &rt);
 }

@@ -2,38 +2,20 @@
 ghost use Rattle.std.specs.Prelude.{◌≡◌, ◌<◌};
 ghost use Rattle.drm_gpu_tests.specs.Pairs.{IsPair};
 
-use crate::calls::{finishes, made, picks, reads, submitted};
-use crate::{add, fill, opened};
-use drm_gpu::{CloseError, Gpu, Pass, Running, StartError};
+use crate::add;
+use crate::calls::{
+    device, expires, filling, finishes, has_counts, is_kept, made, picks, reads, started, submitted,
+};
+use drm_gpu::{Gpu, Pass, Running, StartError};
 use drm_packet::Packet;
 use drm_sched::{Expired, Finished, Stepped};
 use drm_types::Access::{Read, Write};
-use drm_types::{FenceId, Outcome, RingId};
+use drm_types::{FenceId, Outcome};
 use std::alloc::Global;
 use std::process::Abort;
 use std::sync::Wait;
-use std::test::Fail;
 use std::thread;
 use std::thread::Threads;
-
-// The ring's next packet goes out, which is of this job.
-fn started<'g, R: Wait + Abort>(
-    gpu: &'g Gpu,
-    pass: Pass,
-    ring: RingId,
-    fence: FenceId,
-    rt: &R,
-) -> Running<'g>
-    requires gpu { IsPair gpu.now.spec × (ring < 2) }
-    requires pass { pass.gpu ≡ gpu.now }
-    ensures { result.pass.gpu ≡ gpu.now }
-{
-    let Ok(running) = gpu.start(pass, ring, rt) else {
-        panic!(rt; "not started")
-    };
-    assert_eq!(rt; running.fence(), fence);
-    running
-}
 
 // The packet runs and comes back, with this number.
 fn reported<R: Wait + Abort>(running: Running, fence: FenceId, packet: u32, rt: &R) -> Pass
@@ -49,8 +31,8 @@ fn both_picked<R: Wait + Abort>(gpu: &Gpu, pass: Pass, rt: &R, alloc: Global) ->
     requires { IsPair gpu.now.spec × (pass.gpu ≡ gpu.now) }
     ensures { result.gpu ≡ gpu.now }
 {
-    let first = made(alloc, 0, &[(0, Write)], &[fill(0, 5)], rt);
-    let second = made(alloc, 1, &[(1, Write)], &[fill(1, 6)], rt);
+    let first = filling(alloc, 0, 0, 5, rt);
+    let second = filling(alloc, 1, 1, 6, rt);
     let pass = submitted(gpu, pass, first, 0, rt, alloc);
     let mut pass = submitted(gpu, pass, second, 1, rt, alloc);
     picks(gpu, &mut pass, 0, 0, 0, rt);
@@ -72,11 +54,9 @@ fn both_end<R: Wait + Abort>(gpu: &Gpu, pass: Pass, rt: &R, alloc: Global) -> Pa
 }
 
 #[test]
-fn packets_of_two_rings_are_out_at_once(rt: HostRuntime) -> Result<(), Fail> {
+fn packets_of_two_rings_are_out_at_once(rt: HostRuntime) {
     let alloc = rt.alloc();
-    let Some((gpu, pass)) = opened(alloc, 8) else {
-        panic!(rt; "no device")
-    };
+    let (gpu, pass) = device(alloc, 8, &rt);
     let pass = both_picked(&gpu, pass, &rt, alloc);
     let (one, other) = gpu.split(pass);
     let running = started(&gpu, one, 0, 0, &rt);
@@ -85,21 +65,17 @@ fn packets_of_two_rings_are_out_at_once(rt: HostRuntime) -> Result<(), Fail> {
     let other = reported(beside, 1, 0, &rt);
     let one = reported(running, 0, 0, &rt);
     both_end(&gpu, gpu.join(one, other), &rt, alloc);
-    Ok(())
 }
 
 #[test]
-fn a_packet_that_is_dropped_keeps_the_device(rt: HostRuntime) -> Result<(), Fail> {
+fn a_packet_that_is_dropped_keeps_the_device(rt: HostRuntime) {
     let alloc = rt.alloc();
-    let Some((gpu, pass)) = opened(alloc, 8) else {
-        panic!(rt; "no device")
-    };
+    let (gpu, pass) = device(alloc, 8, &rt);
     let pass = both_picked(&gpu, pass, &rt, alloc);
     let (one, other) = gpu.split(pass);
     let beside = started(&gpu, other, 1, 1, &rt);
     drop(beside);
-    assert!(rt; matches!(gpu.close(alloc, one), Err(CloseError::Inside)));
-    Ok(())
+    is_kept(gpu, one, &rt, alloc);
 }
 
 // The first ring's job ends well.
@@ -120,7 +96,7 @@ fn run_late<R: Wait + Abort>(gpu: &Gpu, pass: Pass, running: Running, rt: &R) ->
 {
     let mut pass = pass;
     for _ in 0..1000 {
-        assert!(rt; gpu.counts(&mut pass, rt) == (2, 0));
+        has_counts(gpu, &mut pass, (2, 0), rt);
     }
     gpu.join(pass, reported(running, 0, 0, rt))
 }
@@ -153,33 +129,43 @@ fn end_meanwhile<R: Threads + Wait + Abort + Sync>(
 }
 
 #[test]
-fn a_packet_that_is_out_keeps_others_until_it_has_run(rt: HostRuntime) -> Result<(), Fail> {
+fn a_packet_that_is_out_keeps_others_until_it_has_run(rt: HostRuntime) {
     let alloc = rt.alloc();
-    let Some((gpu, pass)) = opened(alloc, 8) else {
-        panic!(rt; "no device")
-    };
+    let (gpu, pass) = device(alloc, 8, &rt);
     let pass = both_picked(&gpu, pass, &rt, alloc);
     let (one, other) = gpu.split(pass);
     let (one, third) = gpu.split(one);
     let running = started(&gpu, other, 0, 0, &rt);
     let mut pass = end_meanwhile(&gpu, (one, third), running, &rt);
-    assert!(rt; gpu.counts(&mut pass, &rt) == (2, 1));
-    Ok(())
+    has_counts(&gpu, &mut pass, (2, 1), &rt);
 }
 
-// A ring with nothing to run, and one whose next packet waits for a reset.
-fn starts_nothing<R: Wait + Abort>(gpu: &Gpu, pass: Pass, rt: &R) -> Pass
+// The second ring has nothing to run.
+fn is_idle<R: Wait + Abort>(gpu: &Gpu, pass: Pass, rt: &R) -> Pass
     requires { IsPair gpu.now.spec × (pass.gpu ≡ gpu.now) }
     ensures { result.gpu ≡ gpu.now }
 {
     let Err(StartError::Idle(pass)) = gpu.start(pass, 1, rt) else {
         panic!(rt; "not idle")
     };
-    let mut pass = pass;
-    picks(gpu, &mut pass, 0, 0, 0, rt);
+    pass
+}
+
+// The first ring runs a packet of its job, behind which there are others.
+fn runs_one<R: Wait + Abort>(gpu: &Gpu, pass: Pass, rt: &R) -> Pass
+    requires { IsPair gpu.now.spec × (pass.gpu ≡ gpu.now) }
+    ensures { result.gpu ≡ gpu.now }
+{
     let running = started(gpu, pass, 0, 0, rt);
     assert!(rt; !running.is_last());
-    let pass = reported(running, 0, 0, rt);
+    reported(running, 0, 0, rt)
+}
+
+// The first ring's next packet waits for a reset.
+fn is_stalled<R: Wait + Abort>(gpu: &Gpu, pass: Pass, rt: &R) -> Pass
+    requires { IsPair gpu.now.spec × (pass.gpu ≡ gpu.now) }
+    ensures { result.gpu ≡ gpu.now }
+{
     let Err(StartError::Stalled(pass, 0)) = gpu.start(pass, 0, rt) else {
         panic!(rt; "not stalled")
     };
@@ -187,15 +173,14 @@ fn starts_nothing<R: Wait + Abort>(gpu: &Gpu, pass: Pass, rt: &R) -> Pass
 }
 
 #[test]
-fn a_packet_that_waits_does_not_start(rt: HostRuntime) -> Result<(), Fail> {
+fn a_packet_that_waits_does_not_start(rt: HostRuntime) {
     let alloc = rt.alloc();
     let packets = [add(1, 0), Packet::Stall { resets: 1 }];
     let job = made(alloc, 0, &[(0, Write), (1, Read)], &packets, &rt);
-    let Some((gpu, pass)) = opened(alloc, 8) else {
-        panic!(rt; "no device")
-    };
+    let (gpu, pass) = device(alloc, 8, &rt);
     let pass = submitted(&gpu, pass, job, 0, &rt, alloc);
-    let mut pass = starts_nothing(&gpu, pass, &rt);
-    assert!(rt; gpu.timeout(&mut pass, 0, 1, &rt) == Expired::NotYet { due_in: 9 });
-    Ok(())
+    let mut pass = is_idle(&gpu, pass, &rt);
+    picks(&gpu, &mut pass, 0, 0, 0, &rt);
+    let mut pass = is_stalled(&gpu, runs_one(&gpu, pass, &rt), &rt);
+    expires(&gpu, &mut pass, 1, Expired::NotYet { due_in: 9 }, &rt);
 }

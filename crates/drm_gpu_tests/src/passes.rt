@@ -3,17 +3,18 @@ ghost use Rattle.std.specs.Prelude.{◌≡◌};
 ghost use Rattle.drm_job.specs.Fault.{IsJob};
 ghost use Rattle.drm_gpu_tests.specs.Pairs.{IsPair, pair_of};
 
-use crate::calls::{armed, begun, finishes, made, picks, planned, reads, runs, steps, submitted};
-use crate::{fill, opened};
+use crate::calls::{
+    armed, begun, closed, device, each_ran, filling, finishes, has_counts, is_status, picks,
+    planned, reads, runs, same, steps, submitted,
+};
 use drm_gpu::{Gpu, Pass};
 use drm_job::Job;
+use drm_resv::Resv;
 use drm_sched::Finished;
-use drm_types::Access::Write;
-use drm_types::{BufferId, FenceId, Outcome};
+use drm_types::{BufferId, Outcome};
 use std::alloc::Global;
 use std::process::Abort;
 use std::sync::Wait;
-use std::test::Fail;
 use ww_lock::TryLockError;
 
 // A third submission finds the first buffer held by the second, and gives up.
@@ -23,38 +24,27 @@ fn finds_it_held<R: Wait + Abort>(gpu: &Gpu, pass: Pass, job: Job, rt: &R, alloc
     ensures { result.gpu ≡ gpu.now }
 {
     let mut locking = begun(gpu, pass, job, rt, alloc);
-    assert_eq!(rt; locking.ticket(), 3);
+    same(locking.ticket(), 3, rt);
     let tried = locking.try_lock(BufferId::new(0));
     assert!(rt; tried == Err(TryLockError::Older { holder: 2 }));
     let (pass, _job) = locking.abandon();
     pass
 }
 
-// What the fence tells this pass.
-fn is_status<R: Abort>(gpu: &Gpu, pass: &mut Pass, fence: FenceId, status: i32, rt: &R)
-    requires { pass.old.gpu ≡ gpu.now }
-    ensures { pass.new.gpu ≡ gpu.now }
-{
-    let told = gpu.status(pass, fence);
-    assert!(rt; matches!(told, Ok(it) if it == status));
+// Every reservation is there.
+fn all_are_back<R: Abort>(resvs: &[Option<Resv>], rt: &R) {
+    for resv in resvs {
+        assert!(rt; resv.is_some());
+    }
 }
 
 // The device was taken apart, both jobs ran their packet, and every byte of the first buffer is this one.
 fn both_ran<R: Wait + Abort>(gpu: Gpu, pass: Pass, byte: u8, rt: &R, alloc: Global)
     requires { IsPair gpu.spec × (pass.gpu ≡ gpu) }
 {
-    let Ok(closed) = gpu.close(alloc, pass) else {
-        panic!(rt; "not closed")
-    };
-    assert_eq!(rt; closed.records.len(), 2);
-    assert!(rt;
-        closed
-            .records
-            .as_slice()
-            .iter()
-            .all(|record| record.ran == 1)
-    );
-    assert!(rt; closed.resvs.iter().all(|resv| resv.is_some()));
+    let closed = closed(gpu, pass, rt, alloc);
+    each_ran(closed.records.as_slice(), 2, rt);
+    all_are_back(closed.resvs.as_slice(), rt);
     assert!(rt; closed.buffers.bytes(BufferId::new(0)) == [byte; 4].as_slice());
 }
 
@@ -79,24 +69,21 @@ fn a_plan_is_kept<R: Wait + Abort>(
 }
 
 #[test]
-fn a_plan_outlives_what_another_pass_does(rt: HostRuntime) -> Result<(), Fail> {
+fn a_plan_outlives_what_another_pass_does(rt: HostRuntime) {
     let alloc = rt.alloc();
-    let first = made(alloc, 0, &[(0, Write)], &[fill(0, 5)], &rt);
-    let second = made(alloc, 1, &[(0, Write)], &[fill(0, 6)], &rt);
-    let third = made(alloc, 0, &[(0, Write)], &[fill(0, 7)], &rt);
-    let Some((gpu, pass)) = opened(alloc, 8) else {
-        panic!(rt; "no device")
-    };
+    let first = filling(alloc, 0, 0, 5, &rt);
+    let second = filling(alloc, 1, 0, 6, &rt);
+    let third = filling(alloc, 0, 0, 7, &rt);
+    let (gpu, pass) = device(alloc, 8, &rt);
     let (p, q) = gpu.split(pass);
     let p = submitted(&gpu, p, first, 0, &rt, alloc);
     let (mut p, mut q) = a_plan_is_kept(&gpu, (p, q), second, third, &rt, alloc);
     is_status(&gpu, &mut p, 1, 0, &rt);
     runs(&gpu, &mut q, 1, 1, (1, 2), &rt);
-    assert!(rt; gpu.counts(&mut p, &rt) == (2, 2));
+    has_counts(&gpu, &mut p, (2, 2), &rt);
     is_status(&gpu, &mut p, 1, 1, &rt);
     let pass = reads(&gpu, gpu.join(p, q), 0, 6, &rt, alloc);
     both_ran(gpu, pass, 6, &rt, alloc);
-    Ok(())
 }
 
 // Both rings have taken their jobs; the second runs its packet first.
@@ -115,13 +102,11 @@ fn rings_run_apart<R: Wait + Abort>(gpu: &Gpu, p: &mut Pass, q: &mut Pass, rt: &
 }
 
 #[test]
-fn the_rings_of_two_passes_run_apart(rt: HostRuntime) -> Result<(), Fail> {
+fn the_rings_of_two_passes_run_apart(rt: HostRuntime) {
     let alloc = rt.alloc();
-    let first = made(alloc, 0, &[(0, Write)], &[fill(0, 5)], &rt);
-    let second = made(alloc, 1, &[(1, Write)], &[fill(1, 6)], &rt);
-    let Some((gpu, pass)) = opened(alloc, 8) else {
-        panic!(rt; "no device")
-    };
+    let first = filling(alloc, 0, 0, 5, &rt);
+    let second = filling(alloc, 1, 1, 6, &rt);
+    let (gpu, pass) = device(alloc, 8, &rt);
     let (p, q) = gpu.split(pass);
     let mut p = submitted(&gpu, p, first, 0, &rt, alloc);
     let mut q = submitted(&gpu, q, second, 1, &rt, alloc);
@@ -130,5 +115,4 @@ fn the_rings_of_two_passes_run_apart(rt: HostRuntime) -> Result<(), Fail> {
     let q = reads(&gpu, q, 1, 6, &rt, alloc);
     let pass = gpu.join(p, q);
     both_ran(gpu, pass, 5, &rt, alloc);
-    Ok(())
 }

@@ -2,15 +2,13 @@
 ghost use Rattle.std.specs.Prelude.{◌≡◌, ◌<◌};
 ghost use Rattle.drm_gpu_tests.specs.Pairs.{IsPair};
 
-use crate::calls::{made, picks, submitted};
-use crate::opened;
-use drm_gpu::{CloseError, Gpu, Pass, Running};
+use crate::calls::{device, is_kept, made, picks, started, submitted};
+use drm_gpu::{Gpu, Pass, Running};
 use drm_packet::Packet;
 use drm_sched::Stepped;
 use std::alloc::Global;
 use std::process::Abort;
 use std::sync::Wait;
-use std::test::Fail;
 
 // A job that waits for no reset goes to the first ring, whose pass takes its packet.
 fn out<'g, R: Wait + Abort>(gpu: &'g Gpu, pass: Pass, rt: &R, alloc: Global) -> (Pass, Running<'g>)
@@ -21,35 +19,26 @@ fn out<'g, R: Wait + Abort>(gpu: &'g Gpu, pass: Pass, rt: &R, alloc: Global) -> 
     let mut pass = submitted(gpu, pass, job, 0, rt, alloc);
     picks(gpu, &mut pass, 0, 0, 0, rt);
     let (one, other) = gpu.split(pass);
-    let Ok(running) = gpu.start(other, 0, rt) else {
-        panic!(rt; "not started")
-    };
-    (one, running)
+    (one, started(gpu, other, 0, 0, rt))
 }
 
 #[test]
-fn a_stall_that_is_out_comes_back(rt: HostRuntime) -> Result<(), Fail> {
+fn a_stall_that_is_out_comes_back(rt: HostRuntime) {
     let alloc = rt.alloc();
-    let Some((gpu, pass)) = opened(alloc, 8) else {
-        panic!(rt; "no device")
-    };
+    let (gpu, pass) = device(alloc, 8, &rt);
     let (one, running) = out(&gpu, pass, &rt, alloc);
     let (other, stepped) = running.run(&rt);
     let (fence, packet) = (0, 0);
     assert!(rt; stepped == Stepped::Ran { fence, packet });
     let pass = gpu.join(one, other);
     assert!(rt; gpu.close(alloc, pass).is_ok());
-    Ok(())
 }
 
 #[test]
-fn a_stall_that_is_dropped_keeps_the_device(rt: HostRuntime) -> Result<(), Fail> {
+fn a_stall_that_is_dropped_keeps_the_device(rt: HostRuntime) {
     let alloc = rt.alloc();
-    let Some((gpu, pass)) = opened(alloc, 8) else {
-        panic!(rt; "no device")
-    };
+    let (gpu, pass) = device(alloc, 8, &rt);
     let (one, running) = out(&gpu, pass, &rt, alloc);
     drop(running);
-    assert!(rt; matches!(gpu.close(alloc, one), Err(CloseError::Inside)));
-    Ok(())
+    is_kept(gpu, one, &rt, alloc);
 }

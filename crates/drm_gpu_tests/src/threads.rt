@@ -4,8 +4,8 @@ ghost use Rattle.drm_job.specs.Fault.{IsJob};
 ghost use Rattle.drm_gpu_tests.specs.Pairs.{IsPair, pair_of};
 
 use crate::alone::bytes_alone;
-use crate::calls::begun;
-use crate::{add, fill, job_of, opened};
+use crate::calls::{arm, begun, closed, device, plan, reading, ready, same};
+use crate::{add, fill, job_of};
 use drm_gpu::{Closed, Gpu, Locked, Locking, Pass};
 use drm_job::Job;
 use drm_types::Access::{Read, Write};
@@ -99,22 +99,14 @@ fn locked<'g, R: Wait + Abort>(locking: Locking<'g>, number: u32, rt: &R) -> Loc
     }
     let mut locking = locking;
     hold_both(&mut locking, rt);
-    let Ok(locked) = locking.ready() else {
-        panic!(rt; "not all held")
-    };
-    locked
+    ready(locking, rt)
 }
 
 // Plans the job, arms it and gives its buffers back.
 fn armed<R: Wait + Abort>(locked: Locked, rt: &R) -> (Pass, FenceId)
     ensures { result.0.gpu ≡ locked.entry.pass.gpu }
 {
-    let Ok(planned) = locked.plan() else {
-        panic!(rt; "no memory")
-    };
-    let Ok(armed) = planned.arm(rt) else {
-        panic!(rt; "not armed")
-    };
+    let armed = arm(plan(locked, rt), rt);
     let fence = armed.fence();
     (armed.release(), fence)
 }
@@ -168,9 +160,7 @@ fn look<R: Wait + Abort>(gpu: &Gpu, pass: Pass, buffer: u32, rt: &R, alloc: Glob
     requires { IsPair gpu.now.spec × (pass.gpu ≡ gpu.now) × (buffer < 2) }
     ensures { result.gpu ≡ gpu.now }
 {
-    let Ok(mut reading) = gpu.begin_read(alloc, pass, BufferId::new(buffer), rt) else {
-        panic!(rt; "no ticket")
-    };
+    let mut reading = reading(gpu, pass, buffer, rt, alloc);
     let mut out = [0; 4];
     let _read = reading.read_into(&mut out, rt).is_ok();
     assert!(rt; out == [out[0]; 4]);
@@ -310,8 +300,8 @@ fn drain<R: Wait + Abort>(gpu: &Gpu, worker: &mut Worker, jobs: u32, rt: &R)
 // Every number was given once, and each job was taken by its ring and ended once.
 fn each_once<R: Abort>(worker: &Worker, jobs: u32, rt: &R) {
     let last = u64::from(jobs.saturating_sub(1));
-    assert_eq!(rt; worker.fences, u64::from(jobs) * last / 2);
-    assert_eq!(rt; (worker.picked, worker.finished), (jobs, jobs));
+    same(worker.fences, u64::from(jobs) * last / 2, rt);
+    same((worker.picked, worker.finished), (jobs, jobs), rt);
 }
 
 // The four bytes of a buffer.
@@ -325,9 +315,7 @@ fn bytes_of<R: Wait + Abort>(
     requires { IsPair gpu.now.spec × (pass.gpu ≡ gpu.now) × (buffer < 2) }
     ensures { result.0.gpu ≡ gpu.now }
 {
-    let Ok(mut reading) = gpu.begin_read(alloc, pass, BufferId::new(buffer), rt) else {
-        panic!(rt; "no ticket")
-    };
+    let mut reading = reading(gpu, pass, buffer, rt, alloc);
     let mut out = [0; 4];
     assert!(rt; reading.read_into(&mut out, rt).is_ok());
     (reading.release(), out)
@@ -340,7 +328,7 @@ fn is_left_alone<R: Abort>(closed: &Closed, bytes: [[u8; 4]; 2], rt: &R, alloc: 
     let Ok(left) = bytes_alone(alloc, &closed.spec, closed.records.as_slice()) else {
         panic!(rt; "no memory")
     };
-    assert_eq!(rt; left.len(), 2);
+    same(left.len(), 2, rt);
     for (buffer, own) in left.as_slice().iter().zip(bytes.iter()) {
         assert!(rt; buffer.as_slice() == own.as_slice());
     }
@@ -354,9 +342,7 @@ fn threads_leave_what_their_jobs_leave_alone(rt: HostRuntime) -> Result<(), Fail
         Err(_) => 8,
     };
     let jobs = threads * ROUNDS;
-    let Some((gpu, pass)) = opened(alloc, jobs) else {
-        panic!(rt; "no device")
-    };
+    let (gpu, pass) = device(alloc, jobs, &rt);
     let (workers, pass) = hire(&gpu, pass, threads, alloc)?;
     let done = work_in_threads(&gpu, workers, &rt, alloc)?;
     let mut worker = all_together(&gpu, hired(pass, 0), done);
@@ -364,9 +350,7 @@ fn threads_leave_what_their_jobs_leave_alone(rt: HostRuntime) -> Result<(), Fail
     each_once(&worker, jobs, &rt);
     let (pass, first) = bytes_of(&gpu, worker.pass, 0, &rt, alloc);
     let (pass, second) = bytes_of(&gpu, pass, 1, &rt, alloc);
-    let Ok(closed) = gpu.close(alloc, pass) else {
-        panic!(rt; "not closed")
-    };
+    let closed = closed(gpu, pass, &rt, alloc);
     is_left_alone(&closed, [first, second], &rt, alloc);
     Ok(())
 }
