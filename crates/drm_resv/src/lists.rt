@@ -9,8 +9,8 @@ use drm_types::{EntityId, FenceId, Usage};
 use std::alloc::{AllocError, Global};
 use std::marker::Model;
 
-/// What a reservation keeps: the fences to wait for, and every use that there ever was. Contracts see the same of it
-/// as of a `Resv`.
+/// What a reservation keeps: the fences to wait for, and every use that there ever was. Contracts see it as they see a
+/// `Resv`.
 #[derive(Drop)]
 pub(crate) struct Lists {
     entries: Vec<Entry>,

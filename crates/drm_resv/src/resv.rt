@@ -18,8 +18,7 @@ use std::marker::Model;
 /// Contracts see it as what is kept and whether there is room for one more use. Room says nothing of what is kept:
 /// callers compare `kept` alone.
 ///
-/// What it keeps lies in a box, which the first `reserve` takes. So a reservation that goes to its holder and back
-/// moves as one pointer.
+/// What it keeps lies in a box, which the first `reserve` takes. So 16 bytes go to its holder and back.
 #[derive(Drop)]
 pub struct Resv {
     alloc: Global,
@@ -83,6 +82,7 @@ impl Resv {
         }
         let mut lists = Box::new(self.alloc, Lists::new(self.alloc))?;
         let reserved = lists.reserve();
+        // A box whose lists got no memory stays, so that the next try goes on from there.
         self.lists = Some(lists);
         reserved
     }
@@ -118,6 +118,7 @@ impl Resv {
         requires entity { entity < 64 }
         ensures { self.new.kept ≡ added_to (has_ended_at timeline.now.list) self.old.kept (record { fence = fence; entity = entity; usage = usage }) }
     {
+        // There is room, so there are lists.
         if let Some(lists) = &mut self.lists {
             lists.add(fence, entity, usage, timeline);
         }
