@@ -16,12 +16,12 @@ use std::process::Abort;
 use std::sync::Wait;
 
 /// Ends the test where the two differ. What the comparison costs the prover, it costs here once.
-pub fn same<T: Copy + PartialEq + Debug, R: Abort>(told: T, wanted: T, rt: &R) {
+pub(crate) fn same<T: Copy + PartialEq + Debug, R: Abort>(told: T, wanted: T, rt: &R) {
     assert_eq!(rt; told, wanted);
 }
 
 /// A pair with room for so many jobs, and its first pass.
-pub fn device<R: Abort>(alloc: Global, max_jobs: u32, rt: &R) -> (Gpu, Pass)
+pub(crate) fn device<R: Abort>(alloc: Global, max_jobs: u32, rt: &R) -> (Gpu, Pass)
     ensures { IsPair result.0.spec × (result.1.gpu ≡ result.0) }
 {
     let Some(opened) = opened(alloc, max_jobs) else {
@@ -31,7 +31,7 @@ pub fn device<R: Abort>(alloc: Global, max_jobs: u32, rt: &R) -> (Gpu, Pass)
 }
 
 /// A job of a pair.
-pub fn made<R: Abort>(
+pub(crate) fn made<R: Abort>(
     alloc: Global,
     entity: EntityId,
     declared: &[(u32, Access)],
@@ -47,7 +47,13 @@ pub fn made<R: Abort>(
 }
 
 /// A job of this entity, which fills a buffer with this byte.
-pub fn filling<R: Abort>(alloc: Global, entity: EntityId, buffer: u32, byte: u8, rt: &R) -> Job
+pub(crate) fn filling<R: Abort>(
+    alloc: Global,
+    entity: EntityId,
+    buffer: u32,
+    byte: u8,
+    rt: &R,
+) -> Job
     ensures { IsJob (pair_of 8) result }
 {
     made(
@@ -60,7 +66,7 @@ pub fn filling<R: Abort>(alloc: Global, entity: EntityId, buffer: u32, byte: u8,
 }
 
 /// Begins a submission.
-pub fn begun<'g, R: Wait + Abort>(
+pub(crate) fn begun<'g, R: Wait + Abort>(
     gpu: &'g Gpu,
     pass: Pass,
     job: Job,
@@ -78,7 +84,7 @@ pub fn begun<'g, R: Wait + Abort>(
 }
 
 /// Has locked all that the job declares.
-pub fn ready<'g, R: Abort>(locking: Locking<'g>, rt: &R) -> Locked<'g>
+pub(crate) fn ready<'g, R: Abort>(locking: Locking<'g>, rt: &R) -> Locked<'g>
     ensures { result ≡ locking.entry }
 {
     let Ok(locked) = locking.ready() else {
@@ -88,7 +94,7 @@ pub fn ready<'g, R: Abort>(locking: Locking<'g>, rt: &R) -> Locked<'g>
 }
 
 /// Plans what is locked.
-pub fn plan<'g, R: Abort>(locked: Locked<'g>, rt: &R) -> Planned<'g>
+pub(crate) fn plan<'g, R: Abort>(locked: Locked<'g>, rt: &R) -> Planned<'g>
     ensures { result.submission ≡ locked.entry }
 {
     let Ok(planned) = locked.plan() else {
@@ -98,7 +104,7 @@ pub fn plan<'g, R: Abort>(locked: Locked<'g>, rt: &R) -> Planned<'g>
 }
 
 /// Arms what is planned.
-pub fn arm<'g, R: Wait + Abort>(planned: Planned<'g>, rt: &R) -> Armed<'g>
+pub(crate) fn arm<'g, R: Wait + Abort>(planned: Planned<'g>, rt: &R) -> Armed<'g>
     ensures { result.pass.gpu ≡ planned.entry.submission.pass.gpu }
 {
     let Ok(armed) = planned.arm(rt) else {
@@ -108,14 +114,14 @@ pub fn arm<'g, R: Wait + Abort>(planned: Planned<'g>, rt: &R) -> Armed<'g>
 }
 
 /// Locks all that the job declares, and plans it.
-pub fn planned<'g, R: Wait + Abort>(locking: Locking<'g>, rt: &R) -> Planned<'g>
+pub(crate) fn planned<'g, R: Wait + Abort>(locking: Locking<'g>, rt: &R) -> Planned<'g>
     ensures { (result.submission.pass.gpu ≡ locking.entry.pass.gpu) × (result.submission.job ≡ locking.entry.job) }
 {
     plan(locking.lock_all(rt), rt)
 }
 
 /// Arms the job under this number, and gives its buffers back.
-pub fn armed<R: Wait + Abort>(planned: Planned, fence: FenceId, rt: &R) -> Pass
+pub(crate) fn armed<R: Wait + Abort>(planned: Planned, fence: FenceId, rt: &R) -> Pass
     ensures { result.gpu ≡ planned.entry.submission.pass.gpu }
 {
     let armed = arm(planned, rt);
@@ -124,7 +130,7 @@ pub fn armed<R: Wait + Abort>(planned: Planned, fence: FenceId, rt: &R) -> Pass
 }
 
 /// Submits the job, which gets this number.
-pub fn submitted<R: Wait + Abort>(
+pub(crate) fn submitted<R: Wait + Abort>(
     gpu: &Gpu,
     pass: Pass,
     job: Job,
@@ -141,7 +147,7 @@ pub fn submitted<R: Wait + Abort>(
 }
 
 /// So many jobs are armed, and so many of them have ended.
-pub fn has_counts<R: Wait + Abort>(gpu: &Gpu, pass: &mut Pass, wanted: (u32, u32), rt: &R)
+pub(crate) fn has_counts<R: Wait + Abort>(gpu: &Gpu, pass: &mut Pass, wanted: (u32, u32), rt: &R)
     requires { pass.old.gpu ≡ gpu.now }
     ensures { pass.new.gpu ≡ gpu.now }
 {
@@ -149,7 +155,7 @@ pub fn has_counts<R: Wait + Abort>(gpu: &Gpu, pass: &mut Pass, wanted: (u32, u32
 }
 
 /// What the fence tells this pass.
-pub fn is_status<R: Abort>(gpu: &Gpu, pass: &mut Pass, fence: FenceId, status: i32, rt: &R)
+pub(crate) fn is_status<R: Abort>(gpu: &Gpu, pass: &mut Pass, fence: FenceId, status: i32, rt: &R)
     requires { pass.old.gpu ≡ gpu.now }
     ensures { pass.new.gpu ≡ gpu.now }
 {
@@ -158,7 +164,7 @@ pub fn is_status<R: Abort>(gpu: &Gpu, pass: &mut Pass, fence: FenceId, status: i
 }
 
 /// The ring takes this job.
-pub fn picks<R: Wait + Abort>(
+pub(crate) fn picks<R: Wait + Abort>(
     gpu: &Gpu,
     pass: &mut Pass,
     ring: RingId,
@@ -175,7 +181,7 @@ pub fn picks<R: Wait + Abort>(
 }
 
 /// The ring runs this packet of the job.
-pub fn steps<R: Wait + Abort>(
+pub(crate) fn steps<R: Wait + Abort>(
     gpu: &Gpu,
     pass: &mut Pass,
     ring: RingId,
@@ -192,7 +198,7 @@ pub fn steps<R: Wait + Abort>(
 }
 
 /// The ring ends the job with this outcome.
-pub fn finishes<R: Wait + Abort>(
+pub(crate) fn finishes<R: Wait + Abort>(
     gpu: &Gpu,
     pass: &mut Pass,
     ring: RingId,
@@ -209,7 +215,7 @@ pub fn finishes<R: Wait + Abort>(
 }
 
 /// The ring takes the job, runs its one packet and ends it, at these two moments.
-pub fn runs<R: Wait + Abort>(
+pub(crate) fn runs<R: Wait + Abort>(
     gpu: &Gpu,
     pass: &mut Pass,
     ring: RingId,
@@ -228,7 +234,7 @@ pub fn runs<R: Wait + Abort>(
 }
 
 /// The ring's next packet goes out, which is of this job.
-pub fn started<'g, R: Wait + Abort>(
+pub(crate) fn started<'g, R: Wait + Abort>(
     gpu: &'g Gpu,
     pass: Pass,
     ring: RingId,
@@ -247,7 +253,13 @@ pub fn started<'g, R: Wait + Abort>(
 }
 
 /// What a look at the first ring finds.
-pub fn expires<R: Wait + Abort>(gpu: &Gpu, pass: &mut Pass, now: Moment, found: Expired, rt: &R)
+pub(crate) fn expires<R: Wait + Abort>(
+    gpu: &Gpu,
+    pass: &mut Pass,
+    now: Moment,
+    found: Expired,
+    rt: &R,
+)
     requires gpu { IsPair gpu.now.spec }
     requires pass { pass.old.gpu ≡ gpu.now }
     ensures { pass.new.gpu ≡ gpu.now }
@@ -257,7 +269,7 @@ pub fn expires<R: Wait + Abort>(gpu: &Gpu, pass: &mut Pass, now: Moment, found: 
 }
 
 /// Begins to read the buffer.
-pub fn reading<'g, R: Wait + Abort>(
+pub(crate) fn reading<'g, R: Wait + Abort>(
     gpu: &'g Gpu,
     pass: Pass,
     buffer: u32,
@@ -275,7 +287,7 @@ pub fn reading<'g, R: Wait + Abort>(
 }
 
 /// Reads the buffer back, every byte of which is this one.
-pub fn reads<R: Wait + Abort>(
+pub(crate) fn reads<R: Wait + Abort>(
     gpu: &Gpu,
     pass: Pass,
     buffer: u32,
@@ -295,7 +307,7 @@ pub fn reads<R: Wait + Abort>(
 }
 
 /// The buffer has a writer that goes on, so nothing is read.
-pub fn is_busy<R: Wait + Abort>(
+pub(crate) fn is_busy<R: Wait + Abort>(
     gpu: &Gpu,
     pass: Pass,
     buffer: u32,
@@ -316,7 +328,7 @@ pub fn is_busy<R: Wait + Abort>(
 }
 
 /// The device is taken apart.
-pub fn closed<R: Abort>(gpu: Gpu, pass: Pass, rt: &R, alloc: Global) -> Closed
+pub(crate) fn closed<R: Abort>(gpu: Gpu, pass: Pass, rt: &R, alloc: Global) -> Closed
     requires { pass.gpu ≡ gpu }
     ensures { Leaves pass result }
 {
@@ -327,14 +339,14 @@ pub fn closed<R: Abort>(gpu: Gpu, pass: Pass, rt: &R, alloc: Global) -> Closed
 }
 
 /// Somebody has the device out, so it is not taken apart.
-pub fn is_kept<R: Abort>(gpu: Gpu, pass: Pass, rt: &R, alloc: Global)
+pub(crate) fn is_kept<R: Abort>(gpu: Gpu, pass: Pass, rt: &R, alloc: Global)
     requires { pass.gpu ≡ gpu }
 {
     assert!(rt; matches!(gpu.close(alloc, pass), Err(CloseError::Inside)));
 }
 
 /// So many jobs were armed, each of which ran its one packet.
-pub fn each_ran<R: Abort>(records: &[JobRecord], jobs: usize, rt: &R) {
+pub(crate) fn each_ran<R: Abort>(records: &[JobRecord], jobs: usize, rt: &R) {
     same(records.len(), jobs, rt);
     for record in records {
         same(record.ran, 1, rt);
@@ -342,7 +354,7 @@ pub fn each_ran<R: Abort>(records: &[JobRecord], jobs: usize, rt: &R) {
 }
 
 /// The job is one of this entity with one credit, with these buffers and packets, and waits for no fence.
-pub fn is_job<R: Abort>(
+pub(crate) fn is_job<R: Abort>(
     job: &Job,
     entity: EntityId,
     declared: &[(BufferId, Access)],
