@@ -120,8 +120,8 @@ struct Pair {
 
 #[derive(Clone, Copy)]
 struct Links {
-    before: usize,
-    behind: usize,
+    before: u32,
+    behind: u32,
 }
 
 struct Waiters {
@@ -134,7 +134,7 @@ struct Waiters {
 impl Waiters {
     fn new(entities: usize, fences: u32) -> Waiters {
         let mut links = Vec::with_capacity(entities * 64 + fences as usize);
-        links.extend((0..entities * 64).map(|place| Links { before: place, behind: place }));
+        links.extend((0..entities * 64).map(|place| Links { before: place as u32, behind: place as u32 }));
         Waiters { cells: vec![None; entities * 64], unmet: vec![0; entities], links, fences }
     }
 
@@ -143,7 +143,7 @@ impl Waiters {
     }
 
     fn add_list(&mut self) {
-        let end = self.links.len();
+        let end = self.links.len() as u32;
         self.links.push(Links { before: end, behind: end });
     }
 
@@ -154,8 +154,8 @@ impl Waiters {
     }
 
     fn join(&mut self, before: usize, behind: usize) {
-        self.links[before].behind = behind;
-        self.links[behind].before = before;
+        self.links[before].behind = behind as u32;
+        self.links[behind].before = before as u32;
     }
 
     fn is_watching(&self, entity: u32, of: u32) -> bool {
@@ -169,7 +169,7 @@ impl Waiters {
         }
         let end = self.cells.len() + fence as usize;
         let links = self.links[end];
-        let (before, behind) = if is_early { (end, links.behind) } else { (links.before, end) };
+        let (before, behind) = if is_early { (end, links.behind as usize) } else { (links.before as usize, end) };
         self.join(before, place);
         self.join(place, behind);
         self.cells[place] = Some(Pair { entity, fence, of, is_early });
@@ -178,7 +178,7 @@ impl Waiters {
 
     fn take_out(&mut self, place: usize, pair: Pair) {
         let Links { before, behind } = self.links[place];
-        self.join(before, behind);
+        self.join(before as usize, behind as usize);
         self.cells[place] = None;
         self.unmet[pair.entity as usize] -= 1;
     }
@@ -189,7 +189,7 @@ impl Waiters {
         }
         let end = self.cells.len() + fence as usize;
         loop {
-            let place = self.links[end].behind;
+            let place = self.links[end].behind as usize;
             match self.cells.get(place) {
                 Some(&Some(pair)) if pair.fence == fence && (pair.is_early || !early_only) => self.take_out(place, pair),
                 _ => return,
