@@ -14,7 +14,7 @@ use Rattle.drm_core.specs.Steady.{IsSteadyCore}
 use Rattle.drm_core.specs.Cores.{core_state, context_of_row, planned_by, planned_in, IsCore, NothingOut}
 use Rattle.drm_core.specs.Laws.{DeviceLaws}
 use Rattle.drm_core.proofs.Opening.{opened_core_steady}
-use Rattle.drm_core.proofs.Lists.{map_to_same}
+use Rattle.drm_lists.proofs.Places.{map_to_same}
 
 -- the tables of a core to which nothing has happened
 pub blank_core : (c : CoreTable) → c.device.state ≡ opened_device c.device.state.spec

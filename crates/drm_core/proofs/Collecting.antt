@@ -13,7 +13,7 @@ use Rattle.drm_state.specs.declared.journal.JobRecord.{JobRecord}
 use Rattle.drm_state.specs.Held.{HoldsAll, AllFit}
 use Rattle.drm_state.specs.Reservation.{Fits}
 use Rattle.drm_core.specs.Planning.{kept_at, declared_kept}
-use Rattle.drm_core.proofs.Lists.{at_index, contains_at, to_map, from_map}
+use Rattle.drm_lists.proofs.Places.{at_index, contains_at, to_map, from_map}
 
 -- the device has each buffer that a job declares
 pub declared_below : JobsAreTheSoundDrafts → (spec : DeviceSpec) (job : Draft) (k : ℕ) (d : ℕ × Access) → IsJob spec job → slice_get job.declared k ≡ Some d

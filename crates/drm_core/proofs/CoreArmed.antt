@@ -35,14 +35,10 @@ use Rattle.drm_core.specs.Cores.{core_state, planned_by, PlanStands, IsCore}
 use Rattle.drm_state.specs.Plans.{MeetsPlan, DepsCover}
 use Rattle.drm_state.specs.Uses.{HasUse}
 use Rattle.drm_core.specs.Planning.{HaveUses, ShareNoBuffer}
-use Rattle.drm_core.proofs.Lists.{to_map, from_map}
-use Rattle.drm_core.proofs.Lists.{find_first}
-use Rattle.drm_core.proofs.Lists.{get_numbered}
-use Rattle.drm_core.proofs.Lists.{get_push_cases}
-use Rattle.drm_core.proofs.Lists.{get_before_push}
+use Rattle.drm_lists.proofs.Places.{to_map, from_map, get_numbered, get_push_cases, get_before_push, list_ext}
+use Rattle.drm_lists.proofs.Searches.{find_first, any_at}
 use Rattle.drm_core.proofs.CoreSteps.{arm_kept}
 use Rattle.drm_core.proofs.CoreFacts.{nothing_out_kept}
-use Rattle.drm_core.proofs.Lists.{list_ext, any_at}
 use Rattle.drm_core.proofs.DeviceFacts.{ended_alike}
 use Rattle.drm_core.specs.Laws.{DeviceLaws}
 

@@ -19,7 +19,9 @@ use Rattle.drm_state.specs.Ring.{pending_of, current_of}
 use Rattle.drm_state.specs.Lawful.{IsLawfulDevice}
 use Rattle.std.proofs.lemmas.Option.{slice_get_within, slice_get-get_or}
 use Rattle.drm_fence.specs.Phases.{has_ended}
-use Rattle.drm_core.proofs.Lists.{at_test, contains_at, find_first}
+use Rattle.drm_lists.proofs.Places.{contains_at}
+use Rattle.drm_lists.proofs.Searches.{find_first}
+use Rattle.drm_core.proofs.Lists.{at_test}
 
 -- whether a fence has an outcome, by the timeline and by the journal
 pub ended_alike : (js : List JobRecord) (fs : List FenceState) → fs ≡ map fence_state_of js → has_ended_at fs ≡ is_signaled js

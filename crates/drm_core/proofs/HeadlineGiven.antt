@@ -23,7 +23,7 @@ use Rattle.drm_core.specs.Run.{Run}
 use Rattle.drm_core.specs.Step.{unless_refused, Step}
 use Rattle.drm_core.specs.Steady.{IsSteadyCore, begun_in, HoldersBegun}
 use Rattle.drm_core.specs.Headline.{MayRead}
-use Rattle.drm_core.proofs.Lists.{get_set_other}
+use Rattle.drm_lists.proofs.Changed.{get_set_other}
 use Rattle.drm_core.proofs.HeadlineSteps.{cases_step, at_cond, at_option}
 use Rattle.drm_core.proofs.HeadlineReads.{holds_in, get_set_here}
 use Rattle.drm_core.specs.Laws.{DeviceLaws}

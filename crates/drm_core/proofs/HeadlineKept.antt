@@ -36,13 +36,13 @@ use Rattle.drm_state.specs.Lawful.{HasRightOutcome, IsLawfulDevice}
 use Rattle.drm_core.specs.Steady.{IsSteadyCore, PlansHeld, HoldersBegun, JobsHavePlace}
 use Rattle.drm_core.specs.Headline.{serial_memory, serial_bytes, WritersEnded, MayRead, IsRefused, TellsOutcome, Promises, Headline}
 use Rattle.drm_core.proofs.CoreSteps.{step_is_kept}
+use Rattle.drm_lists.proofs.Places.{stands_within}
 use Rattle.drm_core.proofs.Lists.{not_when}
 use Rattle.drm_core.proofs.Opening.{opened_core_steady}
 use Rattle.drm_core.proofs.HeadlinePicks.{picks_least, idles_none}
 use Rattle.drm_core.proofs.HeadlineGiven.{run_holders_begun, opened_holders_begun, read_given}
 use Rattle.drm_core.proofs.HeadlineReads.{run_plans_held, opened_plans_held, may_read_on}
 use Rattle.drm_core.proofs.Places.{run_places_kept, no_places}
-use Rattle.drm_core.proofs.Lists.{stands_within}
 use Rattle.drm_core.proofs.HeadlineSteps.{is_refusal, cases_step, ended_stays, refused_keeps, step_leaves_bytes}
 use Rattle.drm_core.specs.Laws.{DeviceLaws}
 

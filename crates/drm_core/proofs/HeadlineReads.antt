@@ -40,10 +40,8 @@ use Rattle.drm_core.specs.Steady.{PlansHeld}
 use Rattle.drm_core.specs.Step.{Step}
 use Rattle.drm_state.specs.Writers.{is_writer}
 use Rattle.drm_core.specs.Headline.{MayRead, GivesUp}
-use Rattle.drm_core.proofs.Lists.{stands_within, to_map}
-use Rattle.drm_core.proofs.Lists.{get_set_other}
-use Rattle.drm_core.proofs.Lists.{contains_at, place_of}
-use Rattle.drm_core.proofs.Lists.{get_push_cases}
+use Rattle.drm_lists.proofs.Changed.{get_set_other}
+use Rattle.drm_lists.proofs.Places.{stands_within, to_map, contains_at, place_of, get_push_cases}
 use Rattle.drm_core.proofs.Lists.{each_fails}
 use Rattle.drm_core.proofs.DeviceFacts.{changed_count}
 use Rattle.drm_core.proofs.CoreSteps.{plan_in}

@@ -27,10 +27,10 @@ use Rattle.drm_core.specs.Steady.{IsSteadyCore}
 use Rattle.drm_core.specs.Cores.{core_state, planned_by, planned_in, IsCore, NothingOut}
 use Rattle.drm_state.specs.Plans.{DepsCover}
 use Rattle.drm_core.proofs.CoreSteps.{contexts_kept}
-use Rattle.drm_core.proofs.Lists.{get_set_other}
+use Rattle.drm_lists.proofs.Changed.{get_set_other}
+use Rattle.drm_lists.proofs.Places.{to_map, at_index}
 use Rattle.std.proofs.lemmas.Bool.{eqb-true}
 use Rattle.std.proofs.Common.{get_or}
-use Rattle.drm_core.proofs.Lists.{to_map, at_index}
 use Rattle.std.proofs.lemmas.List.{map-set, length-set}
 use Rattle.drm_state.specs.declared.answer.Answer.TheVariants as answer
 use Rattle.drm_state.specs.declared.answer.Refusal.TheVariants as refusal

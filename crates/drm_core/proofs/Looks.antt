@@ -17,7 +17,7 @@ use Rattle.drm_state.specs.declared.answer.Refusal.TheVariants as refusal
 use Rattle.drm_state.specs.declared.journal.JobRecord.{JobRecord}
 use Rattle.drm_core.specs.Step.{reply}
 use Rattle.drm_core.specs.Cores.{core_state}
-use Rattle.drm_core.proofs.Lists.{stands_within}
+use Rattle.drm_lists.proofs.Places.{stands_within}
 use Rattle.drm_core.proofs.Locks.{reply_is}
 use Rattle.drm_core.proofs.Submitting.{reply_early}
 

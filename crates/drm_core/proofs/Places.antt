@@ -25,14 +25,11 @@ use Rattle.drm_state.specs.Ring.{is_stopped}
 use Rattle.drm_core.specs.Run.{Run, AllNamesExist}
 use Rattle.drm_core.specs.Steady.{IsSteadyCore, JobsHavePlace}
 use Rattle.drm_core.specs.Step.{Step}
-use Rattle.drm_core.proofs.Lists.{each_fails}
+use Rattle.drm_lists.proofs.Places.{stands_within, place_of, get_push_cases}
+use Rattle.drm_core.proofs.Lists.{each_fails, not_when}
 use Rattle.drm_core.proofs.CoreSteps.{step_is_kept}
-use Rattle.drm_core.proofs.Lists.{not_when}
 use Rattle.drm_core.proofs.HeadlineReads.{Arms, CountsOn, counts_on}
-use Rattle.drm_core.proofs.Lists.{stands_within}
 use Rattle.drm_core.proofs.HeadlineSteps.{HadOutcome, cases_step}
-use Rattle.drm_core.proofs.Lists.{place_of}
-use Rattle.drm_core.proofs.Lists.{get_push_cases}
 use Rattle.drm_core.specs.Laws.{DeviceLaws}
 
 -- where an arming is not refused, the next number is the job's place

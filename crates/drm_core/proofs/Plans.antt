@@ -29,9 +29,9 @@ use Rattle.drm_core.specs.Step.{Step, reply}
 use Rattle.drm_core.specs.Cores.{core_state, planned_by, PlanStands, IsCore}
 use Rattle.drm_state.specs.Plans.{DepsCover}
 use Rattle.drm_core.specs.Planning.{holds_in, AreRoomy, ShareNoBuffer}
-use Rattle.drm_core.proofs.Lists.{all_at}
+use Rattle.drm_lists.proofs.Places.{to_map, at_index}
+use Rattle.drm_lists.proofs.Searches.{all_at}
 use Rattle.drm_core.proofs.Locks.{plan_of_row, plan_cases, reply_is, row_changed, planned_job, steady_still}
-use Rattle.drm_core.proofs.Lists.{to_map, at_index}
 
 -- the row of a context that an index found
 row_there : (c : CoreTable) (ctx : ℕ) (row : Option ContextRow) → IsCore c → ctx < 64 → row ≡ get_or c.contexts.items ctx row → slice_get c.contexts.items ctx ≡ Some row

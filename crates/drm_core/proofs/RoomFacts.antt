@@ -1,14 +1,13 @@
 -- Taking room in reservations: each stays as it was, and none has less room.
 use Rattle.std.proofs.Common.{◌≡◌, ℕ, zero, suc, ◌+◌, ◌<◌, List, [], ◌∷◌, drop, take, length, get_or, set, Some, refl, drop-cons, add-one, sym, ap, subst, ◌∙◌, inl, inr, arith, slice_get}
 use Rattle.drm_types.specs.declared.access.Access.{Access}
-use Rattle.drm_core.proofs.Lists.{at_index}
-use Rattle.drm_core.proofs.Lists.{get_take}
+use Rattle.drm_lists.proofs.Changed.{get_set_same, get_set_other, get_set_cases}
+use Rattle.drm_lists.proofs.Places.{at_index, get_take}
 use Rattle.std.specs.Prelude.{IsTrue}
 use Rattle.std.proofs.lemmas.List.{length-set}
 use Rattle.std.proofs.lemmas.Bool.{cases_eq}
 use Rattle.drm_resv.specs.Reservation.{WithRoom}
 use Rattle.drm_core.specs.Planning.{MoreRoom, HasRoomFor}
-use Rattle.drm_core.proofs.Lists.{get_set_same, get_set_other, get_set_cases}
 
 pub more_trans : (a b c : List WithRoom) → MoreRoom a b → MoreRoom b c → MoreRoom a c
 more_trans a b c ab bc = record {

@@ -35,10 +35,9 @@ use Rattle.drm_core.specs.Planning.{MoreRoom, HasRoomFor, AreRoomy, ShareNoBuffe
 use Rattle.drm_sched.specs.Marks.{MarkedDevice}
 use Rattle.drm_core.specs.declared.cores.ContextRow.{ContextRow}
 use Rattle.drm_core.proofs.Locks.{reply_is}
-use Rattle.drm_core.proofs.Lists.{to_map, from_map}
-use Rattle.drm_core.proofs.Lists.{all_at}
+use Rattle.drm_lists.proofs.Places.{to_map, from_map, list_ext}
+use Rattle.drm_lists.proofs.Searches.{all_at}
 use Rattle.drm_core.proofs.Lists.{each_fails}
-use Rattle.drm_core.proofs.Lists.{list_ext}
 use Rattle.drm_core.proofs.CoreArmed.{used_declared}
 
 -- the refusals of an event, one after the other

@@ -15,7 +15,10 @@ use Rattle.drm_state.specs.Reservation.{usage_at}
 use Rattle.drm_types.specs.Usages.{added_usage}
 use Rattle.drm_state.specs.Uses.{HasUse}
 use Rattle.drm_core.specs.Planning.{DeclaresOnce, HaveUses}
-use Rattle.drm_core.proofs.Lists.{each_fails, find_first, get_set_same, get_set_other, to_map}
+use Rattle.drm_lists.proofs.Changed.{get_set_same, get_set_other}
+use Rattle.drm_lists.proofs.Places.{to_map}
+use Rattle.drm_lists.proofs.Searches.{find_first}
+use Rattle.drm_core.proofs.Lists.{each_fails}
 
 -- a number that is first of all does not stand behind it
 first_is_apart : (x : ℕ × Access) (xs : List (ℕ × Access)) (k : ℕ) (e : ℕ × Access) → IsDistinct nat_eq (x.0 ∷ map (λ d. d.0) xs) → slice_get xs k ≡ Some e → x.0 ≡ e.0 → ⊥

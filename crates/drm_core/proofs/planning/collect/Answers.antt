@@ -3,7 +3,7 @@ use Rattle.std.proofs.lemmas.List.{take_all}
 use Rattle.drm_state.specs.Collected.{IsCollected}
 use Rattle.drm_core.specs.Planning.{declared_kept}
 use Rattle.drm_core.proofs.Collecting.{kept_next}
-use Rattle.drm_core.proofs.Lists.{contains_at}
+use Rattle.drm_lists.proofs.Places.{contains_at}
 use Rattle.drm_core.proofs.RoomFacts.{drop_next}
 use Rattle.drm_core.proofs.planning.collect.Goals as goal
 

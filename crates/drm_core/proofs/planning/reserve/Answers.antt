@@ -1,6 +1,6 @@
 use Rattle.std.proofs.Common.{◌∙◌, ◌<◌, length, get_or, arith}
 use Rattle.std.proofs.lemmas.Option.{slice_get_within, slice_get-get_or}
-use Rattle.drm_core.proofs.Lists.{get_take}
+use Rattle.drm_lists.proofs.Places.{get_take}
 use Rattle.drm_core.proofs.RoomFacts.{more_trans, more_set, room_next, drop_next}
 use Rattle.drm_core.proofs.planning.reserve.Goals as goal
 
