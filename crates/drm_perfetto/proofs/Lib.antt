@@ -1,4 +1,5 @@
 pub mod Known
+pub mod Placings
 pub mod Pens
 pub mod Kept
 pub mod RowFacts

@@ -1,5 +1,5 @@
 -- What a pen adds, one thing behind another.
-use Rattle.std.proofs.Common.{◌≡◌, ℕ, List, [], ◌∷◌, ◌++◌, append_assoc, append-nil, false, flat_map, refl, subst, sym, true}
+use Rattle.std.proofs.Common.{◌≡◌, ℕ, List, [], ◌∷◌, ◌++◌, append_assoc, append-nil, false, flat_map, subst, sym, true}
 use Rattle.std.specs.Prelude.{is_ok}
 use Rattle.std.proofs.lemmas.Grind.{flat_map-append}
 use Rattle.drm_stream.specs.Streams.{SinkState}
@@ -7,13 +7,8 @@ use Rattle.drm_engine.specs.Replaying.{Told}
 use Rattle.drm_engine.proofs.Pieces.{told_less, told_more}
 use Rattle.drm_perfetto.specs.declared.entry.Entry.{Entry}
 use Rattle.drm_perfetto.specs.declared.pen.Pen.{Pen}
-use Rattle.drm_perfetto.specs.Entries.{said_of, text_of}
-use Rattle.drm_engine.specs.Filling.{filled}
+use Rattle.drm_perfetto.specs.Entries.{text_of}
 use Rattle.drm_perfetto.specs.Pens.{Adds, AddsEntries}
-
--- a pair of words and numbers
-abbrev pub both : List ℕ → List ℕ → List ℕ × List ℕ
-both words numbers = (words, numbers)
 
 -- ---- texts
 
@@ -56,14 +51,8 @@ entries_same {a} {b} {p} {q} {entries} {other} same adds = subst (λ (es : List 
 alone : (entry : Entry) → text_of entry ≡ flat_map text_of (entry ∷ [])
 alone entry = sym (append-nil (text_of entry))
 
-pub entry_put : (old new : Pen) (from to : SinkState) (entry : Entry) (words numbers put : List ℕ) → is_ok old.told ≡ true → said_of entry ≡ both words numbers → put ≡ words
-    → Told from to new.told (old.piece ++ filled put numbers) new.piece → AddsEntries old from (entry ∷ []) new to
-entry_put old new from to entry words numbers put well said same told =
-    let text : text_of entry ≡ filled words numbers = subst (λ (p : List ℕ × List ℕ). filled (said_of entry).0 (said_of entry).1 ≡ filled p.0 p.1) said refl in
-    let line : Told from to new.told (old.piece ++ text_of entry) new.piece =
-    subst (λ (t : List ℕ). Told from to new.told (old.piece ++ t) new.piece) (sym text)
-    (subst (λ (w : List ℕ). Told from to new.told (old.piece ++ filled w numbers) new.piece) same told) in
-    record { adds = adds_same (alone entry) (text_put old new from to (text_of entry) well line) }
+pub entry_put : (old new : Pen) (from to : SinkState) (entry : Entry) → is_ok old.told ≡ true → Told from to new.told (old.piece ++ text_of entry) new.piece → AddsEntries old from (entry ∷ []) new to
+entry_put old new from to entry well told = record { adds = adds_same (alone entry) (text_put old new from to (text_of entry) well told) }
 
 pub entry_lost : (pen : Pen) (at : SinkState) (entries : List Entry) → is_ok pen.told ≡ false → AddsEntries pen at entries pen at
 entry_lost pen at entries lost = record { adds = text_lost pen at (flat_map text_of entries) lost }

@@ -1,4 +1,5 @@
 pub mod Watches
+pub mod Filling
 pub mod Entries
 pub mod Tracks
 pub mod Steps

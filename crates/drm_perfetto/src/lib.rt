@@ -13,7 +13,9 @@ mod entry;
 mod lanes;
 mod named;
 mod pen;
+mod placing;
 mod rows;
+mod text;
 mod tracing;
 mod watches;
 

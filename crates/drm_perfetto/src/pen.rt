@@ -1,13 +1,16 @@
 //! What writes a trace: a piece of text on its way to a sink, and whether a write has failed.
 
-ghost use Rattle.std.specs.Prelude.{ℕ, List, ◌∷◌, []};
+ghost use Rattle.std.specs.Prelude.{ℕ, List, ◌∷◌, ◌++◌, []};
 ghost use Rattle.std.specs.Option.{option_to_list};
 ghost use Rattle.drm_stream.specs.Streams.{SinkState};
 ghost use Rattle.drm_engine.specs.Replaying.{Told};
+ghost use Rattle.drm_perfetto.specs.Entries.{text_of};
 ghost use Rattle.drm_perfetto.specs.Pens.{Adds, AddsEntries};
 
-use crate::entry::{Entry, said_of};
-use drm_engine::{Piece, WriteFailed, put_bytes, put_filled};
+use crate::entry::Entry;
+use crate::placing::make_room;
+use crate::text::place_entry;
+use drm_engine::{Piece, WriteFailed, put_bytes};
 use drm_stream::Sink;
 use std::io::Write;
 
@@ -18,6 +21,20 @@ pub struct Pen {
     pub piece: Piece,
     /// Whether all writes went well.
     pub told: Result<(), WriteFailed>,
+}
+
+// Puts an entry behind a piece, which is written before if it may have no room for it.
+#[inline(always)]
+fn put_entry<W: Write>(
+    piece: &mut Piece,
+    writer: &mut Sink<W>,
+    entry: Entry,
+) -> Result<(), WriteFailed>
+    ensures { Told writer.old writer.new result (piece.old ++ text_of entry) piece.new }
+{
+    make_room(piece, writer)?;
+    place_entry(piece, entry);
+    Ok(())
 }
 
 impl Pen {
@@ -40,9 +57,7 @@ impl Pen {
         if !is_well {
             return;
         }
-        let said = said_of(entry);
-        let numbers = said.1;
-        self.told = put_filled(&mut self.piece, writer, said.0.as_bytes(), &numbers);
+        self.told = put_entry(&mut self.piece, writer, entry);
     }
 
     /// Puts an entry, if there is one.

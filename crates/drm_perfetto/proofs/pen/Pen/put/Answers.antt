@@ -6,6 +6,4 @@ pub returns-then-not-is_well : goal.returns-then-not-is_well
 returns-then-not-is_well g c = entry_lost c.args.self.now c.args.writer.now (c.args.entry ∷ []) (sym c.is_ok-is_well.ensures.value ∙ c.if-not-is_well.true)
 
 pub returns : goal.returns
-returns g c =
-    entry_put c.args.self.now _ c.args.writer.now c.put_filled-self.new.writer c.args.entry c.said_of-said.result.0.now c.said_of-said.result.1 c.as_bytes.result.now
-    (sym c.is_ok-is_well.ensures.value ∙ c.if-not-is_well.false) c.said_of-said.ensures c.as_bytes.ensures.value c.put_filled-self.ensures
+returns g c = entry_put c.args.self.now _ c.args.writer.now c.put_entry-self.new.writer c.args.entry (sym c.is_ok-is_well.ensures.value ∙ c.if-not-is_well.false) c.put_entry-self.ensures
