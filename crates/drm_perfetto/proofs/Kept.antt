@@ -33,6 +33,7 @@ use Rattle.drm_perfetto.specs.Rows.{AllRows, AreRows, DeviceRows, KeepsRows, row
 use Rattle.drm_perfetto.specs.Steps.{arrow, begun, changed, credits_entry, each, ended, is_same, moves_device, moves_holders, moves_of, named_of, queued_entry, recounted, turned}
 use Rattle.drm_perfetto.specs.Tracks.{count_of, shown}
 use Rattle.drm_perfetto.proofs.RowFacts.{arrow_kept, each_alike, each_more}
+use Rattle.drm_perfetto.proofs.Unran.{ran_same, same_shown, unran_device}
 
 -- ---- entries
 
@@ -120,29 +121,29 @@ context_holders : (s : CoreState) (ctx : ℕ) (change : Context → Context) →
 context_holders s ctx change =
     at_option (λ (n : CoreState). n.holders ≡ s.holders) (λ (c : Context). with_context s ctx (Some (change c))) (context_of s ctx) s refl (λ c. refl)
 
--- by such an answer the device stays
+-- by such an answer the device stays, but for its memory and how many packets its jobs have run
 abbrev KeepsDevice : DeviceState → Named → Answer × DeviceState → Type 0
-KeepsDevice d named p = moves_device named p.0 ≡ false → p.1 ≡ d
+KeepsDevice d named p = moves_device named p.0 ≡ false → unran_device p.1 ≡ unran_device d
 
-device_kept : (s : CoreState) (e : Event Draft) → moves_device (named_of e) (outcome_of_event s e).0 ≡ false → (outcome_of_event s e).1.device ≡ s.device
+device_kept : (s : CoreState) (e : Event Draft) → moves_device (named_of e) (outcome_of_event s e).0 ≡ false → unran_device (outcome_of_event s e).1.device ≡ unran_device s.device
 device_kept s (happens.Submit draft) is = never is
 device_kept s (happens.Begin ctx) is = refl
 device_kept s (happens.Try ctx b) is =
-    at_option (λ (p : Answer × CoreState). p.1.device ≡ s.device) _ (holder_of s b) (gives.Held, with_holder s b (Some ctx)) refl
-    (λ h. at_cond (λ (p : Answer × CoreState). p.1.device ≡ s.device) (nat_lt (ticket_of s h) (ticket_of s ctx)) _ _ refl refl)
-device_kept s (happens.Done ctx) is = context_device s ctx _
-device_kept s (happens.Drop ctx b) is = context_device (with_holder s b None) ctx _
+    at_option (λ (p : Answer × CoreState). unran_device p.1.device ≡ unran_device s.device) _ (holder_of s b) (gives.Held, with_holder s b (Some ctx)) refl
+    (λ h. at_cond (λ (p : Answer × CoreState). unran_device p.1.device ≡ unran_device s.device) (nat_lt (ticket_of s h) (ticket_of s ctx)) _ _ refl refl)
+device_kept s (happens.Done ctx) is = ap unran_device (context_device s ctx _)
+device_kept s (happens.Drop ctx b) is = ap unran_device (context_device (with_holder s b None) ctx _)
 device_kept s (happens.End ctx) is = refl
-device_kept s (happens.Plan ctx draft) is = context_device s ctx _
+device_kept s (happens.Plan ctx draft) is = ap unran_device (context_device s ctx _)
 device_kept s (happens.Arm ctx) is =
-    at_option (λ (p : Answer × CoreState). moves_device (named_of (happens.Arm ctx)) p.0 ≡ false → p.1.device ≡ s.device) _ (plan_of s ctx) (gives.Ok, s) (λ still. refl) (λ job still. never still) is
+    at_option (λ (p : Answer × CoreState). moves_device (named_of (happens.Arm ctx)) p.0 ≡ false → unran_device p.1.device ≡ unran_device s.device) _ (plan_of s ctx) (gives.Ok, s) (λ still. refl) (λ job still. never still) is
 device_kept s (happens.Pick ring now) is =
     at_any_record (KeepsDevice s.device (named_of (happens.Pick ring now))) s.device _ (gives.Ok, s.device) (choice s.device ring) (λ still. refl) (λ f r still. never still) is
 device_kept s (happens.Step ring) is =
     let P = KeepsDevice s.device (named_of (happens.Step ring)) in
     at_any_record P s.device _ (gives.Ok, s.device) (current_of s.device ring) (λ still. refl)
     (λ f r. at_option P (stepped_by s.device f) (slice_get r.job.packets r.ran) (gives.Ok, s.device) (λ still. refl)
-    (λ p. at_cond P (is_at s.device.journal f (λ r. must_stall p r.karma.resets)) _ _ (λ still. refl) (λ still. never still))) is
+    (λ p. at_cond P (is_at s.device.journal f (λ r. must_stall p r.karma.resets)) _ _ (λ still. refl) (λ still. ran_same s.device f p))) is
 device_kept s (happens.Finish ring now) is =
     at_any_record (KeepsDevice s.device (named_of (happens.Finish ring now))) s.device _ (gives.Ok, s.device) (head_of s.device ring) (λ still. refl) (λ f r still. never still) is
 device_kept s (happens.Timeout ring now) is =
@@ -176,10 +177,10 @@ holders_kept s (happens.Read ctx b) is = refl
 holders_kept s (happens.Status fence) is = refl
 holders_kept s (happens.Dump b) is = refl
 
-device_stays : (old new : CoreState) (e : Event Draft) (a : Answer) → Step old e a new → moves_device (named_of e) a ≡ false → new.device ≡ old.device
+device_stays : (old new : CoreState) (e : Event Draft) (a : Answer) → Step old e a new → moves_device (named_of e) a ≡ false → unran_device new.device ≡ unran_device old.device
 device_stays old new e a step still = elim (cases_step old e a new step) [
-  | inl refused ↦ ap (λ (s : CoreState). s.device) refused.keeps
-  | inr had ↦ ap (λ (s : CoreState). s.device) had.leaves ∙ device_kept old e (subst (λ (a : Answer). moves_device (named_of e) a ≡ false) had.answers still)
+  | inl refused ↦ ap (λ (s : CoreState). unran_device s.device) refused.keeps
+  | inr had ↦ ap (λ (s : CoreState). unran_device s.device) had.leaves ∙ device_kept old e (subst (λ (a : Answer). moves_device (named_of e) a ≡ false) had.answers still)
 ]
 
 holders_stay : (old new : CoreState) (e : Event Draft) (a : Answer) → Step old e a new → moves_holders (named_of e) a ≡ false → new.holders ≡ old.holders
@@ -190,19 +191,29 @@ holders_stay old new e a step still = elim (cases_step old e a new step) [
 
 -- ---- rows
 
-device_rows : (old new : CoreState) (rows : Rows) → new.device ≡ old.device → AllRows old rows → DeviceRows new rows
-device_rows old new rows same all = record {
-  wait = subst (λ (d : DeviceState). AreRows (record old { device = d }) lane.Wait rows.wait.items) (sym same) all.wait;
-  queue = subst (λ (d : DeviceState). AreRows (record old { device = d }) lane.Queue rows.queue.items) (sym same) all.queue;
-  ring = subst (λ (d : DeviceState). AreRows (record old { device = d }) lane.Ring rows.ring.items) (sym same) all.ring;
-  credits = subst (λ (d : DeviceState). AreRows (record old { device = d }) lane.Credits rows.credits.items) (sym same) all.credits;
-  queued = subst (λ (d : DeviceState). AreRows (record old { device = d }) lane.Queued rows.queued.items) (sym same) all.queued;
-}
+-- rows of lanes that show what they showed
+rows_alike : (old new : CoreState) (kind : Lane) (rows : List (Option Row)) → old.device.spec ≡ new.device.spec → ((number : ℕ) → shown old kind number ≡ shown new kind number) → AreRows old kind rows
+    → AreRows new kind rows
+rows_alike old new kind rows spec same are =
+    subst (λ (spec : DeviceSpec). (length rows ≡ count_of spec kind) × ((number : ℕ) → number < count_of spec kind → row_at rows number ≡ shown new kind number)) spec
+    (are.0, λ number lt. are.1 number lt ∙ same number)
+
+device_rows : (old new : CoreState) (rows : Rows) → unran_device new.device ≡ unran_device old.device → AllRows old rows → DeviceRows new rows
+device_rows old new rows same all =
+    let spec : old.device.spec ≡ new.device.spec = ap (λ (d : DeviceState). d.spec) (sym same) in
+    let other : (kind : Lane) (number : ℕ) → shown (record old { device = unran_device old.device }) kind number ≡ shown (record old { device = unran_device new.device }) kind number =
+    λ kind number. ap (λ (d : DeviceState). shown (record old { device = d }) kind number) (sym same) in
+    record {
+      wait = rows_alike old new lane.Wait rows.wait.items spec (λ n. sym (same_shown old lane.Wait n) ∙ other lane.Wait n ∙ same_shown new lane.Wait n) all.wait;
+      queue = rows_alike old new lane.Queue rows.queue.items spec (λ n. sym (same_shown old lane.Queue n) ∙ other lane.Queue n ∙ same_shown new lane.Queue n) all.queue;
+      ring = rows_alike old new lane.Ring rows.ring.items spec (λ n. sym (same_shown old lane.Ring n) ∙ other lane.Ring n ∙ same_shown new lane.Ring n) all.ring;
+      credits = rows_alike old new lane.Credits rows.credits.items spec (λ n. sym (same_shown old lane.Credits n) ∙ other lane.Credits n ∙ same_shown new lane.Credits n) all.credits;
+      queued = rows_alike old new lane.Queued rows.queued.items spec (λ n. sym (same_shown old lane.Queued n) ∙ other lane.Queued n ∙ same_shown new lane.Queued n) all.queued;
+    }
 
 buffer_rows : (old new : CoreState) (rows : List (Option Row)) → new.holders ≡ old.holders → old.device.spec ≡ new.device.spec → AreRows old lane.Buffer rows → AreRows new lane.Buffer rows
 buffer_rows old new rows same spec are =
-    subst (λ (spec : DeviceSpec). (length rows ≡ count_of spec lane.Buffer) × ((number : ℕ) → number < count_of spec lane.Buffer → row_at rows number ≡ shown new lane.Buffer number)) spec
-    (are.0, λ number lt. are.1 number lt ∙ ap (λ (holders : List (Option ℕ)). shown (record old { holders = holders }) lane.Buffer number) (sym same))
+    rows_alike old new lane.Buffer rows spec (λ number. ap (λ (holders : List (Option ℕ)). shown (record old { holders = holders }) lane.Buffer number) (sym same)) are
 
 -- the rows of what was not moved are those of the state behind the command
 pub rows_kept : (old new : CoreState) (e : Event Draft) (a : Answer) (named : Named) (rows : Rows) → named ≡ named_of e → Step old e a new → old.device.spec ≡ new.device.spec → AllRows old rows

@@ -1,6 +1,7 @@
 pub mod Known
 pub mod Placings
 pub mod Pens
+pub mod Unran
 pub mod Kept
 pub mod RowFacts
 pub mod Traced

@@ -70,7 +70,7 @@ instant_of named at _ = None
 
 -- ---- what a command may change
 
--- jobs, rings and entities, by this answer
+-- what is shown of jobs, rings and entities, by this answer: a packet that ran changes none of it
 abbrev pub moves_device : Named → Answer → Bool
 moves_device named (gives.Refused why) = false
 moves_device named (gives.Ticket ticket) = false
@@ -78,6 +78,7 @@ moves_device named gives.Held = false
 moves_device named (gives.Older holder) = false
 moves_device named (gives.Younger holder) = false
 moves_device named gives.Planned = false
+moves_device named (gives.Ran fence packet) = false
 moves_device named (gives.Stalled fence) = false
 moves_device named gives.Empty = false
 moves_device named (gives.NotYet due_in) = false

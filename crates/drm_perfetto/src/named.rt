@@ -103,13 +103,14 @@ fn done_instant(named: Named, at: u64) -> Option<Entry>
 /// What a command may have changed.
 #[derive(Clone, Copy)]
 pub struct Moves {
-    /// Jobs, rings or entities.
+    /// What is shown of jobs, rings or entities.
     pub device: bool,
     /// Who holds a buffer.
     pub holders: bool,
 }
 
-// Whether a command may have changed jobs, rings or entities, by this answer.
+// Whether a command may have changed what is shown of jobs, rings or entities, by this answer. A packet that ran changed
+// none of it.
 fn is_device_moved(named: Named, answer: &Answer) -> bool
     ensures { result ≡ moves_device named answer.now }
 {
@@ -120,6 +121,7 @@ fn is_device_moved(named: Named, answer: &Answer) -> bool
         Answer::Older { .. } => false,
         Answer::Younger { .. } => false,
         Answer::Planned => false,
+        Answer::Ran { .. } => false,
         Answer::Stalled { .. } => false,
         Answer::Empty => false,
         Answer::NotYet { .. } => false,
