@@ -1,6 +1,7 @@
 -- Nothing that is shown of a device depends on how many packets its jobs have run.
 use Rattle.std.proofs.Common.{◌≡◌, ◌∙◌, ℕ, zero, suc, ◌+◌, ◌-◌, Bool, true, false, cond, not, ◌&&◌, ◌==◌, List, [], ◌∷◌, length, map, take, Some, None, Option, refl, sym, ap, slice_get}
-use Rattle.std.specs.Prelude.{find, min, nat_lt, option_and_then, option_map, slice_set, sum_by, unwrap_or}
+use Rattle.std.proofs.lemmas.List.{length-map}
+use Rattle.std.specs.Prelude.{find, min, option_and_then, option_map, slice_set, sum_by, unwrap_or}
 use Rattle.std.specs.Option.{option_map_or}
 use Rattle.std.specs.List.{enumerate_from, filter}
 use Rattle.drm_types.specs.Firsts.{first}
@@ -10,16 +11,17 @@ use Rattle.drm_fence.specs.Phases.{is_queued, has_ended}
 use Rattle.drm_packet.specs.declared.Packet.{Packet}
 use Rattle.drm_state.specs.declared.journal.JobRecord.{JobRecord}
 use Rattle.drm_state.specs.Arming.{load}
-use Rattle.drm_state.specs.Choice.{choice, queue_of}
-use Rattle.drm_state.specs.Journal.{changed_at, is_complete, numbered}
+use Rattle.drm_state.specs.Choice.{queue_of}
+use Rattle.drm_state.specs.Journal.{changed_at, numbered}
 use Rattle.drm_state.specs.Order.{comes_after, dependencies, is_met}
 use Rattle.drm_state.specs.Outcomes.{ran_device}
-use Rattle.drm_state.specs.Ring.{credit_limit_of, credits_of, current_of, free_credits, head_of, is_stopped, pending_of}
+use Rattle.drm_state.specs.Ring.{credit_limit_of, credits_of, free_credits, head_of, is_stopped, pending_of}
 use Rattle.drm_state.specs.State.{DeviceState}
+use Rattle.drm_state.proofs.Found.{first_map}
 use Rattle.drm_state.proofs.LoadsKept.{map_set_same}
 use Rattle.drm_reason.specs.Awaited.{awaited_by}
-use Rattle.drm_reason.specs.Reasons.{front_reason, head_reason, least_going, least_unmet, line_reason, packet_reason, pending_reason, phase_reason, queue_head, queued_reason, ready_reason, reason_of, stalls, unmet_reason}
-use Rattle.drm_reason.specs.declared.reason.Reason.{Reason}
+use Rattle.drm_reason.specs.Reasons.{head_reason, least_going, least_unmet, line_reason, phase_reason, queue_head, queued_reason, reason_of}
+use Rattle.drm_reason.proofs.Awaits.{head_awaits, pending_awaits}
 use Rattle.drm_reason.specs.declared.reason.Reason.TheVariants as reason
 use Rattle.drm_core.specs.State.{CoreState}
 use Rattle.drm_perfetto.specs.declared.lanes.Lane.{Lane}
@@ -28,10 +30,6 @@ use Rattle.drm_perfetto.specs.declared.lanes.Row.{Row}
 use Rattle.drm_perfetto.specs.Tracks.{counted, ring_of, shown, wait_row}
 
 -- ---- lists
-
-first_of_map : {X Y : Type 0} (f : X → Y) (xs : List X) → first (map f xs) ≡ option_map f (first xs)
-first_of_map f [] = refl
-first_of_map f (x ∷ xs) = refl
 
 take_of_map : {X Y : Type 0} (f : X → Y) (k : ℕ) (xs : List X) → take k (map f xs) ≡ map f (take k xs)
 take_of_map f zero xs = refl
@@ -58,10 +56,6 @@ at_map : {X Y Z : Type 0} (h : Y → Z) (f : X → Y) (none : Z) (xs : List X) (
 at_map h f none [] k = refl
 at_map h f none (x ∷ xs) zero = refl
 at_map h f none (x ∷ xs) (suc k) = at_map h f none xs k
-
-count_of_map : {X Y : Type 0} (f : X → Y) (xs : List X) → length (map f xs) ≡ length xs
-count_of_map f [] = refl
-count_of_map f (x ∷ xs) = ap (λ n. suc n) (count_of_map f xs)
 
 -- ---- records that have run nothing
 
@@ -103,7 +97,7 @@ same_front entity js =
     let waits = λ (n : ℕ × JobRecord). (n.1.job.entity == entity) && is_queued n.1.phase in
     ap (λ ns. option_map (λ (n : ℕ × JobRecord). n.0) (first (filter waits ns))) (numbered_unran 0 js)
     ∙ ap (λ ns. option_map (λ (n : ℕ × JobRecord). n.0) (first ns)) (filter_of_map waits unran_at (enumerate_from 0 js))
-    ∙ ap (λ o. option_map (λ (n : ℕ × JobRecord). n.0) o) (first_of_map unran_at (queue_of entity js))
+    ∙ ap (λ o. option_map (λ (n : ℕ × JobRecord). n.0) o) (first_map unran_at (queue_of entity js))
     ∙ same_number (first (queue_of entity js))
 
 -- ---- what a job waits for
@@ -118,48 +112,6 @@ same_unmet js n r =
     ∙ ap (λ o. option_map (λ (m : ℕ × JobRecord). m.0) o) (find_in_map unmet unran_at (dependencies js n r.job))
     ∙ same_number (least_unmet js n r)
 
--- a job that is ready waits for no fence
-ready_awaits : (d : DeviceState) (ring n : ℕ) → awaited_by (ready_reason d ring n) ≡ None
-ready_awaits d ring n = by_turn (unwrap_or (choice d ring) n)
-  where
-    by_credits : (b : Bool) → awaited_by (cond b (reason.NoCredits ring (credits_of d ring n) (free_credits d ring)) (reason.Next ring)) ≡ None
-    by_credits true = refl
-    by_credits false = refl
-
-    by_next : (next : ℕ) (b : Bool)
-        → awaited_by (cond b (cond (nat_lt (free_credits d ring) (credits_of d ring n)) (reason.NoCredits ring (credits_of d ring n) (free_credits d ring)) (reason.Next ring)) (reason.BehindRingHead ring next)) ≡ None
-    by_next next true = by_credits (nat_lt (free_credits d ring) (credits_of d ring n))
-    by_next next false = refl
-
-    by_turn : (next : ℕ)
-        → awaited_by (cond (next == n) (cond (nat_lt (free_credits d ring) (credits_of d ring n)) (reason.NoCredits ring (credits_of d ring n) (free_credits d ring)) (reason.Next ring)) (reason.BehindRingHead ring next)) ≡ None
-    by_turn next = by_next next (next == n)
-
--- a pending job waits for none
-pending_awaits : (d : DeviceState) (n : ℕ) (r : JobRecord) → awaited_by (pending_reason d n r) ≡ None
-pending_awaits d n r = by_complete (is_complete r)
-  where
-    by_front : (front : Option ℕ) (b : Bool) (itself : Reason) → awaited_by itself ≡ None → awaited_by (cond b itself (reason.Pending r.ring (unwrap_or front n))) ≡ None
-    by_front front true itself none = none
-    by_front front false itself none = refl
-
-    by_packet : (b : Bool) → awaited_by (cond b (reason.Stalls r.ring r.ran) (reason.Runs r.ring r.ran)) ≡ None
-    by_packet true = refl
-    by_packet false = refl
-
-    by_complete : (b : Bool)
-        → awaited_by (cond b (front_reason r.ring n (head_of d r.ring) (reason.Complete r.ring)) (front_reason r.ring n (current_of d r.ring) (packet_reason r))) ≡ None
-    by_complete true = by_front (head_of d r.ring) (unwrap_or (head_of d r.ring) n == n) (reason.Complete r.ring) refl
-    by_complete false = by_front (current_of d r.ring) (unwrap_or (current_of d r.ring) n == n) (packet_reason r) (by_packet (stalls r))
-
--- the first job in the queue of its entity waits for the least that is not met
-head_awaits : (d : DeviceState) (n : ℕ) (r : JobRecord) → awaited_by (head_reason d n r) ≡ option_map (λ (m : ℕ × JobRecord). m.0) (least_unmet d.journal n r)
-head_awaits d n r = by_found (least_unmet d.journal n r)
-  where
-    by_found : (o : Option (ℕ × JobRecord)) → awaited_by (option_map_or (unmet_reason r) o (ready_reason d r.ring n)) ≡ option_map (λ (m : ℕ × JobRecord). m.0) o
-    by_found None = ready_awaits d r.ring n
-    by_found (Some m) = refl
-
 -- what a queued job waits for
 queued_awaits : (d : DeviceState) (n : ℕ) (r : JobRecord) → awaited_by (queued_reason (unran_device d) n (unran r)) ≡ awaited_by (queued_reason d n r)
 queued_awaits d n r =
@@ -167,7 +119,7 @@ queued_awaits d n r =
     ∙ by_stop (is_stopped d r.job.entity)
   where
     by_head : (head : ℕ) (b : Bool) → awaited_by (cond b (head_reason (unran_device d) n (unran r)) (reason.BehindQueueHead head)) ≡ awaited_by (cond b (head_reason d n r) (reason.BehindQueueHead head))
-    by_head head true = head_awaits (unran_device d) n (unran r) ∙ same_unmet d.journal n r ∙ sym (head_awaits d n r)
+    by_head head true = sym (head_awaits (unran_device d) n (unran r)) ∙ same_unmet d.journal n r ∙ head_awaits d n r
     by_head head false = refl
 
     by_stop : (b : Bool)
@@ -183,7 +135,7 @@ same_awaited d n =
   where
     by_phase : (r : JobRecord) (phase : Phase) → awaited_by (phase_reason (unran_device d) n (unran r) phase) ≡ awaited_by (phase_reason d n r phase)
     by_phase r Queued = queued_awaits d n r
-    by_phase r Scheduled = pending_awaits (unran_device d) n (unran r) ∙ sym (pending_awaits d n r)
+    by_phase r Scheduled = sym (pending_awaits (unran_device d) n (unran r)) ∙ pending_awaits d n r
     by_phase r (Ended outcome) = refl
 
     by_record : (o : Option JobRecord)
@@ -203,7 +155,7 @@ same_free d ring = ap (λ n. credit_limit_of d ring - n) (by_pending (pending_of
 same_load : (js : List JobRecord) (ring : ℕ) → load (map unran js) ring ≡ load js ring
 same_load js ring =
     let on_ring = λ (r : JobRecord). (r.ring == ring) && not (has_ended r.phase) in
-    ap (λ rs. length rs) (filter_of_map on_ring unran js) ∙ count_of_map unran (filter on_ring js)
+    ap (λ rs. length rs) (filter_of_map on_ring unran js) ∙ length-map (filter on_ring js) unran
 
 -- ---- what is shown
 

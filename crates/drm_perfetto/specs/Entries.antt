@@ -44,16 +44,18 @@ said_of_end at (track.Wait entity) =
 said_of_end at (track.Buffer buffer) =
     (codes ",\n{\"ph\":\"E\",\"pid\":4,\"tid\":%,\"ts\":%}", four (buffer + 1) at 0 0)
 
+-- the words of an arrow that leaves a queue
+abbrev pub leaves_queue : List ℕ
+leaves_queue =
+    codes ",\n{\"ph\":\"s\",\"pid\":2,\"tid\":%,\"ts\":%,\"id\":\"%a%\",\"cat\":\"fence\",\"name\":\"lets go\"}"
+
 -- those of the begin of an arrow: a ring has it where a job ended, and a queue where one left it
 abbrev pub said_of_leave : When → ℕ → Track → List ℕ × List ℕ
 said_of_leave when entity (track.Ring ring) =
     (codes ",\n{\"ph\":\"s\",\"pid\":1,\"tid\":%,\"ts\":%,\"id\":\"%a%\",\"cat\":\"fence\",\"name\":\"lets go\"}", four (ring + 1) when.at when.command entity)
-said_of_leave when entity (track.Queue number) =
-    (codes ",\n{\"ph\":\"s\",\"pid\":2,\"tid\":%,\"ts\":%,\"id\":\"%a%\",\"cat\":\"fence\",\"name\":\"lets go\"}", four (number + 1) when.at when.command entity)
-said_of_leave when entity (track.Wait number) =
-    (codes ",\n{\"ph\":\"s\",\"pid\":2,\"tid\":%,\"ts\":%,\"id\":\"%a%\",\"cat\":\"fence\",\"name\":\"lets go\"}", four (number + 1) when.at when.command entity)
-said_of_leave when entity (track.Buffer number) =
-    (codes ",\n{\"ph\":\"s\",\"pid\":2,\"tid\":%,\"ts\":%,\"id\":\"%a%\",\"cat\":\"fence\",\"name\":\"lets go\"}", four (number + 1) when.at when.command entity)
+said_of_leave when entity (track.Queue number) = (leaves_queue, four (number + 1) when.at when.command entity)
+said_of_leave when entity (track.Wait number) = (leaves_queue, four (number + 1) when.at when.command entity)
+said_of_leave when entity (track.Buffer number) = (leaves_queue, four (number + 1) when.at when.command entity)
 
 -- the words of an entry, and its numbers
 abbrev pub said_of : Entry → List ℕ × List ℕ
