@@ -7,7 +7,7 @@ use Rattle.std.proofs.lemmas.Bool.{leb-true, ltb-true}
 use Rattle.std.proofs.lemmas.List.{take-append-drop}
 use Rattle.std.proofs.lemmas.List.Elements.{All-head, All-more, All-tail, All-take, filter_map-append}
 use Rattle.drm_types.specs.declared.access.Access.{Access}
-use Rattle.drm_core.proofs.Lists.{get_push_cases}
+use Rattle.drm_lists.proofs.Places.{get_push_cases}
 use Rattle.drm_picture.specs.Latest.{end_of, latest_end}
 use Rattle.drm_picture.specs.Reach.{AreReaches, is_within}
 use Rattle.drm_picture.specs.Waiting.{conflicts_at, holds_up}
