@@ -69,7 +69,7 @@ lane_credits limits before part picture _ row = []
 
 -- the line of a lane, if it has one
 abbrev pub line_text : List ℕ → List Step → List Step → Picture → LaneRows → List ℕ
-line_text limits before part picture rows = if has_credits rows.lane rows.bars.items then lane_credits limits before part picture rows.lane rows.bottom else []
+line_text limits before part picture rows = if has_credits rows.lane rows.bars then lane_credits limits before part picture rows.lane rows.bottom else []
 
 -- the lines of all lanes
 abbrev pub credits_text : List ℕ → List Step → List Step → Picture → Layout → List ℕ

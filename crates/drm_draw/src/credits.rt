@@ -205,7 +205,7 @@ fn put_line(
 ) -> Result<(), AllocError>
     ensures { OnOk result (out.new.items ≡ out.old.items ++ line_text limits.now before.now part.now picture.now rows.now) }
 {
-    if has_credits(rows.lane, &rows.bars) {
+    if has_credits(rows.lane, rows.bars.as_slice()) {
         return put_lane(out, limits, before, part, picture, rows.lane, rows.bottom);
     }
     Ok(())

@@ -26,4 +26,5 @@ pub use columns::{Axis, Scale};
 pub use command::{Request, Step, moment, word};
 pub use marks::{Mark, Sign};
 pub use picture::{Picture, Shape, part, picture_of};
+pub use waiting::is_conflict_at;
 pub use waits::Wait;

@@ -20,8 +20,8 @@ use drm_state::Answer;
 use drm_types::{Access, BufferId, FenceId, Moment};
 use std::alloc::{AllocError, Global};
 
-// Whether the earlier job conflicts with one that declares this buffer alone.
-fn is_conflict_at(declared: &(BufferId, Access), job: Option<&Request>) -> bool
+/// Returns whether the earlier job, if there is one, conflicts with one that declares this buffer alone.
+pub fn is_conflict_at(declared: &(BufferId, Access), job: Option<&Request>) -> bool
     ensures { result ≡ conflicts_at declared.now (option_copied job.entry) }
 {
     match job {

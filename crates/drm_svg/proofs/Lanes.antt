@@ -26,9 +26,9 @@ lane_more picture lanes lane rows next middle so named at each = record {
 
 -- the rows of a lane whose bars are all placed
 pub lane_of_placed : (picture : Picture) (rows : LaneRows) (first : ℕ) (es : List ℕ) → first ≡ rows.top + 1 → rows.bottom ≡ length es
-    → ArePlaced picture rows.lane first (bars_of_kind picture rows.lane) rows.bars.items es → IsLaneRows picture rows
+    → ArePlaced picture rows.lane first (bars_of_kind picture rows.lane) rows.bars es → IsLaneRows picture rows
 lane_of_placed picture rows first es begins ends placed =
-    let needed : (row : ℕ) → first ≤ row → row < length es → Any (λ (p : Placed). p.row ≡ row) rows.bars.items =
+    let needed : (row : ℕ) → first ≤ row → row < length es → Any (λ (p : Placed). p.row ≡ row) rows.bars =
     λ row from below.
     let reached = placed.rowed.reached row from below in
     (reached.0, reached.1, reached.2, reached.3, reached.4.0) in
@@ -38,7 +38,7 @@ lane_of_placed picture rows first es begins ends placed =
       apart = placed.rowed.apart;
       first_free = λ k d within row from below. placed.rowed.above k d within row (omega (arith, begins, from)) below;
       within = All-weaker (λ (p : Placed). (first ≤ p.row) × (p.row < length es)) (λ (p : Placed). (rows.top < p.row) × (p.row < rows.bottom))
-          (λ p h. (omega (arith, begins, h.0), omega (arith, ends, h.1))) rows.bars.items placed.rowed.within;
+          (λ p h. (omega (arith, begins, h.0), omega (arith, ends, h.1))) rows.bars placed.rowed.within;
       needed = λ row from below. needed row (omega (arith, begins, from)) (omega (arith, ends, below));
     }
 

@@ -1,4 +1,5 @@
 pub mod InTurn
+pub mod InOrder
 pub mod Places
 pub mod Columns
 pub mod Rows

@@ -19,7 +19,7 @@ lane_name_text row lane = LANE.now ++ decimal row ++ codes "7'>" ++ name_of lane
 
 -- the name of a lane, and its bars
 abbrev pub lane_text : Picture → LaneRows → List ℕ
-lane_text picture rows = lane_name_text rows.top rows.lane ++ bars_text picture rows.bars.items
+lane_text picture rows = lane_name_text rows.top rows.lane ++ bars_text picture rows.bars
 
 -- the name of the fences left of their header
 unfoldable pub fences_name_text : ℕ → List ℕ

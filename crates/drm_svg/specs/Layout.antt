@@ -1,5 +1,5 @@
 -- Where everything of a picture is drawn: rows of ten pixels, and columns of ten.
-use Rattle.std.specs.Prelude.{◌≡◌, ℕ, zero, suc, Bool, false, ◌+◌, ◌-◌, ◌<◌, ◌≤◌, ◌==◌, List, [], ◌∷◌, ◌++◌, All, AllPairs, Any, filter, find, if◌then◌else◌, length, map, nat_lt, slice_index_or, take}
+use Rattle.std.specs.Prelude.{◌≡◌, ℕ, zero, suc, Bool, false, ◌+◌, ◌-◌, ◌<◌, ◌≤◌, ◌==◌, List, [], ◌∷◌, ◌++◌, All, AllPairs, Any, ◌&&◌, filter, find, if◌then◌else◌, length, map, nat_le, nat_lt, option_and_then, Option, Some, None, slice_index_or, take}
 use Rattle.std.specs.List.{enumerate_from}
 use Rattle.std.specs.Option.{option_map_or}
 use Rattle.drm_picture.specs.declared.bars.Bar.{Bar}
@@ -7,6 +7,7 @@ use Rattle.drm_picture.specs.declared.bars.Lane.{Lane}
 use Rattle.drm_picture.specs.declared.bars.Lane.TheVariants as lane
 use Rattle.drm_picture.specs.declared.picture.Picture.{Picture}
 use Rattle.drm_picture.specs.declared.picture.Shape.{Shape}
+use Rattle.drm_svg.specs.LaneBars.{is_waiting}
 use Rattle.drm_svg.specs.declared.layout.LaneRows.{LaneRows}
 use Rattle.drm_svg.specs.declared.layout.Layout.{Layout}
 use Rattle.drm_svg.specs.declared.placing.Placed.{Placed}
@@ -72,12 +73,12 @@ EachRowAboveIsTaken first bars =
 
 -- the rows of a lane: a header, and below it those of the bars of the lane, as many as they need
 pub record IsLaneRows (picture : Picture) (rows : LaneRows) : Type 0 where
-  pub drawn : map (λ placed. placed.bar) rows.bars.items ≡ bars_in picture rows.lane
-  pub cut : All (λ placed. placed ≡ placed_at picture placed.row placed.bar) rows.bars.items
-  pub apart : AllPairs AreApart rows.bars.items
-  pub first_free : EachRowAboveIsTaken (rows.top + 1) rows.bars.items
-  pub within : All (λ placed. (rows.top < placed.row) × (placed.row < rows.bottom)) rows.bars.items
-  pub needed : (row : ℕ) → rows.top < row → row < rows.bottom → Any (λ placed. placed.row ≡ row) rows.bars.items
+  pub drawn : map (λ placed. placed.bar) rows.bars ≡ bars_in picture rows.lane
+  pub cut : All (λ placed. placed ≡ placed_at picture placed.row placed.bar) rows.bars
+  pub apart : AllPairs AreApart rows.bars
+  pub first_free : EachRowAboveIsTaken (rows.top + 1) rows.bars
+  pub within : All (λ placed. (rows.top < placed.row) × (placed.row < rows.bottom)) rows.bars
+  pub needed : (row : ℕ) → rows.top < row → row < rows.bottom → Any (λ placed. placed.row ≡ row) rows.bars
 
 -- what a function gives of each number below this one
 abbrev pub below : (ℕ → Lane) → ℕ → List Lane
@@ -95,7 +96,7 @@ has_credits _ bars = false
 
 -- the row below a lane, and below the credits of a ring that has some
 abbrev pub below_of : LaneRows → ℕ
-below_of rows = if has_credits rows.lane rows.bars.items then rows.bottom + 1 else rows.bottom
+below_of rows = if has_credits rows.lane rows.bars then rows.bottom + 1 else rows.bottom
 
 -- lanes one below another, from a row to before another
 abbrev pub AreStacked : ℕ → List LaneRows → ℕ → Type 0
@@ -129,3 +130,21 @@ header_of layout lane = option_map_or (λ rows. rows.top) (find (λ rows. same_l
 abbrev pub row_of_lane : Layout → Lane → ℕ
 row_of_lane layout (lane.Fence fence) = row_of_fence layout fence
 row_of_lane layout lane = header_of layout lane
+
+-- the bar of a job that waits for a buffer, in the lane of the buffer
+abbrev pub waiting_bar : Layout → ℕ → ℕ → Option Placed
+waiting_bar layout buffer fence = option_and_then (λ rows. find (is_waiting fence) rows.bars) (find (λ rows. same_lane rows.lane (lane.Buffer buffer)) layout.lanes.items)
+
+-- the bar has begun in this column, and not ended
+abbrev pub lasts_in : ℕ → Placed → Bool
+lasts_in column placed = nat_le placed.left column && nat_lt column (end_of placed)
+
+-- the row of the bar, if there is one and it lasts in this column, and else this row
+abbrev pub row_or : ℕ → Option Placed → ℕ → ℕ
+row_or column (Some placed) row = if lasts_in column placed then placed.row else row
+row_or column None row = row
+
+-- where a job stands in a column: at its bar in the lane of the buffer if it waits there, and else at its fence
+abbrev pub row_of_job : Layout → ℕ → Option ℕ → ℕ → ℕ
+row_of_job layout column (Some buffer) fence = row_or column (waiting_bar layout buffer fence) (row_of_fence layout fence)
+row_of_job layout column None fence = row_of_fence layout fence

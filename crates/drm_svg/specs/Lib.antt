@@ -1,4 +1,5 @@
 pub mod Fences
+pub mod LaneBars
 pub mod Escape
 pub mod Layout
 pub mod Placing
@@ -9,4 +10,5 @@ pub mod Bars
 pub mod Head
 pub mod Axis
 pub mod Ends
+pub mod Waits
 pub mod Svg

@@ -49,7 +49,7 @@ fn put_lane(
     ensures { OnOk result (out.new.items ≡ out.old.items ++ lane_text picture.now rows.now) }
 {
     put_lane_name(out, rows.top, rows.lane)?;
-    put_bars(alloc, out, picture, &rows.bars)
+    put_bars(alloc, out, picture, rows.bars.as_slice())
 }
 
 /// Puts the lanes of the rings, the entities and the buffers.

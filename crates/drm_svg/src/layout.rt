@@ -2,9 +2,10 @@
 
 ghost use Rattle.std.specs.Prelude.{◌≡◌, ◌+◌, ◌<◌, ◌^◌, [], IfOk, OnOk, find, if◌then◌else◌, length};
 ghost use Rattle.std.specs.Option.{option_copied};
-ghost use Rattle.drm_svg.specs.Layout.{AreLanes, IsLaneRows, IsLayout, below_of, fences_below, has_credits as has_credits_of, header_of, lanes_of, row_of_fence, row_of_lane, same_lane};
+ghost use Rattle.drm_svg.specs.Layout.{AreLanes, IsLaneRows, IsLayout, below_of, fences_below, has_credits as has_credits_of, header_of, lanes_of, lasts_in as lasts_in_column, row_of_fence, row_of_job, row_of_lane, row_or as row_or_else, same_lane, waiting_bar};
 
 use crate::fences::Fences;
+use crate::lane_bars::LaneBars;
 use crate::placing::{Placed, bar_in_row, is_same, place_bars};
 use drm_picture::{Bar, Lane, Picture, Shape};
 use std::alloc::{AllocError, Global};
@@ -15,7 +16,7 @@ pub struct LaneRows {
     pub lane: Lane,
     /// The header's row, counted from the top of the picture.
     pub top: usize,
-    pub bars: Vec<Placed>,
+    pub bars: LaneBars,
     /// The row below the last.
     pub bottom: usize,
 }
@@ -88,7 +89,7 @@ fn lane_rows(
     Ok(LaneRows {
         lane,
         top,
-        bars,
+        bars: LaneBars::of(bars),
         bottom,
     })
 }
@@ -150,6 +151,23 @@ fn find_lane(lanes: &[LaneRows], lane: Lane) -> Option<&LaneRows>
     lanes.iter().find(|rows| is_same(rows.lane, lane))
 }
 
+// Whether a bar has begun in a column, and not ended.
+fn lasts_in(column: usize, placed: &Placed) -> bool
+    ensures { result ≡ lasts_in_column column placed.now }
+{
+    placed.left <= column && column - placed.left < placed.width
+}
+
+// The row of a bar, if there is one and it lasts in a column, and else this row.
+fn row_or(column: usize, bar: Option<&Placed>, row: usize) -> usize
+    ensures { result ≡ row_or_else column (option_copied bar.entry) row }
+{
+    match bar {
+        Some(placed) if lasts_in(column, placed) => placed.row,
+        _ => row,
+    }
+}
+
 impl Layout {
     // The row of a fence, or the header's where it is not drawn.
     pub(crate) fn fence_row(&self, fence: u32) -> usize
@@ -180,6 +198,27 @@ impl Layout {
             Lane::Entity(_) => self.header_row(lane),
             Lane::Buffer(_) => self.header_row(lane),
             Lane::Fence(fence) => self.fence_row(fence),
+        }
+    }
+
+    // The bar of a job that waits for a buffer, in the lane of the buffer.
+    fn waiting_bar(&self, buffer: u32, fence: u32) -> Option<&Placed>
+        ensures { option_copied result ≡ waiting_bar self.now buffer fence }
+    {
+        match find_lane(&self.lanes, Lane::Buffer(buffer)) {
+            Some(rows) => rows.bars.find(fence),
+            None => None,
+        }
+    }
+
+    // Where a job stands in a column: at its bar in the lane of the buffer if it waits there, and else at its fence.
+    pub(crate) fn job_row(&self, column: usize, buffer: Option<u32>, fence: u32) -> usize
+        ensures { result ≡ row_of_job self.now column buffer fence }
+    {
+        let row = self.fence_row(fence);
+        match buffer {
+            Some(number) => row_or(column, self.waiting_bar(number, fence), row),
+            None => row,
         }
     }
 }

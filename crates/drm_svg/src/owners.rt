@@ -10,7 +10,7 @@ use drm_types::{Access, BufferId};
 use std::alloc::AllocError;
 
 // The job of a fence that the run arms.
-fn armed(picture: &Picture, fence: u32) -> Option<&Request>
+pub(crate) fn armed(picture: &Picture, fence: u32) -> Option<&Request>
     ensures { option_copied result ≡ slice_get picture.now.armed.items fence }
 {
     picture.armed.as_slice().get(fence as usize)

@@ -1,7 +1,7 @@
 //! The text of what is in a picture.
 
 ghost use Rattle.std.specs.Prelude.{◌≡◌, ◌++◌, OnOk, flat_map};
-ghost use Rattle.drm_svg.specs.Svg.{dot_text, inside_text, line_text, mark_place, mark_text, mark_title, wait_text, wait_title};
+ghost use Rattle.drm_svg.specs.Svg.{inside_text, mark_place, mark_text, mark_title};
 
 use crate::axis::put_axis;
 use crate::bars::put_halts;
@@ -11,7 +11,8 @@ use crate::layout::Layout;
 use crate::placing::column;
 use crate::signs::{sign_shape, sign_word};
 use crate::text::{put_name, put_number, put_text};
-use drm_picture::{Mark, Picture, Wait};
+use crate::waits::put_waits;
+use drm_picture::{Mark, Picture};
 use std::alloc::{AllocError, Global};
 
 /// A mark.
@@ -19,21 +20,6 @@ const MARK: &str = "<g transform='translate(";
 
 /// What a mark tells.
 const MARK_TITLE: &str = ")'><title>";
-
-/// A wait.
-const WAIT: &str = "<g class='wait'><title>fence ";
-
-/// The fence that it waits for.
-const WAITS_FOR: &str = " waits for fence ";
-
-/// Its line, upwards from the fence that waits.
-const LINE: &str = "</title><path d='M";
-
-/// The dot at its end.
-const DOT: &str = "5'/><circle cx='";
-
-/// The size of the dot.
-const DOT_END: &str = "5' r='1'/></g>\n";
 
 // Puts the place of a mark.
 fn put_mark_place(
@@ -86,70 +72,6 @@ fn put_marks(out: &mut Vec<u8>, picture: &Picture, layout: &Layout) -> Result<()
 {
     for mark in &picture.marks {
         put_mark(out, picture, layout, mark)?;
-    }
-    Ok(())
-}
-
-// Puts which fence waits for which.
-fn put_wait_title(out: &mut Vec<u8>, wait: &Wait) -> Result<(), AllocError>
-    ensures { OnOk result (out.new.items ≡ out.old.items ++ wait_title wait.now) }
-{
-    put_text(out, WAIT)?;
-    put_number(out, u64::from(wait.fence))?;
-    put_text(out, WAITS_FOR)?;
-    put_number(out, u64::from(wait.earlier))
-}
-
-// Puts the line of a wait in a column, from one row to another.
-#[tactic(auto, unfolding(crate::specs::Svg::line_text))]
-fn put_line(out: &mut Vec<u8>, column: usize, from: usize, to: usize) -> Result<(), AllocError>
-    ensures { OnOk result (out.new.items ≡ out.old.items ++ line_text column from to) }
-{
-    put_text(out, LINE)?;
-    put_number(out, column as u64)?;
-    put_text(out, "8 ")?;
-    put_number(out, from as u64)?;
-    put_text(out, "1V")?;
-    put_number(out, to as u64)
-}
-
-// Puts the dot of a wait into a column and a row.
-#[tactic(auto, unfolding(crate::specs::Svg::dot_text))]
-fn put_dot(out: &mut Vec<u8>, column: usize, row: usize) -> Result<(), AllocError>
-    ensures { OnOk result (out.new.items ≡ out.old.items ++ dot_text column row) }
-{
-    put_text(out, DOT)?;
-    put_number(out, column as u64)?;
-    put_text(out, "8' cy='")?;
-    put_number(out, row as u64)?;
-    put_text(out, DOT_END)
-}
-
-// Puts a wait: a line in the column of its command, from the row of the fence that waits to a dot in that of the
-// earlier.
-#[tactic(auto, unfolding(crate::specs::Svg::wait_text))]
-fn put_wait(
-    out: &mut Vec<u8>,
-    picture: &Picture,
-    layout: &Layout,
-    wait: &Wait,
-) -> Result<(), AllocError>
-    ensures { OnOk result (out.new.items ≡ out.old.items ++ wait_text picture.now layout.now wait.now) }
-{
-    let column = column(picture, wait.place);
-    let from = layout.fence_row(wait.fence);
-    let to = layout.fence_row(wait.earlier);
-    put_wait_title(out, wait)?;
-    put_line(out, column, from, to)?;
-    put_dot(out, column, to)
-}
-
-// Puts the waits.
-fn put_waits(out: &mut Vec<u8>, picture: &Picture, layout: &Layout) -> Result<(), AllocError>
-    ensures { OnOk result (out.new.items ≡ out.old.items ++ flat_map (wait_text picture.now layout.now) picture.now.waits.items) }
-{
-    for wait in &picture.waits {
-        put_wait(out, picture, layout, wait)?;
     }
     Ok(())
 }
