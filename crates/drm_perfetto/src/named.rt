@@ -109,8 +109,8 @@ pub struct Moves {
     pub holders: bool,
 }
 
-// Whether a command may have changed what is shown of jobs, rings or entities, by this answer. A packet that ran changed
-// none of it.
+// Returns whether a command may have changed what is shown of jobs, rings or entities, by this answer. A packet that
+// ran changed none of it.
 fn is_device_moved(named: Named, answer: &Answer) -> bool
     ensures { result ≡ moves_device named answer.now }
 {

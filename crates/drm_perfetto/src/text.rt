@@ -1,4 +1,5 @@
-//! The text of an entry, in room that is known to be enough. Its words are constants, and its numbers stand between them.
+//! The text of an entry, in room that is known to be enough. Its words are constants, and its numbers stand between
+//! them.
 
 ghost use Rattle.std.specs.Prelude.{◌≡◌, ◌≤◌, ◌+◌, ◌++◌, ◌∷◌, codes, length, true};
 ghost use Rattle.drm_engine.specs.Filling.{filled};
@@ -221,8 +222,8 @@ fn place_end(piece: &mut Piece, track: Track, at: u64)
     }
 }
 
-// Places an end of an arrow, behind these words. Its id is a hexadecimal number to those who read it, in which the letter
-// parts two decimal ones.
+// Places an end of an arrow, behind these words. Its id is a hexadecimal number to those who read it, in which the
+// letter parts two decimal ones.
 #[inline(always)]
 fn place_arrow(piece: &mut Piece, words: &[u8], number: u32, when: When, entity: u32)
     requires room { length piece.old + length words.now ≤ 40100 }
