@@ -39,8 +39,8 @@ fn put_three_digits(out: &mut Vec<u8>, number: u64) -> Result<(), AllocError>
     requires most { number < 1000 }
     ensures { OnOk result (out.new.items ≡ out.old.items ++ decimal number) }
 {
-    let tens = number / 10;
-    out.extend_from_slice(&[digit(tens / 10), digit(tens % 10), digit(number % 10)])
+    let rest = number % 100;
+    out.extend_from_slice(&[digit(number / 100), digit(rest / 10), digit(rest % 10)])
 }
 
 // Puts a number of four digits.
@@ -50,17 +50,17 @@ fn put_four_digits(out: &mut Vec<u8>, number: u64) -> Result<(), AllocError>
     requires most { number < 10000 }
     ensures { OnOk result (out.new.items ≡ out.old.items ++ decimal number) }
 {
-    let tens = number / 10;
-    let hundreds = tens / 10;
+    let hundreds = number / 100;
+    let rest = number % 100;
     out.extend_from_slice(&[
         digit(hundreds / 10),
         digit(hundreds % 10),
-        digit(tens % 10),
-        digit(number % 10),
+        digit(rest / 10),
+        digit(rest % 10),
     ])
 }
 
-// Puts a number of more than one digit. Almost all have at most four.
+// Puts a number of more than one digit. Almost all have at most four, so the room for the others is not made here.
 fn put_digits(out: &mut Vec<u8>, number: u64) -> Result<(), AllocError>
     requires { 10 ≤ number }
     ensures { OnOk result (out.new.items ≡ out.old.items ++ decimal number) }
@@ -74,7 +74,7 @@ fn put_digits(out: &mut Vec<u8>, number: u64) -> Result<(), AllocError>
     if number < 10000 {
         return put_four_digits(out, number);
     }
-    out.extend_from_slice(itoa::Buffer::new().format(number).as_bytes())
+    put_wide(out, u128::from(number))
 }
 
 /// Puts a number. A picture has few with more than four digits, and these are put without a buffer between.
