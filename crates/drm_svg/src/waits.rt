@@ -56,7 +56,7 @@ fn first_conflict(earlier: Option<&Request>, later: Option<&Request>) -> Option<
     }
 }
 
-// The buffer of a wait: there its job conflicts with the earlier one. There is none where it only names that one's fence.
+// The buffer of a wait: there its job conflicts with the earlier one. A wait for a fence that is only named has none.
 fn buffer(picture: &Picture, wait: &Wait) -> Option<u32>
     ensures { result ≡ buffer_of picture.now wait.now }
 {
