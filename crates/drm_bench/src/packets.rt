@@ -1,7 +1,7 @@
 ghost use Rattle.std.specs.Prelude.{◌≡◌, [], ◌∷◌, None, IfOk, IfSome, IsTrue};
 
 use drm_core::{Begun, BuildError, Device, Held, Plan};
-use drm_job::{Draft, ShortList, check};
+use drm_job::{Draft, FenceList, ShortList, check};
 use drm_packet::Packet;
 use drm_resv::Deps;
 use drm_types::{Access, BufferId, DeviceSpec, EntitySpec, Priority, RingSpec, Sequence};
@@ -61,7 +61,7 @@ fn draft(alloc: Global) -> Result<Draft, AllocError> {
         entity: 0,
         credits: 1,
         declared,
-        after: ShortList::new(alloc),
+        after: FenceList::new(alloc),
         packets: ShortList::from_vec(vec![in alloc; copy; 64]?),
     })
 }

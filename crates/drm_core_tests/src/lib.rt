@@ -10,7 +10,7 @@ ghost use Rattle.std.specs.Prelude.{◌≡◌, IfOk, map};
 #[cfg(test)]
 mod tests;
 
-use drm_job::{Draft, ShortList};
+use drm_job::{Draft, FenceList, ShortList};
 use drm_packet::Packet;
 use drm_types::{
     Access, BufferId, DeviceSpec, EntityId, EntitySpec, FenceId, Priority, RingId, RingSpec,
@@ -137,7 +137,7 @@ pub fn draft_of(alloc: Global, job: Job) -> Result<Draft, AllocError>
         entity: job.0,
         credits: job.1,
         declared,
-        after: ShortList::from_slice(alloc, job.3)?,
+        after: FenceList::from_slice(alloc, job.3)?,
         packets,
     })
 }

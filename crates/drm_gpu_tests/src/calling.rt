@@ -8,7 +8,7 @@ ghost use Rattle.drm_gpu_tests.specs.Pairs.{IsPair, pair_of};
 use crate::add;
 use crate::calls::{armed, begun, device, filling, has_counts, made, plan, ready, runs};
 use drm_gpu::{BeginError, BeginReadError, Gpu, Locking, Pass};
-use drm_job::{Draft, Job, JobFault, ShortList};
+use drm_job::{Draft, FenceList, Job, JobFault, ShortList};
 use drm_types::Access::{Read, Write};
 use drm_types::{BufferId, EntityId, FenceId};
 use std::alloc::Global;
@@ -146,7 +146,7 @@ fn draft_for(alloc: Global, entity: EntityId) -> Draft
         entity,
         credits: 1,
         declared: ShortList::new(alloc),
-        after: ShortList::new(alloc),
+        after: FenceList::new(alloc),
         packets: ShortList::new(alloc),
     }
 }

@@ -38,7 +38,7 @@ mod submitting;
 mod threads;
 
 use drm_gpu::{Gpu, Pass};
-use drm_job::{Draft, Job, ShortList, check};
+use drm_job::{Draft, FenceList, Job, ShortList, check};
 use drm_packet::Packet;
 use drm_types::{
     Access, BufferId, DeviceSpec, EntityId, EntitySpec, Priority, RingId, RingSpec, Sequence,
@@ -115,7 +115,7 @@ pub fn job_of(
         entity,
         credits: 1,
         declared: list,
-        after: ShortList::new(alloc),
+        after: FenceList::new(alloc),
         packets: ShortList::from_slice(alloc, packets).ok()?,
     };
     let Ok(spec) = pair(alloc, 8) else {

@@ -7,6 +7,7 @@
 
 mod conflict;
 mod faults;
+mod fence_list;
 mod job;
 mod laws;
 mod packet_faults;
@@ -16,6 +17,7 @@ pub use conflict::conflicts;
 use drm_packet::Packet;
 use drm_types::{Access, BufferId, EntityId, FenceId};
 pub use faults::{check, first_fault};
+pub use fence_list::FenceList;
 pub use job::Job;
 pub use laws::{jobs_are_the_sound_drafts, jobs_run_in_their_device, jobs_stay_within};
 pub use short_list::ShortList;
@@ -31,7 +33,7 @@ pub struct Draft {
     /// only held.
     pub declared: ShortList<(BufferId, Access)>,
     /// Fences that it waits for beside those of the buffers: at most 16.
-    pub after: ShortList<FenceId>,
+    pub after: FenceList,
     /// Its work, in order: at most 64 packets.
     pub packets: ShortList<Packet>,
 }

@@ -7,7 +7,7 @@ ghost use Rattle.drm_job.specs.declared.Draft.{Draft as DraftValue};
 ghost use Rattle.drm_text.specs.Reading.{Reads, Gives};
 ghost use Rattle.drm_parse.specs.Job.{held_by_first, kind_by_first, kind_read, one_of, number_first, byte_alone, number_alone, fill_from, fill_in_turn, route_from, route_in_turn, fill_at, route_at, copy_at, add_at, stall_at, packet_at, is_late, tail_at, with_item, with_word, with_words, job_at, is_job};
 
-use drm_job::{Draft, Job, ShortList, check};
+use drm_job::{Draft, FenceList, Job, ShortList, check};
 use drm_packet::Packet;
 use drm_text::{
     Fault, Parts, Position, ReadError, TextFault, Words, is_word, read_byte, read_number,
@@ -383,7 +383,7 @@ fn bare_draft(alloc: Global) -> Draft
         entity: 0,
         credits: 0,
         declared: ShortList::new(alloc),
-        after: ShortList::new(alloc),
+        after: FenceList::new(alloc),
         packets: ShortList::new(alloc),
     }
 }

@@ -5,7 +5,7 @@ use drm_types::RingId;
 
 /// What the device knows of one armed job (`drm_sched_job`).
 ///
-/// The fields stand in the order of their sizes, so that no gap is between them: each armed job takes 120 bytes.
+/// The fields stand in the order of their sizes, so that no gap is between them: each armed job takes 104 bytes.
 #[derive(Drop)]
 pub struct JobRecord {
     /// What it was armed with.

@@ -4,7 +4,7 @@ use crate::expect::expect_eq;
 use crate::job::Want::{DeclaredTwice, Fault, Fits, MoveNotKernel, NoBuffer};
 use crate::job::Work::{Add, Copy, Fill, Stall};
 use crate::{add, buffers_of, copy, device, fill};
-use drm_job::{Draft, DraftList, Job, JobFault, ShortList, check, conflicts};
+use drm_job::{Draft, DraftList, FenceList, Job, JobFault, ShortList, check, conflicts};
 use drm_packet::Packet;
 use drm_types::Access::{Hold, Move, Read, Write};
 use drm_types::{Access, BufferId, DeviceSpec, EntityId, EntitySpec, Priority, Sequence};
@@ -88,7 +88,7 @@ fn draft_of(alloc: Global, case: &Case) -> Result<Draft, AllocError> {
         entity: case.0,
         credits: case.1,
         declared: declared_of(alloc, case.2)?,
-        after: ShortList::new(alloc),
+        after: FenceList::new(alloc),
         packets: packets_of(alloc, case.3)?,
     })
 }
@@ -353,7 +353,7 @@ fn long_draft(alloc: Global, counts: Counts) -> Result<Draft, AllocError> {
         entity: 0,
         credits: u16::MAX,
         declared: ShortList::from_vec(vec![in alloc; declared; counts.0]?),
-        after: ShortList::from_vec(vec![in alloc; 0; counts.1]?),
+        after: FenceList::from_slice(alloc, &vec![in alloc; 0; counts.1]?)?,
         packets: ShortList::from_vec(vec![in alloc; Packet::Stall { resets: 0 }; counts.2]?),
     })
 }
@@ -376,7 +376,7 @@ fn job(alloc: Global, spec: &DeviceSpec, declared: &[(u32, Access)]) -> Result<J
         entity: 1,
         credits: 3,
         declared: declared_of(alloc, declared)?,
-        after: ShortList::new(alloc),
+        after: FenceList::new(alloc),
         packets: ShortList::from_slice(alloc, &[Packet::Stall { resets: 2 }])?,
     };
     match check(draft, spec) {

@@ -4,7 +4,7 @@ ghost use Rattle.drm_job.specs.Ranges.{RunsIn};
 
 use crate::expect::expect_eq;
 use crate::{add, buffers_of, device};
-use drm_job::{Draft, Job, ShortList, check, jobs_run_in_their_device};
+use drm_job::{Draft, FenceList, Job, ShortList, check, jobs_run_in_their_device};
 use drm_serial::{Serial, Turn};
 use drm_types::{Access, BufferId, DeviceSpec, Sequence};
 use std::alloc::{AllocError, Global};
@@ -28,7 +28,7 @@ fn adding_job(
         entity: 0,
         credits: 1,
         declared: ShortList::from_slice(alloc, &declared)?,
-        after: ShortList::new(alloc),
+        after: FenceList::new(alloc),
         packets: ShortList::from_vec(vec![in alloc; add((source, 0), (target, 0), 1); times]?),
     };
     match check(draft, spec) {

@@ -6,7 +6,7 @@ use crate::filling_jobs;
 use crate::gates::{Meeting, MeetingClock, Open, Readings, Still};
 use drm_fence::Phase;
 use drm_gpu_tests::pair;
-use drm_job::{Draft, ShortList, check};
+use drm_job::{Draft, FenceList, ShortList, check};
 use drm_packet::Packet;
 use drm_types::{BadSpec, BufferId, DeviceSpec, EntitySpec, Outcome, Priority, RingSpec, Sequence};
 use drm_workers::{Clock, Gate, Point, Report, RunFault, run_all};
@@ -178,7 +178,7 @@ fn hanging_draft(alloc: Global) -> Result<Draft, AllocError> {
         entity: 0,
         credits: 1,
         declared: ShortList::new(alloc),
-        after: ShortList::new(alloc),
+        after: FenceList::new(alloc),
         packets: ShortList::from_slice(alloc, &[Packet::Stall { resets: 1 }])?,
     })
 }

@@ -2,7 +2,7 @@
 ghost use Rattle.std.specs.Prelude.{◌≡◌, ◌<◌, All, IfOk, length};
 ghost use Rattle.gpu_bench.specs.Devices.{IsEven, IsJobOf};
 
-use drm_job::{Draft, Job, ShortList, check};
+use drm_job::{Draft, FenceList, Job, ShortList, check};
 use drm_packet::Packet;
 use drm_types::{Access, BufferId, DeviceSpec, EntitySpec, Priority, RingId, RingSpec, Sequence};
 use std::alloc::{AllocError, Global};
@@ -106,7 +106,7 @@ pub(crate) fn job_of(
         entity: ring,
         credits: 1,
         declared: ShortList::from_slice(alloc, &declared)?,
-        after: ShortList::new(alloc),
+        after: FenceList::new(alloc),
         packets,
     };
     match check(draft, spec) {

@@ -3,7 +3,7 @@ ghost use Rattle.std.specs.Prelude.{◌≡◌, [], ◌∷◌, replicate, IfOk};
 ghost use Rattle.gpu_soak.specs.Devices.{IsSmall, entity_on, small_of};
 
 use crate::chance::Chance;
-use drm_job::{Draft, ShortList};
+use drm_job::{Draft, FenceList, ShortList};
 use drm_packet::Packet;
 use drm_types::Access::{Read, Write};
 use drm_types::{
@@ -93,7 +93,7 @@ fn draft_of(
         entity,
         credits,
         declared: list,
-        after: ShortList::new(alloc),
+        after: FenceList::new(alloc),
         packets: ShortList::from_slice(alloc, packets).ok()?,
     })
 }
