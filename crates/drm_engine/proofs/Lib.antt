@@ -5,3 +5,4 @@ pub mod Short
 pub mod Digits
 pub mod Fillings
 pub mod Putting
+pub mod Placings

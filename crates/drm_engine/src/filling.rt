@@ -5,6 +5,7 @@ ghost use Rattle.drm_engine.specs.Replaying.{Told};
 ghost use Rattle.drm_engine.specs.Filling.{filled};
 
 use crate::piece::{Piece, WriteFailed};
+use crate::placing::{make_room, place_number};
 use drm_stream::Sink;
 use memchr::memchr;
 use std::io::Write;
@@ -29,49 +30,7 @@ pub fn put_bytes<W: Write>(
     Ok(())
 }
 
-// The digit of a number below ten.
-fn digit(value: u64) -> u8
-    requires { value < 10 }
-    ensures { result ≡ 48 + value }
-{
-    b'0' + value as u8
-}
-
-// Puts a number of four digits.
-fn put_four_digits<W: Write>(
-    piece: &mut Piece,
-    writer: &mut Sink<W>,
-    number: u64,
-) -> Result<(), WriteFailed>
-    requires least { 1000 ≤ number }
-    requires most { number < 10000 }
-    ensures { Told writer.old writer.new result (piece.old ++ decimal number) piece.new }
-{
-    let tens = number / 10;
-    let hundreds = tens / 10;
-    let digits = [
-        digit(hundreds / 10),
-        digit(hundreds % 10),
-        digit(tens % 10),
-        digit(number % 10),
-    ];
-    put_bytes(piece, writer, &digits)
-}
-
-// Puts a number of any length. The room for its digits is filled with zeros first, so it is not made for all.
-#[inline(never)]
-fn put_digits<W: Write>(
-    piece: &mut Piece,
-    writer: &mut Sink<W>,
-    number: u64,
-) -> Result<(), WriteFailed>
-    ensures { Told writer.old writer.new result (piece.old ++ decimal number) piece.new }
-{
-    let mut buffer = itoa::Buffer::new();
-    put_bytes(piece, writer, buffer.format(number).as_bytes())
-}
-
-/// Puts a number. Most have one digit, as those of rings and entities, or four, as those of commands and jobs.
+/// Puts a number.
 pub fn put_number<W: Write>(
     piece: &mut Piece,
     writer: &mut Sink<W>,
@@ -79,13 +38,9 @@ pub fn put_number<W: Write>(
 ) -> Result<(), WriteFailed>
     ensures { Told writer.old writer.new result (piece.old ++ decimal number) piece.new }
 {
-    if number < 10 {
-        return piece.push(writer, digit(number));
-    }
-    if 1000 <= number && number < 10000 {
-        return put_four_digits(piece, writer, number);
-    }
-    put_digits(piece, writer, number)
+    make_room(piece, writer)?;
+    place_number(piece, number);
+    Ok(())
 }
 
 // Puts the first of the numbers, if there is one.

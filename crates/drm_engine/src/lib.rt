@@ -17,6 +17,7 @@ mod engine;
 mod filling;
 mod lines;
 mod piece;
+mod placing;
 mod replaying;
 mod serializing;
 
@@ -26,5 +27,6 @@ pub use engine::Engine;
 pub use filling::{put_bytes, put_filled, put_number};
 pub use lines::Lines;
 pub use piece::{PIECE, Piece, WriteFailed};
+pub use placing::{make_room, place_four, place_number, place_one, place_three, place_two};
 pub use replaying::{play_lines, replay};
 pub use serializing::serial;

@@ -1,5 +1,4 @@
 pub mod Known
-pub mod Placings
 pub mod Pens
 pub mod Unran
 pub mod Kept

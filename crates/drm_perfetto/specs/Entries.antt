@@ -5,11 +5,7 @@ use Rattle.drm_perfetto.specs.declared.entry.Entry.TheVariants as entry
 use Rattle.drm_perfetto.specs.declared.entry.Track.{Track}
 use Rattle.drm_perfetto.specs.declared.entry.Track.TheVariants as track
 use Rattle.drm_perfetto.specs.declared.entry.When.{When}
-use Rattle.drm_engine.specs.Filling.{filled}
-
--- four numbers: zeros stand behind the last that is told
-abbrev pub four : ℕ → ℕ → ℕ → ℕ → List ℕ
-four a b c d = a ∷ b ∷ c ∷ d ∷ []
+use Rattle.drm_engine.specs.Filling.{filled, four}
 
 -- the words of the name of a track, with '%' in place of each number, and the numbers
 abbrev pub said_of_name : Track → List ℕ × List ℕ

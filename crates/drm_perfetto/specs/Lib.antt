@@ -1,5 +1,4 @@
 pub mod Watches
-pub mod Filling
 pub mod Entries
 pub mod Tracks
 pub mod Steps

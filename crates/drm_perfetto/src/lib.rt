@@ -13,7 +13,6 @@ mod entry;
 mod lanes;
 mod named;
 mod pen;
-mod placing;
 mod rows;
 mod text;
 mod tracing;

@@ -8,9 +8,8 @@ ghost use Rattle.drm_perfetto.specs.Entries.{text_of};
 ghost use Rattle.drm_perfetto.specs.Pens.{Adds, AddsEntries};
 
 use crate::entry::Entry;
-use crate::placing::make_room;
 use crate::text::place_entry;
-use drm_engine::{Piece, WriteFailed, put_bytes};
+use drm_engine::{Piece, WriteFailed, make_room, put_bytes};
 use drm_stream::Sink;
 use std::io::Write;
 

@@ -2,14 +2,12 @@
 //! them.
 
 ghost use Rattle.std.specs.Prelude.{◌≡◌, ◌≤◌, ◌+◌, ◌++◌, ◌∷◌, codes, length, true};
-ghost use Rattle.drm_engine.specs.Filling.{filled};
-ghost use Rattle.drm_perfetto.specs.Entries.{four, said_of_begin, said_of_end, said_of_leave, said_of_name, text_of};
-ghost use Rattle.drm_perfetto.specs.Filling.{is_plain};
+ghost use Rattle.drm_engine.specs.Filling.{filled, four, is_plain};
+ghost use Rattle.drm_perfetto.specs.Entries.{said_of_begin, said_of_end, said_of_leave, said_of_name, text_of};
 ghost use Rattle.drm_perfetto.specs.declared.entry.Entry.TheVariants as entry;
 
 use crate::entry::{Entry, Track, When};
-use crate::placing::{place_four, place_three, place_two};
-use drm_engine::Piece;
+use drm_engine::{Piece, place_four, place_three, place_two};
 
 /// A slice of a ring begins.
 const RING_BEGIN: &[u8] = b",\n{\"ph\":\"B\",\"pid\":1,\"tid\":";

@@ -6,7 +6,7 @@ use Rattle.drm_core.specs.declared.event.Event.TheVariants as event
 use Rattle.drm_state.specs.declared.answer.Answer.TheVariants as answer
 use Rattle.drm_explain.specs.Rows.{context_rows, device_rows, job_rows, row_of, rows, sentence_at, text_rows}
 use Rattle.drm_engine.specs.Filling.{filled}
-use Rattle.drm_words.specs.Filling.{one, two}
+use Rattle.drm_engine.specs.Filling.{one, two}
 use Rattle.drm_words.specs.Refused.{idle_case, stopped_case}
 use Rattle.drm_words.specs.Sentences.{sentence_of}
 use Rattle.drm_words.specs.Subjects.{buffer_of, entity_of}

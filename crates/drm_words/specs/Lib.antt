@@ -1,5 +1,4 @@
 pub mod Subjects
-pub mod Filling
 pub mod Refused
 pub mod Sentences
 pub mod Holders

@@ -8,7 +8,7 @@ use Rattle.drm_state.specs.declared.answer.Refusal.{Refusal}
 use Rattle.drm_state.specs.declared.answer.Refusal.TheVariants as refusal
 use Rattle.drm_core.specs.declared.event.Event.{Event}
 use Rattle.drm_core.specs.declared.event.Event.TheVariants as event
-use Rattle.drm_words.specs.Filling.{no_numbers, one, three, two}
+use Rattle.drm_engine.specs.Filling.{no_numbers, one, three, two}
 use Rattle.drm_words.specs.Subjects.{buffer_of, ctx_of, entity_of, ring_of}
 
 -- the number of a refusal, which the line of the answer tells first

@@ -8,7 +8,7 @@ use Rattle.drm_core.specs.declared.event.Event.TheVariants as event
 use Rattle.drm_types.specs.declared.outcome.Outcome.{Outcome}
 use Rattle.drm_types.specs.declared.outcome.Outcome.TheVariants as outcome
 use Rattle.drm_engine.specs.Filling.{filled}
-use Rattle.drm_words.specs.Filling.{one, three, two}
+use Rattle.drm_engine.specs.Filling.{one, three, two}
 use Rattle.drm_words.specs.Refused.{said_of_refusal}
 use Rattle.drm_words.specs.Subjects.{buffer_of, ctx_of, entity_of, fence_of, ring_of}
 

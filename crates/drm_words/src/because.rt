@@ -6,8 +6,8 @@ ghost use Rattle.drm_reason.specs.Retired.{AreRetired};
 ghost use Rattle.drm_reason.specs.Said.{counted, text_of_parts};
 ghost use Rattle.drm_words.specs.Because.{NamesThere, armed_text, because as because_text, credit_text, entity_of_job, first_text, head_text, holder_text, idle_text, job_text, missing_text, next_text, reap_text, reason_text, refused_text, ring_of_job, writer_text};
 
+use crate::counted::put_counted;
 use crate::missing::{Missing, holder};
-use crate::placing::put_counted;
 use crate::reasons::put_parts;
 use drm_core::{Answer, Core, Event, Refusal};
 use drm_engine::{Piece, WriteFailed, put_bytes, put_number};

@@ -12,10 +12,10 @@
 #![tactic(auto)]
 
 mod because;
+mod counted;
 mod fault;
 mod missing;
 mod named;
-mod placing;
 mod putting;
 mod reading;
 mod reasons;

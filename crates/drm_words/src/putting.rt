@@ -8,8 +8,8 @@ ghost use Rattle.drm_words.specs.Because.{NamesThere, all_let_go, because as bec
 ghost use Rattle.drm_words.specs.Lines.{line_behind};
 
 use crate::because::put_because;
+use crate::counted::put_counted;
 use crate::missing::Missing;
-use crate::placing::put_counted;
 use drm_core::{Answer, Core, Event};
 use drm_engine::{Piece, WriteFailed};
 use drm_reason::Retired;

@@ -10,17 +10,16 @@ ghost use Rattle.drm_words.specs.Sentences.{sentence_of};
 ghost use Rattle.drm_words.specs.Refused.{case_of, case_of_fault, first_number, idle_case, number_of_refusal, said_of_refusal, stopped_case};
 
 use crate::named::{buffer_in, ctx_in, entity_in, ring_in};
-use crate::placing::{place_one, place_three};
 use drm_core::{Event, Refusal};
-use drm_engine::{Piece, WriteFailed, put_filled};
+use drm_engine::{Piece, WriteFailed, place_one, place_three, put_filled};
 use drm_explain::sentence;
 use drm_job::{DraftList, JobFault};
 use drm_stream::Sink;
 use drm_types::{BufferId, EntityId, FenceId};
 use std::io::Write;
 
-// The numbers of a sentence, of which none has more than three: zeros stand behind the last.
-type Numbers = [u64; 3];
+// The numbers of a sentence, of which none has more than four: zeros stand behind the last.
+type Numbers = [u64; 4];
 
 // The number of a refusal, which of the sentences in its row is said of it, counted from 0, and the numbers in that.
 type Choice = (u32, usize, Numbers);
@@ -43,16 +42,16 @@ fn choice_of_fault(subject: &Event<EntityId>, fault: JobFault) -> Choice
 {
     let entity = entity_in(subject);
     match fault {
-        JobFault::NoEntity => (10, 0, [entity, 0, 0]),
-        JobFault::NoCredits => (11, 0, [0, 0, 0]),
-        JobFault::TooMany { what } => (13, list_case(what), [0, 0, 0]),
-        JobFault::NoBuffer { buffer } => (14, 0, [u64::from(buffer.number()), 0, 0]),
-        JobFault::DeclaredTwice { buffer } => (15, 0, [u64::from(buffer.number()), 0, 0]),
-        JobFault::MoveNotKernel { buffer } => (19, 0, [u64::from(buffer.number()), entity, 0]),
-        JobFault::PacketUndeclared { packet } => (16, 0, [u64::from(packet), 0, 0]),
-        JobFault::PacketOnHold { packet } => (21, 0, [u64::from(packet), 0, 0]),
-        JobFault::PacketReadOnly { packet } => (17, 0, [u64::from(packet), 0, 0]),
-        JobFault::PacketRange { packet } => (18, 0, [u64::from(packet), 0, 0]),
+        JobFault::NoEntity => (10, 0, [entity, 0, 0, 0]),
+        JobFault::NoCredits => (11, 0, [0, 0, 0, 0]),
+        JobFault::TooMany { what } => (13, list_case(what), [0, 0, 0, 0]),
+        JobFault::NoBuffer { buffer } => (14, 0, [u64::from(buffer.number()), 0, 0, 0]),
+        JobFault::DeclaredTwice { buffer } => (15, 0, [u64::from(buffer.number()), 0, 0, 0]),
+        JobFault::MoveNotKernel { buffer } => (19, 0, [u64::from(buffer.number()), entity, 0, 0]),
+        JobFault::PacketUndeclared { packet } => (16, 0, [u64::from(packet), 0, 0, 0]),
+        JobFault::PacketOnHold { packet } => (21, 0, [u64::from(packet), 0, 0, 0]),
+        JobFault::PacketReadOnly { packet } => (17, 0, [u64::from(packet), 0, 0, 0]),
+        JobFault::PacketRange { packet } => (18, 0, [u64::from(packet), 0, 0, 0]),
     }
 }
 
@@ -72,8 +71,8 @@ fn stopped_case(subject: &Event<EntityId>) -> (usize, Numbers)
     ensures { stopped_case subject.now ≡ (result.0, result.1) }
 {
     match subject {
-        Event::Arm { ctx } => (1, [u64::from(*ctx), 0, 0]),
-        _ => (0, [entity_in(subject), 0, 0]),
+        Event::Arm { ctx } => (1, [u64::from(*ctx), 0, 0, 0]),
+        _ => (0, [entity_in(subject), 0, 0, 0]),
     }
 }
 
@@ -88,31 +87,31 @@ fn choice_of(subject: &Event<EntityId>, refusal: Refusal) -> Choice
     let named = buffer_in(subject);
     match refusal {
         Refusal::Faulty(fault) => choice_of_fault(subject, fault),
-        Refusal::Memory => (12, 0, [0, 0, 0]),
-        Refusal::NoFence { fence } => (20, 0, [u64::from(fence), 0, 0]),
+        Refusal::Memory => (12, 0, [0, 0, 0, 0]),
+        Refusal::NoFence { fence } => (20, 0, [u64::from(fence), 0, 0, 0]),
         Refusal::Stopped => {
             let (case, numbers) = stopped_case(subject);
             (30, case, numbers)
         }
-        Refusal::Full => (31, 0, [0, 0, 0]),
-        Refusal::Idle => (40, idle_case(subject), [ring, 0, 0]),
-        Refusal::NoCredit { need, free } => (41, 0, [ring, u64::from(need), u64::from(free)]),
-        Refusal::NotComplete => (42, 0, [ring, 0, 0]),
-        Refusal::AlreadyStopped => (43, 0, [entity, 0, 0]),
-        Refusal::Waits => (44, 0, [entity, 0, 0]),
-        Refusal::Nothing => (45, 0, [entity, 0, 0]),
-        Refusal::Busy { fence } => (46, 0, [named, u64::from(fence), 0]),
-        Refusal::PacketOut => (47, 0, [0, 0, 0]),
-        Refusal::CtxBusy => (50, 0, [ctx, 0, 0]),
-        Refusal::CtxIdle => (51, 0, [ctx, 0, 0]),
-        Refusal::NotHeld { buffer } => (52, 0, [ctx, u64::from(buffer.number()), 0]),
-        Refusal::NotAllHeld => (53, 0, [ctx, 0, 0]),
-        Refusal::NotPlanned => (54, 0, [ctx, 0, 0]),
-        Refusal::Sealed => (55, 0, [ctx, 0, 0]),
-        Refusal::StillHolds { buffer } => (56, 0, [ctx, u64::from(buffer.number()), 0]),
-        Refusal::Held { buffer } => (57, 0, [u64::from(buffer.number()), 0, 0]),
-        Refusal::TicketsOut => (60, 0, [0, 0, 0]),
-        Refusal::Already => (114, 0, [ctx, named, 0]),
+        Refusal::Full => (31, 0, [0, 0, 0, 0]),
+        Refusal::Idle => (40, idle_case(subject), [ring, 0, 0, 0]),
+        Refusal::NoCredit { need, free } => (41, 0, [ring, u64::from(need), u64::from(free), 0]),
+        Refusal::NotComplete => (42, 0, [ring, 0, 0, 0]),
+        Refusal::AlreadyStopped => (43, 0, [entity, 0, 0, 0]),
+        Refusal::Waits => (44, 0, [entity, 0, 0, 0]),
+        Refusal::Nothing => (45, 0, [entity, 0, 0, 0]),
+        Refusal::Busy { fence } => (46, 0, [named, u64::from(fence), 0, 0]),
+        Refusal::PacketOut => (47, 0, [0, 0, 0, 0]),
+        Refusal::CtxBusy => (50, 0, [ctx, 0, 0, 0]),
+        Refusal::CtxIdle => (51, 0, [ctx, 0, 0, 0]),
+        Refusal::NotHeld { buffer } => (52, 0, [ctx, u64::from(buffer.number()), 0, 0]),
+        Refusal::NotAllHeld => (53, 0, [ctx, 0, 0, 0]),
+        Refusal::NotPlanned => (54, 0, [ctx, 0, 0, 0]),
+        Refusal::Sealed => (55, 0, [ctx, 0, 0, 0]),
+        Refusal::StillHolds { buffer } => (56, 0, [ctx, u64::from(buffer.number()), 0, 0]),
+        Refusal::Held { buffer } => (57, 0, [u64::from(buffer.number()), 0, 0, 0]),
+        Refusal::TicketsOut => (60, 0, [0, 0, 0, 0]),
+        Refusal::Already => (114, 0, [ctx, named, 0, 0]),
     }
 }
 

@@ -9,10 +9,9 @@ ghost use Rattle.drm_words.specs.Lines.{worded_answer};
 ghost use Rattle.drm_words.specs.Sentences.{IsNoRefusal, sentence_of};
 
 use crate::named::{buffer_in, ctx_in, entity_in, fence_in, ring_in};
-use crate::placing::{make_room, place_one, place_three, place_two};
 use crate::refused::put_refused;
 use drm_core::{Answer, Event};
-use drm_engine::{Piece, WriteFailed};
+use drm_engine::{Piece, WriteFailed, make_room, place_one, place_three, place_two};
 use drm_stream::Sink;
 use drm_types::{EntityId, FenceId, Outcome};
 use std::io::Write;

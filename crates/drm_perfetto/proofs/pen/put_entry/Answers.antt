@@ -1,5 +1,5 @@
 use Rattle.drm_perfetto.specs.Entries.{text_of}
-use Rattle.drm_perfetto.proofs.Placings.{told_placed}
+use Rattle.drm_engine.proofs.Placings.{told_placed}
 use Rattle.drm_perfetto.proofs.pen.put_entry.Goals as goal
 
 pub returns : goal.returns

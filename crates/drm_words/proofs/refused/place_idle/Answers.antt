@@ -1,7 +1,7 @@
 use Rattle.std.proofs.Common.{◌∙◌, ◌++◌, List, ℕ, ap, sym}
 use Rattle.drm_explain.specs.Rows.{sentence_at}
 use Rattle.drm_engine.specs.Filling.{filled}
-use Rattle.drm_words.specs.Filling.{one}
+use Rattle.drm_engine.specs.Filling.{one}
 use Rattle.drm_words.specs.Subjects.{ring_of}
 use Rattle.drm_words.proofs.Refusals.{idle_otherwise, no_job, no_packet, no_ready_job}
 use Rattle.drm_words.proofs.refused.place_idle.Goals as goal

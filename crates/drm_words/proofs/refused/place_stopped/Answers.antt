@@ -1,6 +1,6 @@
 use Rattle.std.proofs.Common.{◌∙◌, ◌++◌, List, ℕ, ap, sym}
 use Rattle.drm_engine.specs.Filling.{filled}
-use Rattle.drm_words.specs.Filling.{one}
+use Rattle.drm_engine.specs.Filling.{one}
 use Rattle.drm_words.specs.Subjects.{entity_of}
 use Rattle.drm_words.proofs.Refusals.{stopped, stopped_otherwise, stopped_since}
 use Rattle.drm_words.proofs.refused.place_stopped.Goals as goal

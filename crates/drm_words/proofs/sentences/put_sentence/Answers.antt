@@ -1,6 +1,6 @@
 use Rattle.drm_engine.proofs.Pieces.{told_next}
 use Rattle.drm_words.specs.Sentences.{sentence_of}
-use Rattle.drm_words.proofs.Placings.{told_placed}
+use Rattle.drm_engine.proofs.Placings.{told_placed}
 use Rattle.drm_words.proofs.sentences.put_sentence.Goals as goal
 
 pub returns-in-Refused : goal.returns-in-Refused

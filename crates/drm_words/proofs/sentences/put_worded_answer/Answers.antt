@@ -5,7 +5,7 @@ use Rattle.drm_engine.proofs.Pieces.{front_longer}
 use Rattle.drm_words.specs.Lines.{worded_answer}
 use Rattle.drm_words.specs.Sentences.{sentence_of}
 use Rattle.drm_engine.proofs.Putting.{front_behind, told_behind}
-use Rattle.drm_words.proofs.Placings.{told_placed}
+use Rattle.drm_engine.proofs.Placings.{told_placed}
 use Rattle.drm_words.proofs.sentences.put_worded_answer.Goals as goal
 
 pub returns-in_err-make_room : goal.returns-in_err-make_room

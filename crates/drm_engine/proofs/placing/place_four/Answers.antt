@@ -1,0 +1,10 @@
+use Rattle.drm_engine.proofs.Placings.{placed_last, placed_next}
+use Rattle.drm_engine.proofs.placing.place_four.Goals as goal
+
+pub returns : goal.returns
+returns c =
+    placed_next c.args.piece.now _ _ _ c.args.before.now _ _ c.args.first c.put_all.ensures c.place_number.ensures.text c.requires.plain.0
+    (placed_next _ _ _ _ c.args.between.now _ _ c.args.second c.put_all-2.ensures c.place_number-2.ensures.text c.requires.plain.1
+    (placed_next _ _ _ _ c.args.later.now _ _ c.args.third c.put_all-3.ensures c.place_number-3.ensures.text c.requires.plain.2
+    (placed_next _ _ _ _ c.args.last.now _ _ c.args.fourth c.put_all-4.ensures c.place_number-4.ensures.text c.requires.plain.3
+    (placed_last _ _ c.args.behind.now _ c.put_all-5.ensures c.requires.plain.4))))
