@@ -230,6 +230,7 @@ fn armed_at(answer: &Answer) -> Option<Opening>
 }
 
 // What a step behind these begins of a kind, of which it can begin but one.
+#[inline(always)]
 fn opening_at(kind: Kind, before: &[Step], step: &Step) -> Option<Opening>
     ensures { result ≡ opening_of kind before.now step.now }
 {
@@ -477,6 +478,7 @@ fn bar_of(
 }
 
 // The bar of a kind that begins by the step at a place of a run, if one does and lasts beyond another place.
+#[inline(always)]
 fn bar_beyond(
     kind: Kind,
     from: usize,
@@ -512,6 +514,7 @@ pub(crate) fn push_bar(bars: &mut Vec<Bar>, found: Option<Bar>) -> Result<(), Al
 
 /// The bars of a kind that last beyond a place of the run. From its end on, so that the place where each ends is known,
 /// and how many packets ran before it.
+#[inline(always)]
 pub(crate) fn bars(
     alloc: Global,
     kind: Kind,

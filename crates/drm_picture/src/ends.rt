@@ -76,6 +76,7 @@ fn ended_number(kind: Kind, step: &Step) -> Option<u32>
 }
 
 /// Notes the place of a step for the number of what of a kind may end by it.
+#[inline(always)]
 pub(crate) fn note_end(next: &mut [usize], kind: Kind, place: usize, step: &Step)
     ensures { next.new ≡ noted (ended_number_of kind step.now) place next.old }
 {

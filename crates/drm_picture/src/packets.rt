@@ -39,6 +39,7 @@ fn clear(counts: &mut [usize], fence: u32)
 }
 
 /// Counts the packet that an answer tells of, from the end of a run on.
+#[inline(always)]
 pub(crate) fn note_packet(counts: &mut [usize], answer: &Answer)
     requires { (fence : ℕ) → get_or counts.old fence 0 + 1 < 2 ^ 64 }
     ensures { counts.new ≡ counted_by answer.now counts.old }
