@@ -1,7 +1,7 @@
 pub mod Adding
 pub mod Cuts
 pub mod Ends
-mod Counted
+mod Between
 pub mod Naming
 pub mod Parts
 mod Telling

@@ -1,4 +1,4 @@
-use Rattle.drm_words.proofs.Counted.{told_counted}
+use Rattle.drm_words.proofs.Between.{told_counted}
 use Rattle.drm_words.proofs.counted.put_counted.Goals as goal
 
 pub returns : goal.returns
