@@ -1,6 +1,7 @@
 //! The text of the credits in use: a step line under the bars of each ring that has some.
 
 ghost use Rattle.std.specs.Prelude.{◌≡◌, ◌<◌, ◌^◌, ◌++◌, OnOk};
+ghost use Rattle.drm_svg.specs.Layout.{column_at as column_at_place};
 ghost use Rattle.drm_draw.specs.Credits.{all_turns, credits_text, credits_title, lane_credits, limit_of, limit_text, line_text, path_end, path_text, ring_text, turn_text, turn_to, y_of};
 
 use crate::levels::{last_level, next_level};
@@ -48,22 +49,24 @@ fn put_turn(
     put_wide(out, height(row, limit, level))
 }
 
-// Puts the turn of a line from one level to the next, if they differ.
+// Puts the turn of a line from one level to the next in the column of a step, if they differ.
+#[inline(always)]
 fn put_turn_to(
     out: &mut Vec<u8>,
     row: usize,
     limit: u16,
-    column: usize,
+    picture: &Picture,
+    place: usize,
     level: u128,
     next: u128,
 ) -> Result<(), AllocError>
     requires { next < 2 ^ 100 }
-    ensures { OnOk result (out.new.items ≡ out.old.items ++ turn_to row limit column level next) }
+    ensures { OnOk result (out.new.items ≡ out.old.items ++ turn_to row limit (column_at_place picture.now place) level next) }
 {
     if next == level {
         return Ok(());
     }
-    put_turn(out, row, limit, column, next)
+    put_turn(out, row, limit, column_at(picture, place), next)
 }
 
 // Puts the turns of the line of a ring, in the columns of these steps.
@@ -83,7 +86,7 @@ fn put_turns(
     let mut before = level;
     for (place, step) in part.iter().enumerate() {
         let next = next_level(ring, limit, &picture.armed, before, step);
-        put_turn_to(out, row, limit, column_at(picture, place), before, next)?;
+        put_turn_to(out, row, limit, picture, place, before, next)?;
         before = next;
     }
     Ok(())
