@@ -1,5 +1,5 @@
 -- How numbers of few digits are written.
-use Rattle.std.proofs.Common.{◌≡◌, ◌∙◌, ℕ, ◌+◌, ◌<◌, ◌≤◌, ◌/◌, ◌%◌, List, [], ◌∷◌, ◌++◌, ap, arith}
+use Rattle.std.proofs.Common.{◌≡◌, ◌∙◌, ℕ, ◌+◌, ◌<◌, ◌≤◌, ◌/◌, ◌%◌, List, [], ◌∷◌, ◌++◌, ap, arith, length}
 use Rattle.std.specs.Fmt.{decimal}
 use Rattle.std.proofs.lemmas.Fmt.{decimal_digit, decimal_step}
 
@@ -41,3 +41,17 @@ four_digits n least most =
     four_by_tens n least most
     ∙ ap (λ (h : ℕ). (48 + h / 10) ∷ (48 + h % 10) ∷ (48 + n / 10 % 10) ∷ (48 + n % 10) ∷ []) (hundreds n)
     ∙ ap (λ (l : List ℕ). (48 + n / 100 / 10) ∷ (48 + n / 100 % 10) ∷ l) (behind_hundreds n)
+
+-- ---- how many they are
+
+pub one_long : (n : ℕ) → n < 10 → length (decimal n) ≡ 1
+one_long n small = ap length (one_digit n small)
+
+pub two_long : (n : ℕ) → 10 ≤ n → n < 100 → length (decimal n) ≡ 2
+two_long n least most = ap length (two_digits n least most)
+
+pub three_long : (n : ℕ) → 100 ≤ n → n < 1000 → length (decimal n) ≡ 3
+three_long n least most = ap length (three_digits n least most)
+
+pub four_long : (n : ℕ) → 1000 ≤ n → n < 10000 → length (decimal n) ≡ 4
+four_long n least most = ap length (four_digits n least most)

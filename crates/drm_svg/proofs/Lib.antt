@@ -2,7 +2,11 @@ pub mod InTurn
 pub mod InOrder
 pub mod Places
 pub mod Columns
+pub mod Rooms
+pub mod Pens
 pub mod Rows
 pub mod Lanes
 pub mod Plain
 pub mod Digits
+pub mod Pairs
+pub mod Parts

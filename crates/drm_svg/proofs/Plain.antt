@@ -18,7 +18,7 @@ use Rattle.drm_picture.specs.declared.command.Request.{Request}
 use Rattle.drm_svg.specs.Escape.{escape_of, escaped}
 use Rattle.drm_svg.specs.Owners.{uses_text, verb_of}
 use Rattle.drm_svg.specs.Signs.{name_of, word_of_look}
-use Rattle.drm_svg.specs.Titles.{arrow_text, begins_of, end_text, ends_of, front_of, last_text, moment_text, owner_text, packets_text, subject_text, title_of}
+use Rattle.drm_svg.specs.Titles.{arrow_text, begins_of, end_text, ends_of, front_of, last_text, moment_text, owner_text, packets_text, subject_text, title_of, when_of, whose_of}
 
 -- nothing of the text has to be escaped
 abbrev pub IsPlain : List ℕ → Type 0
@@ -168,24 +168,28 @@ packets_plain kind.Lock packets = refl
 packets_plain kind.Fence packets = refl
 packets_plain kind.Waiting packets = refl
 
-front_plain : (job : Option Request) (bar : Bar) → IsPlain (front_of job bar)
-unfolding front_of
-front_plain job bar =
+whose_plain : (job : Option Request) (bar : Bar) → IsPlain (whose_of job bar)
+unfolding whose_of
+whose_plain job bar =
     let subject = subject_text bar.kind bar.opening.lane bar.opening.number in
-    let owner = subject ++ owner_text bar.kind job in
-    let uses = owner ++ uses_text job in
-    let begins = uses ++ begins_of bar.kind in
+    joined subject (owner_text bar.kind job) (subject_plain bar.kind bar.opening.lane bar.opening.number) (owner_plain bar.kind job)
+
+when_plain : (bar : Bar) → IsPlain (when_of bar)
+unfolding when_of
+when_plain bar =
+    let begins = begins_of bar.kind in
     let from = begins ++ decimal bar.from in
     let began = from ++ moment_text bar.began in
     let last = began ++ last_text bar.kind bar in
     joined last (packets_text bar.kind bar.packets)
     (joined began (last_text bar.kind bar)
     (joined from (moment_text bar.began)
-    (joined begins (decimal bar.from)
-    (joined uses (begins_of bar.kind)
-    (joined owner (uses_text job)
-    (joined subject (owner_text bar.kind job) (subject_plain bar.kind bar.opening.lane bar.opening.number) (owner_plain bar.kind job)) (uses_plain job))
-    (begins_plain bar.kind)) (number_plain bar.from)) (moment_plain bar.began)) (last_plain bar.kind bar)) (packets_plain bar.kind bar.packets)
+    (joined begins (decimal bar.from) (begins_plain bar.kind) (number_plain bar.from)) (moment_plain bar.began)) (last_plain bar.kind bar)) (packets_plain bar.kind bar.packets)
+
+front_plain : (job : Option Request) (bar : Bar) → IsPlain (front_of job bar)
+unfolding front_of
+front_plain job bar =
+    joined (whose_of job bar ++ uses_text job) (when_of bar) (joined (whose_of job bar) (uses_text job) (whose_plain job bar) (uses_plain job)) (when_plain bar)
 
 arrow_escaped : (l : Look) → escaped (codes " -> " ++ word_of_look l) ≡ arrow_text l
 unfolding arrow_text

@@ -8,11 +8,13 @@ use Rattle.drm_picture.specs.declared.bars.Look.{Look}
 use Rattle.drm_picture.specs.declared.bars.Look.TheVariants as look
 use Rattle.drm_picture.specs.declared.command.Request.{Request}
 use Rattle.drm_picture.specs.declared.picture.Picture.{Picture}
+use Rattle.drm_svg.specs.declared.bars.Fit.{Fit}
+use Rattle.drm_svg.specs.declared.bars.Fit.TheVariants as fit
 use Rattle.drm_svg.specs.Escape.{escaped}
 use Rattle.drm_svg.specs.Layout.{placed_at, row_of_lane}
-use Rattle.drm_svg.specs.Owners.{job_of, letters_text}
+use Rattle.drm_svg.specs.Owners.{job_of, letters_text, uses_text}
 use Rattle.drm_svg.specs.Signs.{class_of_kind, sign_of_look, word_of_look}
-use Rattle.drm_svg.specs.Titles.{title_of}
+use Rattle.drm_svg.specs.Titles.{arrow_text, title_of, when_of, whose_of}
 use Rattle.drm_svg.specs.declared.bars.TheConstants.{COLOUR, GROUP_END, HALT_HEIGHT, HEIGHT, TITLE}
 use Rattle.drm_svg.specs.declared.layout.Layout.{Layout}
 use Rattle.drm_svg.specs.declared.placing.Placed.{Placed}
@@ -22,6 +24,14 @@ abbrev pub entity_label : Kind → Option Request → List ℕ
 entity_label kind.Queued job = []
 entity_label _ (Some job) = codes "/" ++ decimal job.entity
 entity_label _ None = []
+
+abbrev pub entity_text : Option ℕ → List ℕ
+entity_text (Some entity) = codes "/" ++ decimal entity
+entity_text None = []
+
+-- a label that tells this entity, if there is one to tell
+abbrev pub label_telling : Option ℕ → Bar → List ℕ
+label_telling entity bar = decimal bar.opening.number ++ entity_text entity ++ sign_of_look bar.look
 
 -- the number of its fence or context, the entity if there is one to tell, and the sign of its outcome
 abbrev pub label_of : Option Request → Bar → List ℕ
@@ -35,13 +45,24 @@ labels_of job bar = (label_of job bar ++ letters_text bar.kind job) ∷ label_of
 abbrev pub fits : ℕ → List ℕ → Bool
 fits width label = nat_le ((length label + 2) / 3) width
 
+-- the place of a label
+unfoldable pub begin_of_label : Placed → List ℕ
+begin_of_label bar = codes "<text x='" ++ decimal bar.left ++ codes "1' y='" ++ decimal bar.row ++ codes "7'>"
+
 -- a label at the place of a bar
 unfoldable pub text_at : Placed → List ℕ → List ℕ
-text_at bar label = codes "<text x='" ++ decimal bar.left ++ codes "1' y='" ++ decimal bar.row ++ codes "7'>" ++ label ++ codes "</text>"
+text_at bar label = begin_of_label bar ++ label ++ codes "</text>"
 
 -- the first of the labels that fits, if one does
 abbrev pub label_text : Option Request → Placed → List ℕ
 label_text job bar = option_map_or (text_at bar) (find (fits bar.width) (labels_of job bar.bar)) []
+
+-- the label that is told to fit, if one is
+abbrev pub told_text : Fit → Option Request → Placed → List ℕ
+told_text fit.Long job bar = text_at bar (label_of job bar.bar ++ letters_text bar.bar.kind job)
+told_text fit.Short job bar = text_at bar (label_of job bar.bar)
+told_text fit.Bare job bar = text_at bar (label_of None bar.bar)
+told_text fit.Nothing job bar = []
 
 -- a job that is to be skipped is hatched
 abbrev pub class_of : Bar → List ℕ
@@ -66,6 +87,14 @@ paint_text None = []
 -- its colour, which is that of the entity of its job, and its edge, which tells the outcome
 abbrev pub colour_text : Option Request → Bar → List ℕ
 colour_text job bar = COLOUR.now ++ paint_text job ++ word_of_look bar.look ++ class_of bar
+
+-- the same up to what its job does with which buffers
+unfoldable pub front_text : Option Request → Bar → List ℕ
+front_text job bar = codes "<g class='" ++ class_of_kind bar.kind ++ TITLE.now ++ whose_of job bar ++ uses_text job
+
+-- what it tells behind that, and its colour
+unfoldable pub behind_text : Option Request → Bar → List ℕ
+behind_text job bar = when_of bar ++ arrow_text bar.look ++ colour_text job bar
 
 -- the bar of a job, or of none
 unfoldable pub bar_text : Option Request → Placed → List ℕ

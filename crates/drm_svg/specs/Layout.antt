@@ -1,5 +1,5 @@
 -- Where everything of a picture is drawn: rows of ten pixels, and columns of ten.
-use Rattle.std.specs.Prelude.{◌≡◌, ℕ, zero, suc, Bool, false, ◌+◌, ◌-◌, ◌<◌, ◌≤◌, ◌==◌, List, [], ◌∷◌, ◌++◌, All, AllPairs, Any, ◌&&◌, filter, find, if◌then◌else◌, length, map, nat_le, nat_lt, option_and_then, Option, Some, None, slice_index_or, take}
+use Rattle.std.specs.Prelude.{◌≡◌, ℕ, zero, suc, Bool, false, ◌+◌, ◌-◌, ◌<◌, ◌≤◌, ◌==◌, List, [], ◌∷◌, ◌++◌, All, AllPairs, Any, ◌&&◌, filter, find, if◌then◌else◌, length, map, nat_le, nat_lt, option_and_then, option_map, Option, Some, None, slice_index_or, take}
 use Rattle.std.specs.List.{enumerate_from}
 use Rattle.std.specs.Option.{option_map_or}
 use Rattle.drm_picture.specs.declared.bars.Bar.{Bar}
@@ -130,6 +130,11 @@ header_of layout lane = option_map_or (λ rows. rows.top) (find (λ rows. same_l
 abbrev pub row_of_lane : Layout → Lane → ℕ
 row_of_lane layout (lane.Fence fence) = row_of_fence layout fence
 row_of_lane layout lane = header_of layout lane
+
+-- the bars in the lane of a buffer, if there are such
+abbrev pub bars_of_buffer : Layout → Option ℕ → Option (List Placed)
+bars_of_buffer layout (Some buffer) = option_map (λ rows. rows.bars) (find (λ rows. same_lane rows.lane (lane.Buffer buffer)) layout.lanes.items)
+bars_of_buffer layout None = None
 
 -- the bar of a job that waits for a buffer, in the lane of the buffer
 abbrev pub waiting_bar : Layout → ℕ → ℕ → Option Placed

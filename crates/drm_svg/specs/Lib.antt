@@ -1,6 +1,7 @@
 pub mod Fences
 pub mod LaneBars
 pub mod Escape
+pub mod Pens
 pub mod Layout
 pub mod Placing
 pub mod Signs

@@ -62,13 +62,17 @@ abbrev pub packets_text : Kind → ℕ → List ℕ
 packets_text kind.Job packets = PACKETS.now ++ decimal packets
 packets_text _ packets = []
 
--- what a bar of a job or of none tells up to how it ended: what it is of, whose job it is and what that does with which buffers, and the
--- commands that begin and end it and their moments
+-- what a bar of a job or of none is of, and whose job it is
+unfoldable pub whose_of : Option Request → Bar → List ℕ
+whose_of job bar = subject_text bar.kind bar.opening.lane bar.opening.number ++ owner_text bar.kind job
+
+-- the commands that begin and end it and their moments, and how many packets ran
+unfoldable pub when_of : Bar → List ℕ
+when_of bar = begins_of bar.kind ++ decimal bar.from ++ moment_text bar.began ++ last_text bar.kind bar ++ packets_text bar.kind bar.packets
+
+-- what a bar of a job or of none tells up to how it ended: also what its job does with which buffers
 unfoldable pub front_of : Option Request → Bar → List ℕ
-front_of job bar =
-    subject_text bar.kind bar.opening.lane bar.opening.number ++ owner_text bar.kind job ++ uses_text job
-    ++ begins_of bar.kind ++ decimal bar.from ++ moment_text bar.began
-    ++ last_text bar.kind bar ++ packets_text bar.kind bar.packets
+front_of job bar = whose_of job bar ++ uses_text job ++ when_of bar
 
 -- the same, and how it ended
 unfoldable pub title_of : Option Request → Bar → List ℕ

@@ -2,7 +2,7 @@
 
 ghost use Rattle.std.specs.Prelude.{◌≡◌, ◌+◌, ◌<◌, ◌^◌, [], IfOk, OnOk, find, if◌then◌else◌, length};
 ghost use Rattle.std.specs.Option.{option_copied};
-ghost use Rattle.drm_svg.specs.Layout.{AreLanes, IsLaneRows, IsLayout, below_of, fences_below, has_credits as has_credits_of, header_of, lanes_of, lasts_in as lasts_in_column, row_of_fence, row_of_job, row_of_lane, row_or as row_or_else, same_lane, waiting_bar};
+ghost use Rattle.drm_svg.specs.Layout.{AreLanes, IsLaneRows, IsLayout, bars_of_buffer, below_of, fences_below, has_credits as has_credits_of, header_of, lanes_of, lasts_in as lasts_in_column, row_of_fence, row_of_job, row_of_lane, row_or as row_or_else, same_lane};
 
 use crate::fences::Fences;
 use crate::lane_bars::LaneBars;
@@ -201,23 +201,33 @@ impl Layout {
         }
     }
 
-    // The bar of a job that waits for a buffer, in the lane of the buffer.
-    fn waiting_bar(&self, buffer: u32, fence: u32) -> Option<&Placed>
-        ensures { option_copied result ≡ waiting_bar self.now buffer fence }
+    // The bars in the lane of a buffer, if there are such.
+    pub(crate) fn buffer_bars(&self, buffer: Option<u32>) -> Option<&LaneBars>
+        ensures { option_copied result ≡ bars_of_buffer self.now buffer }
     {
-        match find_lane(&self.lanes, Lane::Buffer(buffer)) {
-            Some(rows) => rows.bars.find(fence),
+        match buffer {
+            Some(number) => match find_lane(&self.lanes, Lane::Buffer(number)) {
+                Some(rows) => Some(&rows.bars),
+                None => None,
+            },
             None => None,
         }
     }
 
     // Where a job stands in a column: at its bar in the lane of the buffer if it waits there, and else at its fence.
-    pub(crate) fn job_row(&self, column: usize, buffer: Option<u32>, fence: u32) -> usize
+    pub(crate) fn job_row(
+        &self,
+        column: usize,
+        buffer: Option<u32>,
+        bars: Option<&LaneBars>,
+        fence: u32,
+    ) -> usize
+        requires { option_copied bars ≡ bars_of_buffer self.now buffer }
         ensures { result ≡ row_of_job self.now column buffer fence }
     {
         let row = self.fence_row(fence);
-        match buffer {
-            Some(number) => row_or(column, self.waiting_bar(number, fence), row),
+        match bars {
+            Some(lane) => row_or(column, lane.find(fence), row),
             None => row,
         }
     }

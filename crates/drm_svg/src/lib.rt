@@ -15,12 +15,14 @@ mod head;
 mod lane_bars;
 mod layout;
 mod owners;
+mod pen;
 mod placing;
 mod signs;
 mod svg;
 mod text;
 mod titles;
 mod waits;
+mod words;
 
 pub use bars::put_entity_class;
 pub use ends::is_marked;

@@ -1,10 +1,12 @@
 //! Of which job a bar is, and what that does with which buffers.
 
 ghost use Rattle.std.specs.Option.{option_copied};
-ghost use Rattle.std.specs.Prelude.{◌≡◌, ◌++◌, OnOk, decimal, flat_map, slice_get};
+ghost use Rattle.std.specs.Prelude.{◌≡◌, ◌+◌, ◌*◌, ◌≤◌, ◌++◌, OnOk, decimal, flat_map, length, slice_get, take};
+ghost use Rattle.drm_svg.specs.Pens.{Adds};
 ghost use Rattle.drm_svg.specs.Owners.{job_of, letter_of, letters_text, uses_text, verb_of};
 
-use crate::text::{put_number, put_text};
+use crate::pen::Pen;
+use crate::words::{count_digits, place_number, place_words};
 use drm_picture::{Bar, Kind, Picture, Request};
 use drm_types::{Access, BufferId};
 use std::alloc::AllocError;
@@ -27,87 +29,161 @@ pub fn job<'a>(picture: &'a Picture, bar: &Bar) -> Option<&'a Request>
     }
 }
 
-// What a job does with a buffer that it declares.
-fn verb(access: Access) -> &'static str
-    ensures { result.now ≡ verb_of access }
+// Places what a job does with a buffer that it declares.
+#[inline(always)]
+fn place_verb(room: &mut [u8], at: usize, access: Access) -> usize
+    requires { at + 10 ≤ length room.old }
+    ensures text { take result room.new ≡ take at room.old ++ verb_of access }
+    ensures most { result ≤ at + 10 }
 {
     match access {
-        Access::Read => ", reads ",
-        Access::Write => ", writes ",
-        Access::Hold => ", holds ",
-        Access::Move => ", moves ",
+        Access::Read => place_words(room, at, ", reads "),
+        Access::Write => place_words(room, at, ", writes "),
+        Access::Hold => place_words(room, at, ", holds "),
+        Access::Move => place_words(room, at, ", moves "),
     }
 }
 
-// The same by a letter.
-fn letter(access: Access) -> &'static str
-    ensures { result.now ≡ letter_of access }
+// Places the letter of what a job does with a buffer.
+#[inline(always)]
+fn place_access(room: &mut [u8], at: usize, access: Access) -> usize
+    requires { at + 3 ≤ length room.old }
+    ensures text { take result room.new ≡ take at room.old ++ letter_of access }
+    ensures end { result ≡ at + 3 }
 {
     match access {
-        Access::Read => " r:",
-        Access::Write => " w:",
-        Access::Hold => " h:",
-        Access::Move => " m:",
+        Access::Read => place_words(room, at, " r:"),
+        Access::Write => place_words(room, at, " w:"),
+        Access::Hold => place_words(room, at, " h:"),
+        Access::Move => place_words(room, at, " m:"),
     }
+}
+
+// Places what a job does with a buffer.
+#[inline(always)]
+fn place_use(room: &mut [u8], at: usize, declared: &(BufferId, Access)) -> usize
+    requires { at + 30 ≤ length room.old }
+    ensures text { take result room.new ≡ take at room.old ++ verb_of declared.now.1 ++ decimal declared.now.0 }
+    ensures most { result ≤ at + 30 }
+{
+    let behind = place_verb(room, at, declared.1);
+    place_number(room, behind, u64::from(declared.0.number()))
+}
+
+// Places what a job does with a buffer, by its letter.
+#[inline(always)]
+fn place_letter(room: &mut [u8], at: usize, declared: &(BufferId, Access)) -> usize
+    requires { at + 30 ≤ length room.old }
+    ensures text { take result room.new ≡ take at room.old ++ letter_of declared.now.1 ++ decimal declared.now.0 }
+    ensures most { result ≤ at + 30 }
+{
+    let behind = place_access(room, at, declared.1);
+    place_number(room, behind, u64::from(declared.0.number()))
 }
 
 // Puts what a job does with a buffer.
-fn put_use(out: &mut Vec<u8>, declared: &(BufferId, Access)) -> Result<(), AllocError>
-    ensures { OnOk result (out.new.items ≡ out.old.items ++ verb_of declared.now.1 ++ decimal declared.now.0) }
+#[inline(always)]
+fn put_use(
+    pen: &mut Pen,
+    out: &mut Vec<u8>,
+    declared: &(BufferId, Access),
+) -> Result<(), AllocError>
+    ensures text { OnOk result (Adds out.old.items pen.old (verb_of declared.now.1 ++ decimal declared.now.0) out.new.items pen.new) }
+    ensures room { OnOk result (length pen.new ≤ 4000) }
 {
-    put_text(out, verb(declared.1))?;
-    put_number(out, u64::from(declared.0.number()))
+    pen.make_room(out)?;
+    pen.len = place_use(pen.room.as_mut_slice(), pen.len, declared);
+    Ok(())
 }
 
 // Puts what a job does with each buffer that it declares.
-fn put_each_use(out: &mut Vec<u8>, declared: &[(BufferId, Access)]) -> Result<(), AllocError>
-    ensures { OnOk result (out.new.items ≡ out.old.items ++ flat_map (λ d. verb_of d.1 ++ decimal d.0) declared.now) }
+#[inline(always)]
+fn put_each_use(
+    pen: &mut Pen,
+    out: &mut Vec<u8>,
+    declared: &[(BufferId, Access)],
+) -> Result<(), AllocError>
+    requires { length pen.old ≤ 4000 }
+    ensures text { OnOk result (Adds out.old.items pen.old (flat_map (λ d. verb_of d.1 ++ decimal d.0) declared.now) out.new.items pen.new) }
+    ensures room { OnOk result (length pen.new ≤ 4000) }
 {
     for declaration in declared {
-        put_use(out, declaration)?;
+        put_use(pen, out, declaration)?;
     }
     Ok(())
 }
 
 /// Puts what the job of a bar does with which buffers, if the bar is of one.
-pub(crate) fn put_uses(out: &mut Vec<u8>, job: Option<&Request>) -> Result<(), AllocError>
-    ensures { OnOk result (out.new.items ≡ out.old.items ++ uses_text (option_copied job.entry)) }
+#[inline(always)]
+pub(crate) fn put_uses(
+    pen: &mut Pen,
+    out: &mut Vec<u8>,
+    job: Option<&Request>,
+) -> Result<(), AllocError>
+    requires { length pen.old ≤ 4000 }
+    ensures text { OnOk result (Adds out.old.items pen.old (uses_text (option_copied job.entry)) out.new.items pen.new) }
+    ensures room { OnOk result (length pen.new ≤ 4000) }
 {
     match job {
-        Some(request) => put_each_use(out, request.declared.as_slice()),
+        Some(request) => put_each_use(pen, out, request.declared.as_slice()),
         None => Ok(()),
     }
 }
 
 // Puts what a job does with a buffer, by a letter.
-fn put_letter(out: &mut Vec<u8>, declared: &(BufferId, Access)) -> Result<(), AllocError>
-    ensures { OnOk result (out.new.items ≡ out.old.items ++ letter_of declared.now.1 ++ decimal declared.now.0) }
+#[inline(always)]
+fn put_letter(
+    pen: &mut Pen,
+    out: &mut Vec<u8>,
+    declared: &(BufferId, Access),
+) -> Result<(), AllocError>
+    ensures text { OnOk result (Adds out.old.items pen.old (letter_of declared.now.1 ++ decimal declared.now.0) out.new.items pen.new) }
+    ensures room { OnOk result (length pen.new ≤ 4000) }
 {
-    put_text(out, letter(declared.1))?;
-    put_number(out, u64::from(declared.0.number()))
+    pen.make_room(out)?;
+    pen.len = place_letter(pen.room.as_mut_slice(), pen.len, declared);
+    Ok(())
 }
 
-// Puts what a job does with each buffer that it declares, by letters.
-fn put_each_letter(out: &mut Vec<u8>, declared: &[(BufferId, Access)]) -> Result<(), AllocError>
-    ensures { OnOk result (out.new.items ≡ out.old.items ++ flat_map (λ d. letter_of d.1 ++ decimal d.0) declared.now) }
+/// Puts what a job does with each of these buffers, by letters.
+#[inline(always)]
+pub(crate) fn put_letters(
+    pen: &mut Pen,
+    out: &mut Vec<u8>,
+    declared: &[(BufferId, Access)],
+) -> Result<(), AllocError>
+    requires { length pen.old ≤ 5000 }
+    ensures text { OnOk result (Adds out.old.items pen.old (flat_map (λ d. letter_of d.1 ++ decimal d.0) declared.now) out.new.items pen.new) }
+    ensures room { OnOk result (length pen.new ≤ 5000) }
 {
     for declaration in declared {
-        put_letter(out, declaration)?;
+        put_letter(pen, out, declaration)?;
     }
     Ok(())
 }
 
-/// Puts the same as `put_uses`, by letters, but of a fence, on whose bar the lines of waits end.
-pub(crate) fn put_letters(
-    out: &mut Vec<u8>,
-    kind: Kind,
-    job: Option<&Request>,
-) -> Result<(), AllocError>
-    ensures { OnOk result (out.new.items ≡ out.old.items ++ letters_text kind (option_copied job.entry)) }
+/// Returns the buffers of which a label tells what the job of its bar does with them: none of a fence, on whose bar the
+/// lines of waits end.
+#[inline(always)]
+pub(crate) fn lettered(kind: Kind, job: Option<&Request>) -> &[(BufferId, Access)]
+    ensures { letters_text kind (option_copied job.entry) ≡ flat_map (λ d. letter_of d.1 ++ decimal d.0) result.now }
 {
     match (kind, job) {
-        (Kind::Fence, _) => Ok(()),
-        (_, Some(request)) => put_each_letter(out, request.declared.as_slice()),
-        _ => Ok(()),
+        (Kind::Fence, _) => &[],
+        (_, Some(request)) => request.declared.as_slice(),
+        _ => &[],
     }
+}
+
+/// Returns how many characters it takes to tell that by letters.
+#[inline(always)]
+pub(crate) fn count_letters(declared: &[(BufferId, Access)]) -> u128
+    ensures value { result ≡ length (flat_map (λ d. letter_of d.1 ++ decimal d.0) declared.now) }
+    ensures most { result ≤ 23 * length declared.now }
+{
+    let mut count = 0;
+    for declaration in declared {
+        count += 3 + count_digits(u64::from(declaration.0.number())) as u128;
+    }
+    count
 }

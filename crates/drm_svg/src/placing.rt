@@ -29,6 +29,7 @@ struct Taken {
 }
 
 // Whether two lanes are the same.
+#[inline(always)]
 pub(crate) fn is_same(a: Lane, b: Lane) -> bool
     ensures { result ≡ same_lane a b }
 {
@@ -97,7 +98,8 @@ fn width(picture: &Picture, bar: &Bar) -> usize
 
 /// A bar in a row.
 pub(crate) fn bar_in_row(picture: &Picture, row: usize, bar: &Bar) -> Placed
-    ensures { result ≡ placed_at picture.now row bar.now }
+    ensures value { result ≡ placed_at picture.now row bar.now }
+    ensures fits { result.left + result.width < 2 ^ 64 }
 {
     Placed {
         bar: *bar,
@@ -171,6 +173,7 @@ fn with_row(taken: Taken, end: usize) -> Taken
 }
 
 // Puts a bar into the first row that is free where it begins.
+#[inline(never)]
 fn place_bar(
     picture: &Picture,
     first: usize,
@@ -183,15 +186,18 @@ fn place_bar(
     ensures placed { OnOk result (PlacesBar picture.now first bar.now ends.old.items ends.new.items bars.old.items bars.new.items) }
     ensures taken { OnOk result (AreTaken first ends.new.items taken.new) }
 {
-    let above = taken_at(ends, first, *taken, left(picture, bar));
-    let end = left(picture, bar) + width(picture, bar);
+    let mut placed = bar_in_row(picture, first, bar);
+    let above = taken_at(ends, first, *taken, placed.left);
+    placed.row = above.below;
+    let end = placed.left + placed.width;
     take_row(ends, above.below, end)?;
-    bars.push(bar_in_row(picture, above.below, bar))?;
+    bars.push(placed)?;
     *taken = with_row(above, end);
     Ok(())
 }
 
 // Puts a bar into a row of the lane, if it is one of the lane's.
+#[inline(always)]
 fn place_in(
     picture: &Picture,
     lane: Lane,

@@ -1,168 +1,204 @@
-//! What the browser tells of a bar where the mouse rests on it.
+//! What the browser tells of a bar where the mouse rests on it. No byte of it has to be escaped but the head of the arrow,
+//! which is placed as it is to be escaped.
 
 ghost use Rattle.std.specs.Option.{option_copied};
-ghost use Rattle.std.specs.Prelude.{◌≡◌, ◌++◌, OnOk, decimal};
-ghost use Rattle.drm_svg.specs.Escape.{escaped};
+ghost use Rattle.std.specs.Prelude.{◌≡◌, ◌+◌, ◌≤◌, ◌++◌, decimal, length, take};
 ghost use Rattle.drm_svg.specs.Signs.{name_of};
-ghost use Rattle.drm_svg.specs.Titles.{arrow_text, begins_of, end_text, ends_of, front_of, last_text, moment_text, owner_text, packets_text, subject_text, title_of};
+ghost use Rattle.drm_svg.specs.Titles.{arrow_text, begins_of, end_text, ends_of, last_text, moment_text, owner_text, packets_text, subject_text, when_of, whose_of};
 
-use crate::owners::put_uses;
-use crate::signs::look_word;
-use crate::text::{put_later, put_name, put_number, put_text};
+use crate::signs::place_look;
+use crate::words::{place_later, place_name, place_number, place_words};
 use drm_picture::{Bar, Kind, Lane, Look, Request};
 use drm_types::Moment;
-use std::alloc::AllocError;
 
 /// How many packets ran.
 const PACKETS: &str = ", packets run: ";
 
-// Puts the name of a lane and what the number of a bar in it is that of.
-fn put_numbered(out: &mut Vec<u8>, lane: Lane, what: &str, number: u32) -> Result<(), AllocError>
-    ensures { OnOk result (out.new.items ≡ out.old.items ++ name_of lane ++ what.now ++ decimal number) }
+// Places the name of a lane and what the number of a bar in it is that of.
+#[inline(always)]
+fn place_numbered(room: &mut [u8], at: usize, lane: Lane, what: &str, number: u32) -> usize
+    requires { at + length what.now + 50 ≤ length room.old }
+    ensures text { take result room.new ≡ take at room.old ++ name_of lane ++ what.now ++ decimal number }
+    ensures most { result ≤ at + length what.now + 50 }
 {
-    put_name(out, lane)?;
-    put_text(out, what)?;
-    put_number(out, u64::from(number))
+    let named = place_name(room, at, lane);
+    let behind = place_words(room, named, what);
+    place_number(room, behind, u64::from(number))
 }
 
-// Puts what a bar is of.
-fn put_subject(out: &mut Vec<u8>, kind: Kind, lane: Lane, number: u32) -> Result<(), AllocError>
-    ensures { OnOk result (out.new.items ≡ out.old.items ++ subject_text kind lane number) }
+// Places what a bar is of.
+#[inline(always)]
+fn place_subject(room: &mut [u8], at: usize, kind: Kind, lane: Lane, number: u32) -> usize
+    requires { at + 60 ≤ length room.old }
+    ensures text { take result room.new ≡ take at room.old ++ subject_text kind lane number }
+    ensures most { result ≤ at + 60 }
 {
     match kind {
-        Kind::Job => put_numbered(out, lane, ": fence ", number),
-        Kind::Queued => put_numbered(out, lane, ": fence ", number),
-        Kind::Stopped => put_name(out, lane),
-        Kind::Lock => put_numbered(out, lane, ": context ", number),
-        Kind::Fence => put_name(out, lane),
-        Kind::Waiting => put_numbered(out, lane, ": fence ", number),
+        Kind::Job => place_numbered(room, at, lane, ": fence ", number),
+        Kind::Queued => place_numbered(room, at, lane, ": fence ", number),
+        Kind::Stopped => place_name(room, at, lane),
+        Kind::Lock => place_numbered(room, at, lane, ": context ", number),
+        Kind::Fence => place_name(room, at, lane),
+        Kind::Waiting => place_numbered(room, at, lane, ": fence ", number),
     }
 }
 
-// Puts whose job it is, where the lane does not tell it.
-fn put_owner(out: &mut Vec<u8>, kind: Kind, job: Option<&Request>) -> Result<(), AllocError>
-    ensures { OnOk result (out.new.items ≡ out.old.items ++ owner_text kind (option_copied job.entry)) }
+// Places whose job it is, where the lane does not tell it.
+#[inline(always)]
+fn place_owner(room: &mut [u8], at: usize, kind: Kind, job: Option<&Request>) -> usize
+    requires { at + 40 ≤ length room.old }
+    ensures text { take result room.new ≡ take at room.old ++ owner_text kind (option_copied job.entry) }
+    ensures most { result ≤ at + 40 }
 {
     match (kind, job) {
-        (Kind::Queued, _) => Ok(()),
+        (Kind::Queued, _) => at,
         (_, Some(request)) => {
-            put_text(out, " of entity ")?;
-            put_number(out, u64::from(request.entity))
+            let behind = place_words(room, at, " of entity ");
+            place_number(room, behind, u64::from(request.entity))
         }
-        _ => Ok(()),
+        _ => at,
     }
 }
 
-// What the command does that begins a bar of the kind.
-fn begins(kind: Kind) -> &'static str
-    ensures { result.now ≡ begins_of kind }
+// Places what the command does that begins a bar of the kind.
+#[inline(always)]
+fn place_begins(room: &mut [u8], at: usize, kind: Kind) -> usize
+    requires { at + 24 ≤ length room.old }
+    ensures text { take result room.new ≡ take at room.old ++ begins_of kind }
+    ensures most { result ≤ at + 24 }
 {
     match kind {
-        Kind::Job => ", picked by command ",
-        Kind::Queued => ", queued by command ",
-        Kind::Stopped => ", stopped by command ",
-        Kind::Lock => ", locked by command ",
-        Kind::Fence => ", armed by command ",
-        Kind::Waiting => ", waits from command ",
+        Kind::Job => place_words(room, at, ", picked by command "),
+        Kind::Queued => place_words(room, at, ", queued by command "),
+        Kind::Stopped => place_words(room, at, ", stopped by command "),
+        Kind::Lock => place_words(room, at, ", locked by command "),
+        Kind::Fence => place_words(room, at, ", armed by command "),
+        Kind::Waiting => place_words(room, at, ", waits from command "),
     }
 }
 
-// What the command does that ends a bar of the kind.
-fn ends(kind: Kind) -> &'static str
-    ensures { result.now ≡ ends_of kind }
+// Places what the command does that ends a bar of the kind.
+#[inline(always)]
+fn place_ends(room: &mut [u8], at: usize, kind: Kind) -> usize
+    requires { at + 24 ≤ length room.old }
+    ensures text { take result room.new ≡ take at room.old ++ ends_of kind }
+    ensures most { result ≤ at + 24 }
 {
     match kind {
-        Kind::Job => ", finished by command ",
-        Kind::Queued => ", taken out by command ",
-        Kind::Lock => ", dropped by command ",
-        Kind::Waiting => ", until command ",
-        _ => ", ended by command ",
+        Kind::Job => place_words(room, at, ", finished by command "),
+        Kind::Queued => place_words(room, at, ", taken out by command "),
+        Kind::Lock => place_words(room, at, ", dropped by command "),
+        Kind::Waiting => place_words(room, at, ", until command "),
+        _ => place_words(room, at, ", ended by command "),
     }
 }
 
-// Puts a moment, if there is one.
-fn put_moment(out: &mut Vec<u8>, moment: Option<Moment>) -> Result<(), AllocError>
-    ensures { OnOk result (out.new.items ≡ out.old.items ++ moment_text moment) }
+// Places a moment, if there is one.
+#[inline(always)]
+fn place_moment(room: &mut [u8], at: usize, moment: Option<Moment>) -> usize
+    requires { at + 40 ≤ length room.old }
+    ensures text { take result room.new ≡ take at room.old ++ moment_text moment }
+    ensures most { result ≤ at + 40 }
 {
     match moment {
         Some(now) => {
-            put_text(out, " at moment ")?;
-            put_number(out, now)
+            let behind = place_words(room, at, " at moment ");
+            place_number(room, behind, now)
         }
-        None => Ok(()),
+        None => at,
     }
 }
 
-// Puts which command ends a bar, or that none does.
-fn put_end(out: &mut Vec<u8>, bar: &Bar) -> Result<(), AllocError>
-    ensures { OnOk result (out.new.items ≡ out.old.items ++ end_text bar.now.look bar.now) }
+// Places which command ends a bar, and at which moment.
+#[inline(always)]
+fn place_ended(room: &mut [u8], at: usize, bar: &Bar) -> usize
+    requires { at + 110 ≤ length room.old }
+    ensures text { take result room.new ≡ take at room.old ++ ends_of bar.now.kind ++ decimal (bar.now.from + bar.now.span) ++ moment_text bar.now.ended }
+    ensures most { result ≤ at + 110 }
+{
+    let words = place_ends(room, at, bar.kind);
+    let behind = place_later(room, words, bar.from, bar.span);
+    place_moment(room, behind, bar.ended)
+}
+
+// Places which command ends a bar, or that none does.
+#[inline(always)]
+fn place_end(room: &mut [u8], at: usize, bar: &Bar) -> usize
+    requires { at + 110 ≤ length room.old }
+    ensures text { take result room.new ≡ take at room.old ++ end_text bar.now.look bar.now }
+    ensures most { result ≤ at + 110 }
 {
     match bar.look {
-        Look::Open => put_text(out, ", not ended"),
-        _ => {
-            put_text(out, ends(bar.kind))?;
-            put_later(out, bar.from, bar.span)?;
-            put_moment(out, bar.ended)
-        }
+        Look::Open => place_words(room, at, ", not ended"),
+        _ => place_ended(room, at, bar),
     }
 }
 
-// Puts the same, but of an entity that is stopped, which stays so.
-fn put_last(out: &mut Vec<u8>, bar: &Bar) -> Result<(), AllocError>
-    ensures { OnOk result (out.new.items ≡ out.old.items ++ last_text bar.now.kind bar.now) }
+// Places which command ends a bar, but for an entity that is stopped, which stays so.
+#[inline(always)]
+fn place_last(room: &mut [u8], at: usize, bar: &Bar) -> usize
+    requires { at + 110 ≤ length room.old }
+    ensures text { take result room.new ≡ take at room.old ++ last_text bar.now.kind bar.now }
+    ensures most { result ≤ at + 110 }
 {
     match bar.kind {
-        Kind::Stopped => Ok(()),
-        _ => put_end(out, bar),
+        Kind::Stopped => at,
+        _ => place_end(room, at, bar),
     }
 }
 
-// Puts how many packets ran, of a job on its ring.
-fn put_packets(out: &mut Vec<u8>, kind: Kind, packets: usize) -> Result<(), AllocError>
-    ensures { OnOk result (out.new.items ≡ out.old.items ++ packets_text kind packets) }
+// Places how many packets ran, of a job on its ring.
+#[inline(always)]
+fn place_packets(room: &mut [u8], at: usize, kind: Kind, packets: usize) -> usize
+    requires { at + 40 ≤ length room.old }
+    ensures text { take result room.new ≡ take at room.old ++ packets_text kind packets }
+    ensures most { result ≤ at + 40 }
 {
     match kind {
         Kind::Job => {
-            put_text(out, PACKETS)?;
-            put_number(out, packets as u64)
+            let behind = place_words(room, at, PACKETS);
+            place_number(room, behind, packets as u64)
         }
-        _ => Ok(()),
+        _ => at,
     }
 }
 
-// Puts what a bar tells up to how it ended. No byte of it has to be escaped.
-#[tactic(auto, unfolding(crate::specs::Titles::front_of))]
-fn put_front(out: &mut Vec<u8>, job: Option<&Request>, bar: &Bar) -> Result<(), AllocError>
-    ensures { OnOk result (out.new.items ≡ out.old.items ++ front_of (option_copied job.entry) bar.now) }
-{
-    put_subject(out, bar.kind, bar.opening.lane, bar.opening.number)?;
-    put_owner(out, bar.kind, job)?;
-    put_uses(out, job)?;
-    put_text(out, begins(bar.kind))?;
-    put_number(out, bar.from as u64)?;
-    put_moment(out, bar.began)?;
-    put_last(out, bar)?;
-    put_packets(out, bar.kind, bar.packets)
-}
-
-// Puts how a bar ended, behind an arrow that is escaped.
+// Places how a bar ended, behind an arrow that is escaped.
+#[inline(always)]
 #[tactic(auto, unfolding(crate::specs::Titles::arrow_text))]
-fn put_arrow(out: &mut Vec<u8>, look: Look) -> Result<(), AllocError>
-    ensures { OnOk result (out.new.items ≡ out.old.items ++ arrow_text look) }
+fn place_arrow(room: &mut [u8], at: usize, look: Look) -> usize
+    requires { at + 20 ≤ length room.old }
+    ensures text { take result room.new ≡ take at room.old ++ arrow_text look }
+    ensures most { result ≤ at + 20 }
 {
-    put_text(out, " -&gt; ")?;
-    put_text(out, look_word(look))
+    let behind = place_words(room, at, " -&gt; ");
+    place_look(room, behind, look)
 }
 
-/// Puts what a bar tells, of a job or of none, as a text of markup. Of all its bytes only the head of the arrow has to be
-/// escaped, so nothing is put twice.
-pub(crate) fn put_told(
-    out: &mut Vec<u8>,
-    job: Option<&Request>,
-    bar: &Bar,
-) -> Result<(), AllocError>
-    ensures { OnOk result (out.new.items ≡ out.old.items ++ escaped (title_of (option_copied job.entry) bar.now)) }
+/// Places what a bar is of and whose job it is.
+#[inline(always)]
+#[tactic(auto, unfolding(crate::specs::Titles::whose_of))]
+pub(crate) fn place_whose(room: &mut [u8], at: usize, job: Option<&Request>, bar: &Bar) -> usize
+    requires { at + 100 ≤ length room.old }
+    ensures text { take result room.new ≡ take at room.old ++ whose_of (option_copied job.entry) bar.now }
+    ensures most { result ≤ at + 100 }
 {
-    put_front(out, job, bar)?;
-    put_arrow(out, bar.look)
+    let behind = place_subject(room, at, bar.kind, bar.opening.lane, bar.opening.number);
+    place_owner(room, behind, bar.kind, job)
+}
+
+/// Places the commands that begin and end a bar, their moments, how many packets ran, and how it ended.
+#[inline(always)]
+#[tactic(auto, unfolding(crate::specs::Titles::when_of))]
+pub(crate) fn place_when(room: &mut [u8], at: usize, bar: &Bar) -> usize
+    requires { at + 260 ≤ length room.old }
+    ensures text { take result room.new ≡ take at room.old ++ when_of bar.now ++ arrow_text bar.now.look }
+    ensures most { result ≤ at + 260 }
+{
+    let begins = place_begins(room, at, bar.kind);
+    let from = place_number(room, begins, bar.from as u64);
+    let began = place_moment(room, from, bar.began);
+    let last = place_last(room, began, bar);
+    let packets = place_packets(room, last, bar.kind, bar.packets);
+    place_arrow(room, packets, bar.look)
 }

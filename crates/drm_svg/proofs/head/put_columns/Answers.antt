@@ -1,10 +1,10 @@
-use Rattle.std.proofs.Common.{◌∙◌, ◌++◌, ◌<◌, ℕ, List, ap, get_or, length, subst}
+use Rattle.std.proofs.Common.{◌∙◌, ◌<◌, ℕ, List, ap, get_or, length, subst}
 use Rattle.drm_core.specs.declared.event.Event.{Event}
 use Rattle.drm_picture.proofs.Moments.{last_more}
 use Rattle.drm_picture.specs.Commands.{moment_of}
 use Rattle.drm_svg.specs.Head.{column_in}
 use Rattle.drm_svg.proofs.Columns.{column_is}
-use Rattle.drm_svg.proofs.Places.{told_behind}
+use Rattle.drm_svg.proofs.Pens.{adds_same, adds_told, all_put}
 use Rattle.drm_svg.proofs.head.put_columns.Goals as goal
 
 pub loop-place-preserved : goal.loop-place-preserved
@@ -18,8 +18,6 @@ loop-place-preserved c =
     let is = c.command-item.is ∙ ap (λ (l : List (Event ℕ)). get_or l place d) same in
     let text = column_is picture place c.column_at-column.result c.loop-place.told d d c.column_at-column.ensures c.loop-place.invariant.told is in
     record {
-      written =
-          told_behind (column_in picture) columns place d c.args.out.now.items c.loop-place.out.items c.put_column.new.out.items within c.loop-place.invariant.written
-          (c.in_ok-put_column.ensures ∙ ap (λ (l : List ℕ). c.loop-place.out.items ++ l) text);
+      written = adds_told (column_in picture) columns place d within c.loop-place.invariant.written (adds_same text c.in_ok-put_column.ensures);
       told = c.or-told.ensures ∙ last_more columns place d c.moment.result c.loop-place.told within (c.moment.ensures ∙ ap moment_of is) c.loop-place.invariant.told;
     }
