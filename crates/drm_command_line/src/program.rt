@@ -342,8 +342,8 @@ fn bare_program<'a>(alloc: Global) -> Command<'a>
         .subcommand_required(true)
 }
 
-/// Returns the program with the commands that write answers and journals. Each is added where it is made, so that a lack
-/// of memory has one command to give up, and not all that were made before.
+/// Returns the program with the commands that write answers and journals. Each is added where it is made, so that a
+/// lack of memory has one command to give up, and not all that were made before.
 fn core_program<'a>(alloc: Global) -> Result<Command<'a>, AllocError>
     ensures { IfOk result (λ command. app_of command ≡ core_app) }
 {

@@ -87,8 +87,8 @@ fn read_tolerance(word: Option<&str>) -> Option<u64>
     }
 }
 
-/// Reads what two flags and two words ask of a log: limits of rings, as `gfx=3,sdma=2`, and a tolerance in microseconds.
-/// It returns `None` where a word spells no such thing.
+/// Reads what two flags and two words ask of a log: limits of rings, as `gfx=3,sdma=2`, and a tolerance in
+/// microseconds. It returns `None` where a word spells no such thing.
 pub fn read_options(
     alloc: Global,
     jobs: bool,

@@ -49,9 +49,9 @@ fn judge<R: Read, W: Write>(
     }
 }
 
-/// Reads the log of a kernel to its end, and writes each rule that it breaks, in a line, with the lines that it is broken
-/// against; then how many jobs and broken rules there are, what was not judged, and how long the jobs of each ring waited
-/// and ran. Where it keeps all rules none is told, and the ending is `Done`.
+/// Reads the log of a kernel to its end, and writes each rule that it breaks, in a line, with the lines that it is
+/// broken against; then how many jobs and broken rules there are, what was not judged, and how long the jobs of each
+/// ring waited and ran. Where it keeps all rules none is told, and the ending is `Done`.
 pub fn conform<R: Read, W: Write>(
     alloc: Global,
     options: &Options,

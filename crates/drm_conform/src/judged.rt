@@ -7,8 +7,8 @@ use drm_engine::Ending;
 use drm_text::{Fault, TextFault};
 use std::fmt;
 
-/// How the judging of a log ended: `Done` where it keeps all rules, and `Differs` where it breaks some. A fault is told in
-/// words of a log.
+/// How the judging of a log ended: `Done` where it keeps all rules, and `Differs` where it breaks some. A fault is told
+/// in words of a log.
 #[derive(Debug, Drop)]
 pub struct Judged {
     /// As engines end.

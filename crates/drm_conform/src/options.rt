@@ -13,8 +13,8 @@ pub struct Limit {
 /// What is asked of a log.
 #[derive(Drop)]
 pub struct Options {
-    /// Lines whose times are less than so many microseconds apart may stand in either order. With 0 none may. The limits of
-    /// rings know no tolerance.
+    /// Lines whose times are less than so many microseconds apart may stand in either order. With 0 none may. The
+    /// limits of rings know no tolerance.
     pub tolerance: u64,
     /// Whether jobs have to end in the order in which their ring ran them.
     pub in_order: bool,

@@ -86,7 +86,8 @@ told_on old new seen ts told ends f q at ended = elim (ends f q at ended) [
 
 -- ---- runs
 
--- of a job that runs and one that it comes after: that has ended in an entry before, or it runs on the same ring, and not later
+-- of a job that runs and one that it comes after: that has ended in an entry before, or it runs on the same ring, and
+-- not later
 abbrev pub IsMetAt : List (ℕ × What) → List (ℕ × What) → ℕ → Place → ℕ → JobRecord → Type 0
 IsMetAt seen ts i p on x =
     Contains (seen ++ take i ts) (on, does.Ended) ⊎ ((x.ring ≡ p.ring) × ((j : ℕ) (q : Place) → i < j → slice_get ts j ≡ Some (on, does.Ran q) → ⊥))

@@ -26,7 +26,8 @@ use Rattle.drm_core.specs.Step.{Step}
 use Rattle.drm_core.specs.Run.{Run, AllNamesExist}
 use Rattle.drm_state.specs.Writers.{is_writer, HaveEnded}
 
--- the memory of the machine that runs the armed jobs one after another in arming order, each with the packets that it has run
+-- the memory of the machine that runs the armed jobs one after another in arming order, each with the packets that it
+-- has run
 abbrev pub serial_memory : DeviceSpec → CoreState → List (List ℕ)
 serial_memory spec state = serial spec.buffers (turns state.device.journal)
 
@@ -62,7 +63,8 @@ GivesUp state ctx buffer further =
 abbrev pub IsRefused : Answer → Type 0
 IsRefused given = (why : Refusal) × (given ≡ answer.Refused why)
 
--- what a fence's status tells of its job: 0 no outcome yet, 1 run to its end, -125 (ECANCELED) cut short, -3 (ESRCH) never run
+-- what a fence's status tells of its job: 0 no outcome yet, 1 run to its end, -125 (ECANCELED) cut short, -3 (ESRCH)
+-- never run
 pub record TellsOutcome (r : JobRecord) : Type 0 where
   pub waiting : IsFalse (has_ended r.phase) → status_of r.phase ≡ pos 0
   pub ended : IsTrue (has_ended r.phase) → (status_of r.phase ≡ pos 1) ⊎ (status_of r.phase ≡ negsuc 124) ⊎ (status_of r.phase ≡ negsuc 2)
@@ -117,7 +119,8 @@ pub record Promises (spec : DeviceSpec) (state : CoreState) : Type 0 where
       → (fence : ℕ) (old : JobRecord) → IsArmed state fence old → (new : JobRecord) × IsArmed next fence new × StaysFinal old new
   -- a ring's pending jobs count no more credits than its limit
   pub credits : (ring : ℕ) (limits : RingSpec) → slice_get spec.rings ring ≡ Some limits → used_credits state.device ring ≤ limits.credit_limit
-  -- a pick gives the ring the least of all jobs that may begin on it, by the priority of the entity and then by the number
+  -- a pick gives the ring the least of all jobs that may begin on it, by the priority of the entity and then by the
+  -- number
   pub picks : (ring now fence : ℕ) (skipped : Bool) (next : CoreState) → Step state (event.Pick ring now) (answer.Picked fence skipped) next
       → IsLeast state.device ring fence
   -- and finds the ring idle only where no job may begin on it

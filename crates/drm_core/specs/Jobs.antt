@@ -29,8 +29,8 @@ with_job give (event.Read ctx buffer) = event.Read ctx buffer
 with_job give (event.Status fence) = event.Status fence
 with_job give (event.Dump buffer) = event.Dump buffer
 
--- new is the old event with what may be given for its job: it is so for each function that gives this. Where there is no job it
--- is so for any function
+-- new is the old event with what may be given for its job: it is so for each function that gives this. Where there is
+-- no job it is so for any function
 abbrev pub IsMapped : {J K : Type 0} → (J → K → Type 0) → Event J → Event K → Type 0
 IsMapped {J} {K} MayGive old new =
     MatchOption (job_of old) ((give : J → K) → new ≡ with_job give old)

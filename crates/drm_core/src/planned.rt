@@ -55,8 +55,8 @@ impl CoreTable {
     }
 
     /// Plans a job over the reservations that the context holds (`drm_sched_job_add_implicit_dependencies`): it is
-    /// checked, room for its uses is taken (`dma_resv_reserve_fences`), what it waits for is collected, and both are put
-    /// into a box. The context locks no more, and what it planned before is forgotten.
+    /// checked, room for its uses is taken (`dma_resv_reserve_fences`), what it waits for is collected, and both are
+    /// put into a box. The context locks no more, and what it planned before is forgotten.
     #[inline(always)]
     pub(crate) fn plan(&mut self, alloc: Global, ctx: CtxId, draft: Draft) -> Answer
         requires ctx { ctx < 64 }

@@ -50,7 +50,8 @@ AreSteps events answers steps = (map asked steps ≡ map asked_by events) × (ma
 abbrev pub limits_of : DeviceSpec → List ℕ
 limits_of spec = map (λ ring. ring.credit_limit) spec.rings
 
--- the text of the picture of the part of these steps from one place to before another, on rings of these limits, with this axis
+-- the text of the picture of the part of these steps from one place to before another, on rings of these limits, with
+-- this axis
 abbrev pub IsDrawn : Shape → List ℕ → Axis → ℕ → ℕ → List Step → List ℕ → Type 0
 IsDrawn shape limits axis from to steps text =
     (picture : Picture) × IsPicture shape axis from to steps picture × IsPage limits (part_of 0 from (part_of 0 to steps)) (part_of from to steps) picture text

@@ -71,7 +71,8 @@ view_text columns rows above = VIEW.now ++ decimal above ++ codes "0 " ++ decima
 unfoldable pub heading_text : ℕ → List ℕ → List ℕ
 heading_text above heading = HEADING.now ++ decimal (above - 1) ++ codes "3'>" ++ heading ++ codes "</text>\n"
 
--- from the eighth on, an entity has the colour of the one that is seven before it, with stripes: each seven have their own slant
+-- from the eighth on, an entity has the colour of the one that is seven before it, with stripes: each seven have their
+-- own slant
 unfoldable pub slant_text : ℕ → List ℕ
 slant_text entity = PATTERN.now ++ class_of_entity entity ++ PATTERN_TURN.now ++ decimal (20 * (entity / 7))
 
@@ -95,7 +96,8 @@ unfoldable pub top_text : Picture → ℕ → ℕ → ℕ → List ℕ
 top_text picture columns rows above =
     size_text columns rows ++ view_text columns rows above ++ heading_text above (heading_of picture) ++ patterns_text picture.shape.entities
 
--- what of a page is where: its columns and rows, the rows above the lanes, the first row of the legend, and how many keys stand in one
+-- what of a page is where: its columns and rows, the rows above the lanes, the first row of the legend, and how many
+-- keys stand in one
 abbrev pub frame_of : Picture → Layout → Frame
 frame_of picture layout = record {
   columns = columns_of picture;

@@ -4,7 +4,8 @@ use Rattle.drm_stream.specs.Streams.{NoReadFailed, NoWriteFailed, SinkState, Sou
 use Rattle.drm_engine.specs.declared.ending.Ending.{Ending}
 use Rattle.drm_engine.specs.declared.ending.Ending.TheVariants as ending
 
--- 'input failed' tells that a read failed, refused memory that none failed but for want of memory, any other that none did
+-- 'input failed' tells that a read failed, refused memory that none failed but for want of memory, any other that none
+-- did
 abbrev pub TellsReads : SourceState → SourceState → Ending → Type 0
 TellsReads old new ending.NoInput = new.failed ≡ true
 TellsReads old new ending.NoMemory = new.failed ≡ old.failed

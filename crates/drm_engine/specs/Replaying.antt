@@ -17,7 +17,8 @@ use Rattle.drm_stream.specs.Transfer.{AppendsFront}
 use Rattle.drm_engine.specs.declared.ending.Ending.{Ending}
 use Rattle.drm_engine.specs.declared.ending.Ending.TheVariants as ending
 
--- these answers are given to the events of the script by a core that begins as its device, in a lawful run that leaves it as promised
+-- these answers are given to the events of the script by a core that begins as its device, in a lawful run that leaves
+-- it as promised
 abbrev pub AreAnswers : Script → List Answer → Type 0
 AreAnswers script answers = (final : CoreState) × LawfulRun (opened script.spec) script.lines answers final × Promises script.spec final
 
@@ -29,8 +30,8 @@ SpellsScript input Hold = (script : Script) × IfSome input (λ text. judge_scri
 abbrev pub Line : Type 0
 Line = CoreState → Event Draft → Answer → CoreState → List ℕ
 
--- by lawful cores, one step after another, these events get these answers and lead from the old core to the new one, and
--- this is the text of their lines
+-- by lawful cores, one step after another, these events get these answers and lead from the old core to the new one,
+-- and this is the text of their lines
 abbrev pub Tells : Line → CoreState → List (Event Draft) → List Answer → CoreState → List ℕ → Type 0
 Tells line old [] [] new text = IsLawful old × (new ≡ old) × (text ≡ [])
 Tells line old (event ∷ events) (answer ∷ answers) new text =

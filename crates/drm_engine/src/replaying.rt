@@ -124,9 +124,9 @@ fn write_lines<L: Lines, W: Write>(
 }
 
 /// Writes one of these lines for each event of a script: that of the event, of the cores before and behind it, and of
-/// what it is answered. The core is built for the script's device, and gets the events in their order. The device passes
-/// its check, so only memory can lack, and it lacks before anything is written. If a write fails, the events behind it
-/// happen all the same, and nothing more is written.
+/// what it is answered. The core is built for the script's device, and gets the events in their order. The device
+/// passes its check, so only memory can lack, and it lacks before anything is written. If a write fails, the events
+/// behind it happen all the same, and nothing more is written.
 pub fn play_lines<L: Lines, W: Write>(
     alloc: Global,
     lines: &mut L,

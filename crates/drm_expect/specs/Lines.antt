@@ -27,8 +27,8 @@ abbrev pub IsFoundAt : List ℕ → Option ℕ → Type 0
 IsFoundAt bytes (Some place) = FirstEquals bytes place
 IsFoundAt bytes None = (place : ℕ) → NoEqualsBefore bytes place
 
--- what a line expects: the line of the script stands before its first '=', and the answer behind it, without the spaces around
--- that. A line without '=' expects nothing
+-- what a line expects: the line of the script stands before its first '=', and the answer behind it, without the spaces
+-- around that. A line without '=' expects nothing
 abbrev pub Expects : List ℕ → Option ℕ → List ℕ → Option (List ℕ) → Type 0
 Expects bytes None bare wanted = (bare ≡ bytes) × (wanted ≡ None)
 Expects bytes (Some place) bare wanted =

@@ -23,7 +23,8 @@ AnswersAs None given = Unit {0}
 AnswersAs (Some wanted) None = ⊥
 AnswersAs (Some wanted) (Some line) = Matches wanted line
 
--- the lines of the answers that the lines of a script get: those of its header get none, and the commands behind it one each
+-- the lines of the answers that the lines of a script get: those of its header get none, and the commands behind it one
+-- each
 abbrev pub answered : List Line → List Answer → List (Option (List ℕ))
 answered lines answers = replicate (length lines - length answers) None ++ map (λ answer. Some (line_of answer)) answers
 

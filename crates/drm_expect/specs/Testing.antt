@@ -25,7 +25,8 @@ pub record AreLinesOf (text : List ℕ) (lines : List Line) : Type 0 where
   pub short : nat_lt 1048576 (length text) ≡ false
   pub cut : AreLines 1 (parts_of 10 text) lines
 
--- the number in the test of a line of its script, which are counted from 1. What comes behind the last line stands behind that
+-- the number in the test of a line of its script, which are counted from 1. What comes behind the last line stands
+-- behind that
 abbrev pub number_in_test : List Line → ℕ → ℕ
 number_in_test lines zero = zero
 number_in_test lines (suc before) = option_map_or (λ line. line.number) (slice_get lines before) (last_number lines + 1)

@@ -1,8 +1,8 @@
 //! Scripts that are their own tests: a script with remarks, and behind a command the answer that is expected of it.
 //!
-//! `test` reads such a text, has the commands of its script happen to a core, and compares the answers with those that are
-//! expected. It writes nothing where all are as expected, and else the first line that is answered otherwise, with both.
-//! `lower` writes the script alone.
+//! `test` reads such a text, has the commands of its script happen to a core, and compares the answers with those that
+//! are expected. It writes nothing where all are as expected, and else the first line that is answered otherwise, with
+//! both. `lower` writes the script alone.
 #![tactic(auto)]
 
 mod lines;

@@ -313,8 +313,8 @@ fn read<R: Read>(alloc: Global, reader: &mut Source<R>) -> Result<Vec<u8>, Input
 
 /// Reads a test to its end, and compares the answers to its script with those that are expected.
 ///
-/// It writes nothing where all are as expected, and else the first line that is not, with both. A `*` at the end of what
-/// is expected stands for any bytes.
+/// It writes nothing where all are as expected, and else the first line that is not, with both. A `*` at the end of
+/// what is expected stands for any bytes.
 pub fn test<R: Read, W: Write>(
     alloc: Global,
     reader: &mut Source<R>,

@@ -6,8 +6,8 @@ use Rattle.std.specs.Option.{option_map_or}
 use Rattle.std.specs.Str.{bytes_eq}
 use Rattle.drm_explain.specs.declared.table.TheConstants.{CONTEXTS, DEVICES, JOBS, TEXTS}
 
--- a row: its number, how it is written, what is said of an answer with it in each of its cases, how one gets there, what to
--- do, what the kernel has in its place, and further lines
+-- a row: its number, how it is written, what is said of an answer with it in each of its cases, how one gets there,
+-- what to do, what the kernel has in its place, and further lines
 pub record Row : Type 0 where
   pub number : ℕ
   pub form : List ℕ

@@ -9,8 +9,8 @@ use Rattle.drm_explain.specs.Numbers.{numbers}
 use Rattle.drm_explain.specs.Rows.{Row, row_spelled, rows}
 use Rattle.drm_explain.specs.Texts.{line_of, text_of}
 
--- without a word the text has a line for each row of the table, which has these numbers; else it tells the row with the number
--- that the word spells
+-- without a word the text has a line for each row of the table, which has these numbers; else it tells the row with the
+-- number that the word spells
 abbrev pub IsAnswer : Option (List ℕ) → List ℕ → Type 0
 IsAnswer None text = (map (λ row. row.number) rows ≡ numbers) × (text ≡ flat_map line_of rows)
 IsAnswer (Some word) text = (row : Row) × (row_spelled word ≡ Some row) × (text ≡ text_of row)

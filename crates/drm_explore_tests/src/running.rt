@@ -9,7 +9,8 @@ use drm_explore::{Options, explore};
 use drm_stream::{Sink, Source};
 use std::alloc::Global;
 
-/// Explores the script that the text spells, and gives the writer back. The reader fails where it has given so many bytes.
+/// Explores the script that the text spells, and gives the writer back. The reader fails where it has given so many
+/// bytes.
 pub fn explore_on(
     alloc: Global,
     options: Options,

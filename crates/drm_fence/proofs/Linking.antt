@@ -329,7 +329,8 @@ pub ends_are : (cells : List (Option Pair)) (n f j : ℕ) → IsOf cells n j f �
 ends_are cells n f j (inl x) past = absurd (omega (arith, past, slice_get_within cells j (Some x.0) x.1))
 ends_are cells n f j (inr x) past = x.0
 
--- the pair at the front of a list, where the list has a pair for which something holds that holds of those before it too
+-- the pair at the front of a list, where the list has a pair for which something holds that holds of those before it
+-- too
 pub at_front : (cells : List (Option Pair)) (unmet : List ℕ) (links : List Links) (Q : ℕ → Type 0) (f k : ℕ) (p : Pair) (is : IsLinked cells unmet links)
     → ((j : ℕ) → IsOf cells (length links) j f → Q j → is.before j < length cells → Q (is.before j))
     → slice_get cells k ≡ Some (Some p) → p.fence ≡ f → Q k

@@ -35,7 +35,8 @@ pub record Leaves (pass : PassState) (c : Closed) : Type 0 where
   pub last : IsWhole pass.part → device ≡ pass.last
   pub all : IsWhole pass.part → (b : ℕ) → b < length c.resvs.items → (x : WithRoom) × (slice_get c.resvs.items b ≡ Some (Some x))
 
--- both come back where memory was refused. A pass that has taken in all others is told that somebody is inside only where a packet is out
+-- both come back where memory was refused. A pass that has taken in all others is told that somebody is inside only
+-- where a packet is out
 abbrev pub GivesBack : GpuState → PassState → CloseError → Type 0
 GivesBack gpu pass (Memory g p) = (g ≡ gpu) × (p ≡ pass)
 GivesBack gpu pass Inside = IsWhole pass.part → (ring : ℕ) × (ring_out pass.last ring ≡ true)

@@ -145,21 +145,22 @@ IsSameBut v w = (w.pivot.mine ≡ v.pivot.mine) × (noted w ≡ noted v)
 abbrev pub Adds : MarkedDevice → MarkedDevice → Seeing → Seeing → Type 0
 Adds found left v w = (w.pivot.mine ≡ v.pivot.mine ++ (found, left) ∷ []) × (noted w ≡ noted v)
 
--- a device that a caller finds: it is lawful, came of the one that was seen last, and shows no fence earlier than it was looked at. A
--- caller that has taken in all others finds the very device that it saw last
+-- a device that a caller finds: it is lawful, came of the one that was seen last, and shows no fence earlier than it
+-- was looked at. A caller that has taken in all others finds the very device that it saw last
 pub record IsFound (found : MarkedDevice) (v : Seeing) : Type 0 where
   pub lawful : IsGood found
   pub later : GrowsTo (last_of v) found
   pub shows : (fence word : ℕ) → In (fence, word) v.looked → NotBack word (word_shown found fence)
   pub alone : IsWhole v.part → found ≡ last_of v
 
--- a caller that has only waited: what it saw last came of what it saw before, and is that where it has taken in all others
+-- a caller that has only waited: what it saw last came of what it saw before, and is that where it has taken in all
+-- others
 abbrev pub HasWaited : Seeing → Seeing → Type 0
 HasWaited v w = GrowsTo (last_of v) (last_of w) × (IsWhole v.part → last_of w ≡ last_of v)
 
--- a call found a lawful device that came of what the pass saw last and shows no fence earlier than the pass saw it, and left the
--- device that the pass sees now. A pass that has taken in all others found what it saw last, but for a packet of its own that was
--- out. The calls of the pass have this one more
+-- a call found a lawful device that came of what the pass saw last and shows no fence earlier than the pass saw it, and
+-- left the device that the pass sees now. A pass that has taken in all others found what it saw last, but for a packet
+-- of its own that was out. The calls of the pass have this one more
 pub record Calls (does : MarkedDevice → MarkedDevice → Type 0) (old new : PassState) : Type 0 where
   pub found : MarkedDevice
   pub lawful : IsGood found
@@ -182,8 +183,8 @@ pub record CallsAs (does : MarkedDevice → MarkedDevice → Type 0) (v w : Seei
   pub onward : GrowsTo found (last_of w)
   pub adds : Adds found (last_of w) v w
 
--- a pass of two: it saw the later of what they saw, its calls are those of both, each as often, in one order, and it has all that
--- they looked at, claimed, met and drew
+-- a pass of two: it saw the later of what they saw, its calls are those of both, each as often, in one order, and it
+-- has all that they looked at, claimed, met and drew
 pub record IsJoinedOf (one other new : PassState) : Type 0 where
   pub gpu : new.gpu ≡ one.gpu
   pub later : GrowsTo one.last new.last × GrowsTo other.last new.last

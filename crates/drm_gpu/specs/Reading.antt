@@ -21,9 +21,9 @@ pub record ReadingState : Type 0 where
 abbrev pub HoldsFitting : ReadingState → MarkedDevice → Type 0
 HoldsFitting s d = (x : Reservation) × (s.held ≡ (s.buffer, x) ∷ []) × Fits s.buffer d.state.journal x
 
--- what a readback answers and writes, where it found this device: the buffer's bytes once all armed writers have ended. It is
--- refused by the least fence without outcome among the reservation's entries of WRITE and stronger. Either way the reservation that is held
--- fits the device
+-- what a readback answers and writes, where it found this device: the buffer's bytes once all armed writers have ended.
+-- It is refused by the least fence without outcome among the reservation's entries of WRITE and stronger. Either way
+-- the reservation that is held fits the device
 abbrev pub ReadIs : ReadingState → Result (Unit {0}) ReadError → List ℕ → List ℕ → MarkedDevice → MarkedDevice → Type 0
 ReadIs s (Ok u) old new d e = (is_out d s.buffer ≡ false) × HaveEnded s.buffer d.state.journal × (new ≡ bytes_of d.state.memory s.buffer) × (e ≡ d) × HoldsFitting s d
 ReadIs s (Err (Busy f)) old new d e =

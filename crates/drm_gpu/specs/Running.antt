@@ -36,9 +36,9 @@ pub record RunningState : Type 0 where
   pub packet : ℕ
   pub is_last : Bool
 
--- the ring's next packet went out of a lawful device, which came of what the pass saw last and had nothing in the packet's way; a pass
--- that has taken in all others found the very device that it saw last. The pass sees that device with the packet out, and has made no
--- call: it takes effect when the packet comes back
+-- the ring's next packet went out of a lawful device, which came of what the pass saw last and had nothing in the
+-- packet's way; a pass that has taken in all others found the very device that it saw last. The pass sees that device
+-- with the packet out, and has made no call: it takes effect when the packet comes back
 pub record Starts (ring : ℕ) (old : PassState) (new : RunningState) : Type 0 where
   pub found : MarkedDevice
   pub lawful : IsGood found

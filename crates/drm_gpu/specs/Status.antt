@@ -17,8 +17,8 @@ number_of Unarmed = 0
 number_of Active = 1
 number_of (Ended outcome) = word_of (phase.Ended outcome)
 
--- a pass looked at a fence word: that of a lawful device which came of the one that it saw last, and which shows no fence earlier than
--- the pass saw it
+-- a pass looked at a fence word: that of a lawful device which came of the one that it saw last, and which shows no
+-- fence earlier than the pass saw it
 pub record LooksAt (fence : ℕ) (d : MarkedDevice) (old new : PassState) : Type 0 where
   pub lawful : IsGood d
   pub later : GrowsTo old.last d

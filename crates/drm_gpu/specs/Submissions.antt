@@ -119,7 +119,8 @@ TriesLock b old new (Err Already) = ((x : Reservation) × In (b, x) old.held) ×
 TriesLock b old new (Err (Older h)) = Lacks b old.held × (h < old.ticket) × (new ≡ record old { pass = record old.pass { met = old.pass.met ++ (b, h) ∷ [] } })
 TriesLock b old new (Err (Younger h)) = Lacks b old.held × (old.ticket < h) × (new ≡ record old { pass = record old.pass { met = old.pass.met ++ (b, h) ∷ [] } })
 
--- each of the tries was for buffer b and let the caller wait: it holds nothing, or the holder that the try found is younger
+-- each of the tries was for buffer b and let the caller wait: it holds nothing, or the holder that the try found is
+-- younger
 abbrev pub MayWait : ℕ → Submission → List (ℕ × ℕ) → Type 0
 MayWait b s ms = (c h : ℕ) → In (c, h) ms → (c ≡ b) × (0 < length s.held → s.ticket < h)
 

@@ -7,7 +7,8 @@ use Rattle.drm_job.specs.Uses.{is_move, StaysWithin}
 use Rattle.drm_job.specs.Fault.{buffers_of, is_kernel}
 use Rattle.drm_job.specs.Ranges.{RunsIn}
 
--- its entity and its buffers are there, its lists are short, only an entity of KERNEL priority moves, and its packets stay within what it declares and within their buffers
+-- its entity and its buffers are there, its lists are short, only an entity of KERNEL priority moves, and its packets
+-- stay within what it declares and within their buffers
 pub record IsSound (spec : DeviceSpec) (job : Draft) : Type 0 where
   pub entity : job.entity < length spec.entities
   pub credits : 0 < job.credits

@@ -216,7 +216,8 @@ are_few spec before reading armed is read =
 
 -- ---- the loop over the lines
 
--- of the jobs that were forgotten: they are as many as were armed, with them all lines read as this, and the machine ran their turns
+-- of the jobs that were forgotten: they are as many as were armed, with them all lines read as this, and the machine
+-- ran their turns
 abbrev pub RunsOn : DeviceSpec → Result Reading Fault → ℕ → Reading → List (List ℕ) → Left → Type 0
 RunsOn spec all armed reading machine left =
     (before : List JournalJob) × (length before ≡ armed) × (body_of spec (with_before before reading) left.line left.bytes left.more ≡ all)

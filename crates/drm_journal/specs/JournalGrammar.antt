@@ -29,7 +29,8 @@ final_words bytes = codes "final" ∷ text_of_bytes bytes ∷ []
 abbrev pub end_words : Line
 end_words = codes "end" ∷ []
 
--- the text is a header, a line for each job, a line for the last bytes of each buffer, and `end`, and spells the journal
+-- the text is a header, a line for each job, a line for the last bytes of each buffer, and `end`, and spells the
+-- journal
 unfoldable pub SpellsJournal : List ℕ → JournalParts → Type 0
 SpellsJournal text journal =
     (header : List Line) × SpellsHeader header journal.spec

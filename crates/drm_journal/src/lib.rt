@@ -1,8 +1,8 @@
 //! Journals: the device, the jobs that it armed with how each ended, and the last bytes of each buffer.
 //!
-//! `read_journal` gives the journal that a text spells, or its first fault with line and column. It is exact: what is read
-//! is what the definition `judge_journal` says. `Journal::of_records` and `Journal::of_core` make the journal of a device or
-//! a core that has closed. `drm_script_writer` writes them.
+//! `read_journal` gives the journal that a text spells, or its first fault with line and column. It is exact: what is
+//! read is what the definition `judge_journal` says. `Journal::of_records` and `Journal::of_core` make the journal of a
+//! device or a core that has closed. `drm_script_writer` writes them.
 #![tactic(auto)]
 
 mod core_journal;

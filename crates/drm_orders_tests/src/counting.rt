@@ -59,7 +59,8 @@ fn count_told(
     Ok(counted)
 }
 
-/// What is counted of all orders of the script that the text spells, if it spells one and has no more than so many plays.
+/// What is counted of all orders of the script that the text spells, if it spells one and has no more than so many
+/// plays.
 pub fn count_orders(
     alloc: Global,
     text: &[u8],

@@ -1,5 +1,5 @@
--- The grammar of what all texts share: the words of a job, and the header of a device. A text is lines and a line is words: what
--- is written here are the words of each line, and in which order the lines of a header stand.
+-- The grammar of what all texts share: the words of a job, and the header of a device. A text is lines and a line is
+-- words: what is written here are the words of each line, and in which order the lines of a header stand.
 use Rattle.std.specs.Prelude.{◌≡◌, ℕ, ◌^◌, ◌-◌, ◌<◌, ◌≤◌, List, [], ◌∷◌, ◌++◌, length, map, replicate, codes, None, ◌⊎◌}
 use Rattle.std.specs.List.{AllByRecursion, join_with_byte}
 use Rattle.std.specs.Fmt.{decimal}
@@ -113,7 +113,8 @@ Each Spells [] (x ∷ xs) = ⊥
 Each Spells (line ∷ lines) [] = ⊥
 Each Spells (line ∷ lines) (x ∷ xs) = Spells line x × Each Spells lines xs
 
--- the lines are the header of a device within its limits: its buffers, rings and entities, how many jobs it takes, and `go`
+-- the lines are the header of a device within its limits: its buffers, rings and entities, how many jobs it takes, and
+-- `go`
 abbrev pub SpellsHeader : List Line → DeviceSpec → Type 0
 SpellsHeader lines spec =
     (buffers : List Line) × Each SpellsBuffer buffers spec.buffers

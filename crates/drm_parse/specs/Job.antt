@@ -106,7 +106,8 @@ byte_alone pieces = one_of pieces >>+ λ piece. Some (byte_of piece)
 abbrev pub fill_from : Option ℕ → Option ℕ → Option ℕ → Option ℕ → Option Packet
 fill_from buffer offset len byte = buffer >>+ λ b. offset >>+ λ o. len >>+ λ l. byte >>+ λ v. Some (Fill b o l v)
 
--- what the pieces of a `fill` spell, one after another. It is none where they are not four, and else what `fill_of` says
+-- what the pieces of a `fill` spell, one after another. It is none where they are not four, and else what `fill_of`
+-- says
 unfoldable pub fill_in_turn : List (List ℕ) → Option (Option Packet)
 fill_in_turn pieces =
     number_first pieces >>+ λ buffer.

@@ -174,8 +174,8 @@ all_changes when cause old new =
     ++ changes new.device.spec when cause old new lane.Credits
     ++ changes new.device.spec when cause old new lane.Queued
 
--- what a step adds: the instant, and what changes in each lane. A job that waits no more is told before the slice ends that let
--- it go, so that the arrow is between slices
+-- what a step adds: the instant, and what changes in each lane. A job that waits no more is told before the slice ends
+-- that let it go, so that the arrow is between slices
 abbrev pub step_entries : When → CoreState → Event Draft → Answer → CoreState → List Entry
 step_entries when old event answer new =
     option_to_list (instant_of (named_of event) when.at answer)

@@ -48,8 +48,8 @@ time_of clock.Moment command last event = option_map_or (λ now. max last now) (
 abbrev pub when_of : Clock → ℕ → ℕ → Event Draft → When
 when_of by command last event = record { at = time_of by command last event; command = command }
 
--- the core may give these answers to these events, one step after another, and the trace of it from a command of this number on,
--- behind one of this time, has these entries: what each step adds, in their order
+-- the core may give these answers to these events, one step after another, and the trace of it from a command of this
+-- number on, behind one of this time, has these entries: what each step adds, in their order
 abbrev pub IsTraced : Clock → ℕ → ℕ → CoreState → List (Event Draft) → List Answer → CoreState → List Entry → Type 0
 IsTraced by command last old [] [] new entries = (new ≡ old) × (entries ≡ [])
 IsTraced by command last old (event ∷ events) (answer ∷ answers) new entries =
@@ -80,7 +80,8 @@ names_of spec =
 abbrev pub text_of_trace : DeviceSpec → List Entry → List ℕ
 text_of_trace spec entries = HEAD.now ++ flat_map text_of (names_of spec) ++ flat_map text_of entries ++ TAIL.now
 
--- the text of the trace of a script's events, given in their order to a core that was built for its device and keeps its promises
+-- the text of the trace of a script's events, given in their order to a core that was built for its device and keeps
+-- its promises
 abbrev pub IsTraceOf : Clock → Script → List ℕ → Type 0
 IsTraceOf by script text =
     (answers : List Answer) × (final : CoreState) × (entries : List Entry) × IsTraced by 0 0 (opened script.spec) script.lines answers final entries

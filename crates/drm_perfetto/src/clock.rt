@@ -13,7 +13,8 @@ use drm_types::Moment;
 pub enum Clock {
     /// Its number, counted from 0.
     Command,
-    /// The greatest moment that it or a command before it told. Moments need not rise, but the time of a trace does not fall.
+    /// The greatest moment that it or a command before it told. Moments need not rise, but the time of a trace does not
+    /// fall.
     Moment,
 }
 

@@ -29,8 +29,8 @@ pub enum Entry {
     Name {
         track: Track,
     },
-    /// A slice begins: of this job or context, and of this entity, where a ring shows it, for this ring, where a queue does, or
-    /// for this fence, where it waits.
+    /// A slice begins: of this job or context, and of this entity, where a ring shows it, for this ring, where a queue
+    /// does, or for this fence, where it waits.
     Begin {
         track: Track,
         at: u64,

@@ -12,7 +12,8 @@ use drm_types::{CtxId, EntityId, FenceId, RingId};
 /// The most entities or buffers of a device, which has fewer rings.
 const MOST: usize = 64;
 
-/// What there is one of for each ring, entity or buffer of a device, in the order in which a command's changes are told.
+/// What there is one of for each ring, entity or buffer of a device, in the order in which a command's changes are
+/// told.
 #[derive(Clone, Copy)]
 pub enum Lane {
     /// The first job in the queue of an entity while it waits for a fence.

@@ -159,8 +159,8 @@ fn write_trace<W: Write>(
     pen.finish(writer)
 }
 
-// Writes the trace of a script. The script's device passes its check, so only memory can lack, and it lacks before anything is
-// written.
+// Writes the trace of a script. The script's device passes its check, so only memory can lack, and it lacks before
+// anything is written.
 fn trace_script<W: Write>(alloc: Global, script: Script, by: Clock, writer: &mut Sink<W>) -> Ending
     requires fits { spec_fault script.spec ≡ None }
     requires exist { AllNamesExist script.spec script.lines }
@@ -185,9 +185,9 @@ fn trace_script<W: Write>(alloc: Global, script: Script, by: Clock, writer: &mut
     }
 }
 
-/// Reads a script to its end, and writes the trace of what its commands do. `by` says what is taken for the time of a command. Nothing is
-/// written before the whole text was read and judged. Where a write fails, the events behind it happen all the same, and
-/// nothing more is written.
+/// Reads a script to its end, and writes the trace of what its commands do. `by` says what is taken for the time of a
+/// command. Nothing is written before the whole text was read and judged. Where a write fails, the events behind it
+/// happen all the same, and nothing more is written.
 pub fn trace<R: Read, W: Write>(
     alloc: Global,
     by: Clock,

@@ -12,8 +12,8 @@ use drm_sched::Device;
 use drm_types::{EntityId, FenceId};
 use std::alloc::{AllocError, Global};
 
-/// A watch of the first job in the queue of each entity, and how many of the first jobs have ended. A command then costs
-/// no look at an earlier job that was looked at before, or that has ended.
+/// A watch of the first job in the queue of each entity, and how many of the first jobs have ended. A command then
+/// costs no look at an earlier job that was looked at before, or that has ended.
 #[derive(Drop)]
 pub struct Watches {
     /// The watches. That of another job says nothing of the one that is now the first.

@@ -1,5 +1,5 @@
-//! Tests of the engine `trace` between the reader and the writer of `drm_engine_tests`, which take their time and fail. Expected
-//! traces are written out.
+//! Tests of the engine `trace` between the reader and the writer of `drm_engine_tests`, which take their time and fail.
+//! Expected traces are written out.
 #![tactic(auto)]
 
 ghost use Rattle.std.specs.Prelude.{Some};

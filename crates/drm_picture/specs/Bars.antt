@@ -41,7 +41,8 @@ armed_by before step (event.Submit entity) = step.request
 armed_by before step (event.Arm ctx) = last_planned ctx before
 armed_by before step _ = None
 
--- the job that a step behind these arms, if it arms one: that of the submission, or the last that the context has planned
+-- the job that a step behind these arms, if it arms one: that of the submission, or the last that the context has
+-- planned
 abbrev pub armed_job : List Step → Step → Option Request
 armed_job before step = armed_by before step step.command
 
@@ -83,7 +84,8 @@ abbrev pub locked_by : Event ℕ → Answer → Option Opening
 locked_by (event.Try ctx buffer) a = locked buffer ctx a
 locked_by _ a = None
 
--- what a step behind these begins of this kind. A job may begin to wait for several buffers at once: Waiting has these bars
+-- what a step behind these begins of this kind. A job may begin to wait for several buffers at once: Waiting has these
+-- bars
 abbrev pub opening_of : Kind → List Step → Step → Option Opening
 opening_of kind.Job before step = picked_by step.command step.answer
 opening_of kind.Queued before step = queued (armed_job before step) step.answer
@@ -121,8 +123,8 @@ abbrev pub unlocks_in : Lane → ℕ → Step → Bool
 unlocks_in (lane.Buffer buffer) ctx step = drops buffer ctx step.command && granted step.answer
 unlocks_in _ ctx step = false
 
--- what began ends by this step: a job at its finish, a wait in a queue at the pick or the reaping, a lock at its drop, and a fence
--- with its outcome; an entity that is stopped stays so
+-- what began ends by this step: a job at its finish, a wait in a queue at the pick or the reaping, a lock at its drop,
+-- and a fence with its outcome; an entity that is stopped stays so
 abbrev pub ends : Kind → Opening → Step → Bool
 ends kind.Job opening step = ends_job opening.number step.answer
 ends kind.Queued opening step = leaves_queue opening.number step.answer
@@ -193,7 +195,7 @@ lasts_beyond place bar = nat_lt place (bar.from + bar.span)
 abbrev pub kept_beyond : ℕ → Option Bar → Option Bar
 kept_beyond place found = option_and_then (λ bar. if lasts_beyond place bar then Some bar else None) found
 
--- the bars of a kind that last beyond this place: one for each place of the run at which something of the kind begins, in the order of
--- the places, and no other
+-- the bars of a kind that last beyond this place: one for each place of the run at which something of the kind begins,
+-- in the order of the places, and no other
 abbrev pub bars_of : Kind → ℕ → List Step → List Bar
 bars_of kind from run = filter_map (λ p. kept_beyond from (bar_at kind run p)) (enumerate_from 0 run)

@@ -55,8 +55,8 @@ abbrev pub scale_of : Axis → List (Event ℕ) → Scale
 scale_of axis.Command commands = scale.Command
 scale_of axis.Moment commands = scale_by_moment commands (first_fall commands)
 
--- the column of the command at this place: one for each command before it, and one for each so many moments that have passed. At the end of
--- the commands, how many columns there are
+-- the column of the command at this place: one for each command before it, and one for each so many moments that have
+-- passed. At the end of the commands, how many columns there are
 abbrev pub column_at : Scale → List (Event ℕ) → ℕ → ℕ
 column_at (scale.Moment unit) commands place = place + duration (take (place + 1) commands) / unit
 column_at _ commands place = place

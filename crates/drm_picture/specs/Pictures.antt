@@ -16,8 +16,9 @@ use Rattle.drm_picture.specs.declared.picture.Shape.{Shape}
 abbrev pub part_of : ℕ → ℕ → List Step → List Step
 part_of from to steps = drop from (take to steps)
 
--- of the part from one place to before another: a column for each command, and its marks and waits; of the run up to the end of the part:
--- the jobs that it arms, and the bars of each kind that last beyond its begin; and the lanes of the device
+-- of the part from one place to before another: a column for each command, and its marks and waits; of the run up to
+-- the end of the part: the jobs that it arms, and the bars of each kind that last beyond its begin; and the lanes of
+-- the device
 pub record IsPicture (shape : Shape) (axis : Axis) (from to : ℕ) (steps : List Step) (picture : Picture) : Type 0 where
   pub lanes : picture.shape ≡ shape
   pub first : picture.first ≡ from

@@ -1,4 +1,5 @@
--- Waiting: at which buffers a job waits, from where it is armed until the last fence that holds it up there has its outcome.
+-- Waiting: at which buffers a job waits, from where it is armed until the last fence that holds it up there has its
+-- outcome.
 use Rattle.std.specs.Prelude.{ℕ, Bool, false, List, [], ◌∷◌, Option, Some, None, ◌+◌, ◌-◌, ◌&&◌, take, filter_map, flat_map, fold, nat_lt, if◌then◌else◌}
 use Rattle.std.specs.List.{enumerate_from}
 use Rattle.std.specs.Option.{option_map_or}
@@ -19,8 +20,8 @@ use Rattle.drm_picture.specs.declared.command.Step.{Step}
 abbrev pub conflicts_at : ℕ × Access → Option Request → Bool
 conflicts_at declared job = option_map_or (λ earlier. conflict earlier.declared (declared ∷ [])) job false
 
--- the fence of a bar holds up a job that is armed at this place and declares this buffer: it has no outcome there, and its job conflicts with
--- the later one at the buffer
+-- the fence of a bar holds up a job that is armed at this place and declares this buffer: it has no outcome there, and
+-- its job conflicts with the later one at the buffer
 abbrev pub holds_up : List Step → ℕ → ℕ × Access → Bar → Bool
 holds_up run place declared bar = is_open_at place bar && conflicts_at declared (job_of run bar)
 
@@ -52,8 +53,8 @@ longer (Some former) (Some latter) = Some (if nat_lt former.span latter.span the
 longer None (Some latter) = Some latter
 longer former None = former
 
--- the bar of a job at a buffer that it declares, if a fence holds it up there: the longest of its waits, which ends with the last fence to
--- have its outcome, or with the run
+-- the bar of a job at a buffer that it declares, if a fence holds it up there: the longest of its waits, which ends
+-- with the last fence to have its outcome, or with the run
 abbrev pub waiting_at : List Step → List Bar → ℕ → ℕ → ℕ × Access → Option Bar
 waiting_at run fences place fence declared = fold (λ longest bar. longer longest (wait_for run place fence declared bar)) None fences
 
@@ -65,7 +66,8 @@ waiting_by run fences place _ _ = []
 abbrev pub waiting_from : List Step → List Bar → ℕ × Step → List Bar
 waiting_from run fences p = waiting_by run fences p.0 p.1.answer (armed_job (take p.0 run) p.1)
 
--- the bars of jobs that wait for buffers, of those that last beyond this place: those of each step, in the order of the steps, and no other.
--- A wait ends with the last of its fences, so it lasts beyond the place exactly where one of them does
+-- the bars of jobs that wait for buffers, of those that last beyond this place: those of each step, in the order of the
+-- steps, and no other. A wait ends with the last of its fences, so it lasts beyond the place exactly where one of them
+-- does
 abbrev pub waiting_of : ℕ → List Step → List Bar
 waiting_of from run = flat_map (waiting_from run (bars_of kind.Fence from run)) (enumerate_from 0 run)

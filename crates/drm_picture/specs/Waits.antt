@@ -39,7 +39,8 @@ earlier_job later fence job = option_and_then (λ request. if comes_after later 
 abbrev pub earlier_of : List Step → ℕ → Request → Bar → Option Earlier
 earlier_of run place later bar = if is_open_at place bar then earlier_job later bar.opening.number (job_of run bar) else None
 
--- of earlier jobs the last of each entity, since the jobs of an entity end in order: each behind which none of its entity stands
+-- of earlier jobs the last of each entity, since the jobs of an entity end in order: each behind which none of its
+-- entity stands
 abbrev pub last_of : List Earlier → ℕ × Earlier → Option Earlier
 last_of all p = if list_any (λ other. other.entity == p.1.entity) (drop (p.0 + 1) all) then None else Some p.1
 
@@ -58,7 +59,7 @@ waits_by run fences place _ _ = []
 abbrev pub waits_at : ℕ → List Step → List Bar → ℕ × Step → List Wait
 waits_at from run fences p = if nat_lt p.0 from then [] else waits_by run fences p.0 p.1.answer (armed_job (take p.0 run) p.1)
 
--- the waits of a run from a place on: those of each step, in the order of the steps, and no other. A fence that is open at one of these
--- places has a bar that lasts beyond the first
+-- the waits of a run from a place on: those of each step, in the order of the steps, and no other. A fence that is open
+-- at one of these places has a bar that lasts beyond the first
 abbrev pub waits_of : ℕ → List Step → List Wait
 waits_of from run = flat_map (waits_at from run (bars_of kind.Fence from run)) (enumerate_from 0 run)

@@ -1,5 +1,5 @@
-//! Users: which entities have jobs that declare a buffer. The search for the last job of each entity ends with those that
-//! a job can wait for.
+//! Users: which entities have jobs that declare a buffer. The search for the last job of each entity ends with those
+//! that a job can wait for.
 
 ghost use Rattle.std.specs.List.{All, list_any};
 ghost use Rattle.std.specs.Option.{option_copied};

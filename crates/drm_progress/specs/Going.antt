@@ -18,8 +18,8 @@ use Rattle.drm_state.specs.Refusals.{pick_refusal, finish_refusal, reap_refusal}
 use Rattle.drm_state.specs.Outcomes.{must_stall, pick_outcome, step_outcome, finish_outcome, timeout_outcome, reap_outcome}
 use Rattle.drm_state.specs.Steady.{IsSteady}
 
--- what lets a job go on: a ring takes it, runs a packet of it or ends it; a timeout resets it, where it stalls; or an entity that
--- is stopped loses it
+-- what lets a job go on: a ring takes it, runs a packet of it or ends it; a timeout resets it, where it stalls; or an
+-- entity that is stopped loses it
 pub data Going : Type 0 where
   Pick : ℕ → Going
   Step : ℕ → Going

@@ -335,9 +335,9 @@ impl Watch {
     /// Looks at the job, and answers its reason.
     ///
     /// A look asks first what the ring of the job takes next, which goes through the heads on that ring. If that is the
-    /// job, it looks at no other. All looks of a watch together go once over the earlier jobs, and each look begins with
-    /// the one at which the last ended. For each it asks whether its declarations, at most 16, and those of this job, at
-    /// most 16, conflict.
+    /// job, it looks at no other. All looks of a watch together go once over the earlier jobs, and each look begins
+    /// with the one at which the last ended. For each it asks whether its declarations, at most 16, and those of this
+    /// job, at most 16, conflict.
     pub fn look(&mut self, device: &Device) -> Reason
         requires known { Knows device.now.state self.old }
         ensures reason { result ≡ reason_in device.now.state self.old.fence }

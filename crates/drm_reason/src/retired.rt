@@ -71,7 +71,8 @@ impl Retired {
         }
     }
 
-    /// Returns the reason of the job of this number, as `drm_reason::reason_of` does. It looks at no job that has retired.
+    /// Returns the reason of the job of this number, as `drm_reason::reason_of` does. It looks at no job that has
+    /// retired.
     pub fn reason_of(self, device: &Device, fence: FenceId) -> Reason
         requires { AreRetired device.now.state self }
         ensures { result ≡ reason_in device.now.state fence }

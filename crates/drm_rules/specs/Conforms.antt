@@ -15,7 +15,8 @@ module _ (demands : Demands) (log seen : List Event) (e : Event) where
     pub once : IsTrue (is_line (queueing log e.job) e)
     pub in_order : IsTrue (is_next demands.tolerance (last_in queues_of seen place.entity) e)
 
-  -- a job runs once, behind its queueing, in its entity's order, once each fence is met that it waits for, where its ring has room
+  -- a job runs once, behind its queueing, in its entity's order, once each fence is met that it waits for, where its
+  -- ring has room
   pub record KeepsRun (place : Place) : Type 0 where
     pub once : IsTrue (is_line (running log e.job) e)
     pub queued : IsTrue (in_turn demands.tolerance (queueing log e.job) e)

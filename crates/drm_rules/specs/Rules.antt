@@ -46,7 +46,8 @@ same_ring (Some ring) (Some other) = ring == other
 same_ring None other = false
 same_ring (Some ring) None = false
 
--- a job that runs finds another met: the log does not tell that it runs, or it has ended, or it ran before on the same ring
+-- a job that runs finds another met: the log does not tell that it runs, or it has ended, or it ran before on the same
+-- ring
 abbrev pub is_met : ℕ → Option Event → Option Event → Option Event → Bool
 is_met tolerance None awaited end = true
 is_met tolerance (Some run) None end = true
@@ -114,7 +115,8 @@ broken_queued tolerance e first before =
     unless (is_line first e) (record { rule = rule.QueuedTwice; at = e; by = first; end = None })
     ++ unless (is_next tolerance before e) (record { rule = rule.QueuedOutOfOrder; at = e; by = before; end = None })
 
--- of a line that runs a job: the line that runs it first, that which queues it, and that which ran before it in the entity
+-- of a line that runs a job: the line that runs it first, that which queues it, and that which ran before it in the
+-- entity
 abbrev pub broken_run : ℕ → Event → Option Event → Option Event → Option Event → List Broken
 broken_run tolerance e first queued before =
     unless (is_line first e) (record { rule = rule.RanTwice; at = e; by = first; end = None })
@@ -127,7 +129,8 @@ broken_start e first wait end room =
     unless (is_none wait || not (is_line first e)) (record { rule = rule.RanUnready; at = e; by = wait; end = end })
     ++ unless room (record { rule = rule.RanBeyondLimit; at = e; by = None; end = None })
 
--- of a line that ends a job: the line that ends it first, that which runs it, and that which ended before it on the ring
+-- of a line that ends a job: the line that ends it first, that which runs it, and that which ended before it on the
+-- ring
 abbrev pub broken_end : ℕ → Event → Option Event → Option Event → Option Event → Bool → List Broken
 broken_end tolerance e first run before next =
     unless (is_line first e) (record { rule = rule.EndedTwice; at = e; by = first; end = None })

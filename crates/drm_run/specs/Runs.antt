@@ -26,13 +26,14 @@ pub record IsTold (closed : Closed) : Type 0 where
   pub sizes : map length closed.buffers.bytes ≡ map length closed.spec.buffers
   pub inside : AreIn (length closed.spec.buffers) closed.buffers.out
 
--- a script that the input spells where it is known, and a report of a run of its jobs by n submitters, of whose journal this holds
+-- a script that the input spells where it is known, and a report of a run of its jobs by n submitters, of whose journal
+-- this holds
 abbrev pub Reports : ℕ → Option (List ℕ) → (JournalParts → Type 0) → Type 0
 Reports n input Hold =
     (script : RunScript) × IfSome input (λ text. judge_run text ≡ Ok script) × ((r : Report) × IsReport script.spec script.jobs n r × Hold (journal_of r.closed))
 
--- what each ending says of the input and of what the writer holds before and after: a worker gave up after so many turns, and
--- a run has no other ending
+-- what each ending says of the input and of what the writer holds before and after: a worker gave up after so many
+-- turns, and a run has no other ending
 abbrev pub Runs : ℕ → ℕ → Option (List ℕ) → Option (List ℕ) → Option (List ℕ) → Ending → Type 0
 Runs n turns input old new ending.Done = Reports n input (λ journal. Appends old new (text_of_journal journal))
 Runs n turns input old new (ending.GaveUp worker spent) = (spent ≡ turns) × Keeps old new

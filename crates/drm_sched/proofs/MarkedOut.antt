@@ -1,4 +1,5 @@
--- What is out of a device's memory is what its marks keep out: before a packet goes out, after it went, and when it is back.
+-- What is out of a device's memory is what its marks keep out: before a packet goes out, after it went, and when it is
+-- back.
 use Rattle.std.proofs.Common.{◌≡◌, ℕ, ◌<◌, Bool, true, false, ◌==◌, List, length, Some, None, Option, refl, sym, ap, subst, ◌∙◌, slice_get}
 use Rattle.std.specs.Option.{option_map_or}
 use Rattle.std.specs.List.{list_any}

@@ -190,8 +190,8 @@ impl ChunkLeft {
     }
 
     /// Has the next event happen to the core, if one is left, and gives the answer. A job goes from the list into the
-    /// core. Each arm hands over an event of its own: one that is put together for the core to take it apart costs 10 in a
-    /// hundred more instructions of `short_commands`, and 3 of `jobs_in_turn` (`bench/replay/estimate`).
+    /// core. Each arm hands over an event of its own: one that is put together for the core to take it apart costs 10
+    /// in a hundred more instructions of `short_commands`, and 3 of `jobs_in_turn` (`bench/replay/estimate`).
     #[inline(always)]
     pub fn apply_next(&mut self, alloc: Global, core: &mut Core) -> Option<Answer>
         requires names { AllNamesExist core.old.device.spec self.old }

@@ -4,8 +4,8 @@
 //! longer than texts may be spells the script or the journal, and is read as it. `put_header`, `put_command` and
 //! `put_command_front` put parts of a script. They also say that numbers and bytes fit a text (`fits`).
 //!
-//! `last_core` is the core to which the commands of a script lead. The engine `replay_journal` writes the journal of what
-//! that did, between any reader and any writer. A check of the journal finds no difference.
+//! `last_core` is the core to which the commands of a script lead. The engine `replay_journal` writes the journal of
+//! what that did, between any reader and any writer. A check of the journal finds no difference.
 #![tactic(auto)]
 
 mod command;

@@ -29,7 +29,8 @@ fn take_all(alloc: Global, core: &mut Core, events: Events)
     }
 }
 
-/// Returns the core to which the commands of the script lead. The script's device passes its check, so only memory can lack.
+/// Returns the core to which the commands of the script lead. The script's device passes its check, so only memory can
+/// lack.
 pub fn last_core(alloc: Global, script: Script) -> Result<Core, AllocError>
     requires fits { spec_fault script.spec ≡ None }
     requires exist { AllNamesExist script.spec script.lines }

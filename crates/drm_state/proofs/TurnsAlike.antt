@@ -1,4 +1,5 @@
--- What a turn writes depends on the bytes of the buffers that its job touches alone, and a buffer that it does not write stays.
+-- What a turn writes depends on the bytes of the buffers that its job touches alone, and a buffer that it does not
+-- write stays.
 use Rattle.std.proofs.Common.{◌≡◌, ◌≢◌, ℕ, zero, suc, true, false, List, [], ◌∷◌, length, length-set, get_or, get_or-set_other, set, take, Some, refl, sym, ap, subst, ◌∙◌, inl, inr, arith, slice_get}
 use Rattle.std.specs.Prelude.{Contains}
 use Rattle.std.specs.List.{AllByRecursion}

@@ -25,7 +25,8 @@ may_begin device priority entity =
     option_map_or (λ e. rank_of e.priority == rank_of priority) (slice_get device.spec.entities entity) false
     && option_map_or (λ e. not e.is_stopped) (slice_get device.entities entity) false
 
--- the jobs of the priority that the ring could take, in arming order: ready heads of queues of entities that are not stopped
+-- the jobs of the priority that the ring could take, in arming order: ready heads of queues of entities that are not
+-- stopped
 abbrev pub ready_heads : DeviceState → ℕ → Priority → List ℕ
 ready_heads device ring priority =
     map

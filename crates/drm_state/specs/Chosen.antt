@@ -18,7 +18,8 @@ pub record IsFirstQueued (journal : List JobRecord) (entity number : ℕ) (head 
   pub first : (i : ℕ) (earlier : JobRecord) → i < number → slice_get journal i ≡ Some earlier → earlier.job.entity ≡ entity
       → IsFalse (is_queued earlier.phase)
 
--- the job may begin on the ring: it is the first queued one of an entity that is not stopped, armed for this ring, and it is ready
+-- the job may begin on the ring: it is the first queued one of an entity that is not stopped, armed for this ring, and
+-- it is ready
 pub record MayBegin (device : DeviceState) (ring entity number : ℕ) : Type 0 where
   pub there : entity < length device.spec.entities
   pub active : IsFalse (is_stopped device entity)
@@ -31,7 +32,8 @@ pub record MayBegin (device : DeviceState) (ring entity number : ℕ) : Type 0 w
 abbrev pub rank_at : DeviceState → ℕ → ℕ
 rank_at device entity = option_map_or (λ e. rank_of e.priority) (slice_get device.spec.entities entity) 0
 
--- a job of an entity goes before one of another: the entity has the higher priority, or the same and the job the lesser number
+-- a job of an entity goes before one of another: the entity has the higher priority, or the same and the job the lesser
+-- number
 abbrev pub GoesBefore : DeviceState → ℕ → ℕ → ℕ → ℕ → Type 0
 GoesBefore device entity number other later =
     (rank_at device entity < rank_at device other) ⊎ ((rank_at device entity ≡ rank_at device other) × (number < later))

@@ -18,7 +18,8 @@ pub record IsKept (old new : DeviceState) : Type 0 where
   pub grows : Grows old new
   pub count : length new.journal ≡ length old.journal
 
--- the device after an arming is steady, the old one grew to it, and each reservation that fitted fits with the job's use
+-- the device after an arming is steady, the old one grew to it, and each reservation that fitted fits with the job's
+-- use
 pub record IsArmedOf (device : DeviceState) (job : Draft) : Type 0 where
   pub steady : IsSteady (armed_device device job)
   pub grows : Grows device (armed_device device job)

@@ -13,7 +13,8 @@ use Rattle.drm_fence.specs.Phases.{is_queued, has_ended}
 use Rattle.drm_state.specs.Order.{comes_after}
 use Rattle.drm_state.specs.Ring.{pending_of, credit_limit_of, used_credits}
 
--- the outcome is right: good with all packets run and no skipped mark, cancelled with the mark, stopped with nothing run
+-- the outcome is right: good with all packets run and no skipped mark, cancelled with the mark, stopped with nothing
+-- run
 abbrev pub HasRightOutcome : JobRecord → Phase → Type 0
 HasRightOutcome r Queued = Unit {0}
 HasRightOutcome r Scheduled = Unit {0}

@@ -17,7 +17,8 @@ pub record StaysHeld (buffer : ℕ) (resv : Reservation) (old new : DeviceState)
   pub fits_old : Fits buffer old.journal resv
   pub fits_new : Fits buffer new.journal resv
 
--- no job that was armed meanwhile uses the buffer; and where every armed job that wrote it had ended, they have still, and its bytes stay
+-- no job that was armed meanwhile uses the buffer; and where every armed job that wrote it had ended, they have still,
+-- and its bytes stay
 pub record BytesStay : Type 0 where
   pub unused : (buffer : ℕ) (resv : Reservation) (old new : DeviceState) → StaysHeld buffer resv old new
       → (fence : ℕ) (r : JobRecord) → length old.journal ≤ fence → slice_get new.journal fence ≡ Some r → usage_at buffer r.job ≡ None

@@ -38,7 +38,8 @@ abbrev pub IsOfJob : ℕ → List JobRecord → Entry → Type 0
 IsOfJob buffer journal e =
     (r : JobRecord) × (slice_get journal e.fence ≡ Some r) × (usage_at buffer r.job ≡ Some e.usage) × (r.job.entity ≡ e.entity)
 
--- the reservation fits the journal: its history is that of the armed jobs, and its entries cover all that have not ended
+-- the reservation fits the journal: its history is that of the armed jobs, and its entries cover all that have not
+-- ended
 pub record Fits (buffer : ℕ) (journal : List JobRecord) (resv : Reservation) : Type 0 where
   pub history : resv.history ≡ arms buffer journal
   pub of_jobs : All (IsOfJob buffer journal) resv.entries

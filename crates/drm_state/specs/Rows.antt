@@ -1,4 +1,5 @@
--- What a ring keeps beside its state: how many of its pending jobs at the front it is done with, and the credits of all.
+-- What a ring keeps beside its state: how many of its pending jobs at the front it is done with, and the credits of
+-- all.
 use Rattle.std.specs.Prelude.{◌≡◌, ℕ, zero, suc, Bool, not, cond, List, [], ◌∷◌, Some, sum_by, slice_get}
 use Rattle.drm_ring.specs.RingRows.{RingState, RingRow}
 use Rattle.drm_state.specs.declared.journal.JobRecord.{JobRecord}

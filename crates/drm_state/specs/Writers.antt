@@ -21,7 +21,8 @@ abbrev pub HaveEnded : ℕ → List JobRecord → Type 0
 HaveEnded buffer journal =
     (fence : ℕ) (r : JobRecord) → slice_get journal fence ≡ Some r → IsTrue (is_writer r.job buffer) → IsTrue (has_ended r.phase)
 
--- a reservation that fits a steady device has nothing to wait for exactly where every armed job that writes the buffer has ended
+-- a reservation that fits a steady device has nothing to wait for exactly where every armed job that writes the buffer
+-- has ended
 abbrev pub ReadsWaitForWriters : Type 0
 ReadsWaitForWriters =
     (device : DeviceState) (buffer : ℕ) (resv : Reservation) → IsSteady device → Fits buffer device.journal resv

@@ -18,7 +18,8 @@ first_or_none : {X : Type 0} (passes : Bool) (x : X) (rest : Option X) → (pass
 first_or_none true x rest none = refl
 first_or_none false x rest none = none refl
 
--- where the bars before a place are not the one of the job, nor those behind it if the one there is not, it is the one there or none
+-- where the bars before a place are not the one of the job, nor those behind it if the one there is not, it is the one
+-- there or none
 found_at : (fence : ℕ) (bars : List Placed) (place : ℕ) → ((k : ℕ) (d : Placed) → k < place → k < length bars → is_waiting fence (get_or bars k d) ≡ false)
     → ((k : ℕ) (d : Placed) → place ≤ k → k < length bars → is_waiting fence (get_or bars place d) ≡ false → is_waiting fence (get_or bars k d) ≡ false)
     → find (is_waiting fence) bars ≡ if_waiting fence (slice_get bars place)
@@ -57,7 +58,8 @@ other kind.Stopped number fence lt fails = absurd (omega (arith, lt))
 other kind.Lock number fence lt fails = absurd (omega (arith, lt))
 other kind.Fence number fence lt fails = absurd (omega (arith, lt))
 
--- in bars that are in order, the one of a job that waits is at the place before which the bars stand before the fence, if it is there
+-- in bars that are in order, the one of a job that waits is at the place before which the bars stand before the fence,
+-- if it is there
 pub found_in_order : (bars : List Placed) (fence place : ℕ) → IsNonDecreasingBy order_of bars
     → ((k : ℕ) (d : Placed) → k < place → k < length bars → order_of (get_or bars k d) ≤ fence)
     → ((k : ℕ) (d : Placed) → place ≤ k → k < length bars → fence < order_of (get_or bars k d))

@@ -1,4 +1,5 @@
--- The axis of a picture by moments: a line between the words and the moments, with a tick in each column above which a moment stands.
+-- The axis of a picture by moments: a line between the words and the moments, with a tick in each column above which a
+-- moment stands.
 use Rattle.std.specs.Prelude.{ℕ, List, [], ◌++◌, Option, Some, None, codes, decimal, flat_map, take}
 use Rattle.std.specs.List.{enumerate_from}
 use Rattle.drm_picture.specs.Columns.{last_moment}

@@ -37,7 +37,8 @@ label_telling entity bar = decimal bar.opening.number ++ entity_text entity ++ s
 abbrev pub label_of : Option Request → Bar → List ℕ
 label_of job bar = decimal bar.opening.number ++ entity_label bar.kind job ++ sign_of_look bar.look
 
--- the labels of a bar from the longest on: with the entity of its job and what that does with which buffers, with the entity, and without
+-- the labels of a bar from the longest on: with the entity of its job and what that does with which buffers, with the
+-- entity, and without
 abbrev pub labels_of : Option Request → Bar → List (List ℕ)
 labels_of job bar = (label_of job bar ++ letters_text bar.kind job) ∷ label_of job bar ∷ label_of None bar ∷ []
 

@@ -13,7 +13,8 @@ abbrev pub first_conflict : Option Request → Option Request → Option ℕ
 first_conflict earlier (Some later) = option_map (λ d. d.0) (find (λ d. conflicts_at d earlier) later.declared)
 first_conflict earlier None = None
 
--- the buffer of a wait: there its job conflicts with the earlier one, or there is none where it only names that one's fence
+-- the buffer of a wait: there its job conflicts with the earlier one, or there is none where it only names that one's
+-- fence
 abbrev pub buffer_of : Picture → Wait → Option ℕ
 buffer_of picture wait = first_conflict (slice_get picture.armed.items wait.earlier) (slice_get picture.armed.items wait.fence)
 

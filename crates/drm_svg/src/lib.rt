@@ -2,9 +2,9 @@
 //!
 //! `lay_out` gives each lane of a ring, an entity or a buffer a header row and as many rows as its bars need: each bar
 //! is in the first row that is free where it begins, and no two bars of a row overlap. A fence has a row of its own.
-//! What began before the drawn part of the run is cut at its edge (`specs/Layout`). `put_inside` puts the text of a picture
-//! that is laid out so, to the byte (`specs/Svg`), and what bars tell is escaped (`specs/Escape`). The page round it is the
-//! work of the crate above.
+//! What began before the drawn part of the run is cut at its edge (`specs/Layout`). `put_inside` puts the text of a
+//! picture that is laid out so, to the byte (`specs/Svg`), and what bars tell is escaped (`specs/Escape`). The page
+//! round it is the work of the crate above.
 #![tactic(auto)]
 
 mod axis;

@@ -114,7 +114,8 @@ fn about(picture: &Picture) -> usize {
         .saturating_add(columns.saturating_mul(100))
 }
 
-// Puts the lanes, the fences, the columns, the axis, the waits, the stopped entities, the marks, and the mark of the end.
+// Puts the lanes, the fences, the columns, the axis, the waits, the stopped entities, the marks, and the mark of the
+// end.
 #[tactic(auto, unfolding(crate::specs::Svg::inside_text))]
 fn put_all(
     alloc: Global,

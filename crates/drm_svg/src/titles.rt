@@ -1,5 +1,5 @@
-//! What the browser tells of a bar where the mouse rests on it. No byte of it has to be escaped but the head of the arrow,
-//! which is placed as it is to be escaped.
+//! What the browser tells of a bar where the mouse rests on it. No byte of it has to be escaped but the head of the
+//! arrow, which is placed as it is to be escaped.
 
 ghost use Rattle.std.specs.Option.{option_copied};
 ghost use Rattle.std.specs.Prelude.{◌≡◌, ◌+◌, ◌≤◌, ◌++◌, decimal, length, take};

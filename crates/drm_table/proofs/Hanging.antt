@@ -75,7 +75,8 @@ timeout_by t ring now f v w there is found =
     let h = head_is (state_of t) ring f w.steady.lawful there is in
     (h.0, h.1, timeout_finds (state_of t) ring now f h.0 is h.1.at ∙ ap (by_verdict (state_of t) ring now f h.0) found)
 
--- a head that hangs: the journal where it is blamed, the row of its ring, the rows from now on, and whether that is too much
+-- a head that hangs: the journal where it is blamed, the row of its ring, the rows from now on, and whether that is too
+-- much
 pub record IsBlamed (t : Table) (ring now f : ℕ) (r : JobRecord) (journal : Vec JobRecord Global) (row : RingRow) (since : List RingRow) (guilty : Bool) : Type 0 where
   pub head : IsHead (state_of t) ring f r
   pub hangs : timeout_outcome (state_of t) ring now ≡ hang_outcome (state_of t) ring now f r

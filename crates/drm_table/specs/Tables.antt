@@ -24,17 +24,17 @@ state_of t = record {
   entities = marks t.entities;
 }
 
--- the room that was taken when the device was opened: for all jobs, in their queues too. The pending list of a ring has a place
--- for each of its credits, which is part of its type
+-- the room that was taken when the device was opened: for all jobs, in their queues too. The pending list of a ring has
+-- a place for each of its credits, which is part of its type
 pub record HasRooms (t : Table) : Type 0 where
   pub jobs : t.spec.max_jobs ≤ vec_capacity t.journal
   pub waits : t.spec.max_jobs ≤ t.waits.places
   pub places : t.fences.places ≡ t.spec.max_jobs
   pub queues : t.entities.places ≡ t.spec.max_jobs
 
--- the tables of a steady device: its fences, its queues and its loads are those of its jobs, each job that has not ended has its
--- dependencies, its rings have passed over the jobs that they are done with and count the credits of all that are pending, and there is
--- room for what may come
+-- the tables of a steady device: its fences, its queues and its loads are those of its jobs, each job that has not
+-- ended has its dependencies, its rings have passed over the jobs that they are done with and count the credits of all
+-- that are pending, and there is room for what may come
 pub record IsWhole (t : Table) : Type 0 where
   pub steady : IsSteady (state_of t)
   pub limits : spec_fault t.spec ≡ None

@@ -18,7 +18,8 @@ place_from mark at (byte ∷ bytes) = if begins_with mark (byte ∷ bytes) then 
 abbrev pub has_mark : List ℕ → List ℕ → Bool
 has_mark mark bytes = is_some (place_from mark 0 bytes)
 
--- a line of the kernel or of trace-cmd that tells that events were lost: [LOST 12 EVENTS], [12 EVENTS DROPPED], CPU 1 buffer started
+-- a line of the kernel or of trace-cmd that tells that events were lost: [LOST 12 EVENTS], [12 EVENTS DROPPED], CPU 1
+-- buffer started
 abbrev pub tells_loss : List ℕ → Bool
 tells_loss bytes = has_mark (codes "EVENTS]") bytes || has_mark (codes "EVENTS DROPPED]") bytes || has_mark (codes " buffer started ####") bytes
 

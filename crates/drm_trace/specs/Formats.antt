@@ -20,7 +20,8 @@ use Rattle.drm_trace.specs.Rest.{Rest, address_behind, behind_spaces, end_at, fr
 
 -- ---- kernels that name fences by context and number
 
--- drm_sched_job_queue, drm_sched_job_run: dev=%s, fence=%llu:%llu, ring=%s, job count:%u, hw job count:%d, client_id:%llu
+-- drm_sched_job_queue, drm_sched_job_run: dev=%s, fence=%llu:%llu, ring=%s, job count:%u, hw job count:%d,
+-- client_id:%llu
 unfoldable pub numbered_job : Rest → Result (Task × List ℕ) Fault
 numbered_job rest = do
   device ← text_between (codes "dev=") (codes ", fence=") rest

@@ -22,8 +22,8 @@ link_with number reason = record { fence = number; reason = reason }
 abbrev pub link_of : DeviceState → ℕ → Link
 link_of device number = link_with number (reason_of device number)
 
--- the jobs that hold up the one of this number, the next first: then the one that the reason of this names, to one whose reason
--- names none. One that is no earlier job ends them: it comes first on a ring
+-- the jobs that hold up the one of this number, the next first: then the one that the reason of this names, to one
+-- whose reason names none. One that is no earlier job ends them: it comes first on a ring
 abbrev pub IsChainFrom : DeviceState → ℕ → Option ℕ → List Link → Type 0
 IsChainFrom device number next [] = next ≡ None
 IsChainFrom device number next (link ∷ rest) =

@@ -79,8 +79,8 @@ abbrev pub longest_text : List Change → ℕ → ℕ → Option ℕ → List �
 longest_text changes place clock None = []
 longest_text changes place clock (Some number) = option_map_or (held_by_text changes place clock number) (slice_get changes number) []
 
--- the life of a job: its changes, how long each reason held in so many commands, with this moment told last, and by which
--- jobs it was held up longest, where it was
+-- the life of a job: its changes, how long each reason held in so many commands, with this moment told last, and by
+-- which jobs it was held up longest, where it was
 unfoldable pub text_of_life : ℕ → List Change → ℕ → ℕ → Option ℕ → List ℕ
 text_of_life fence changes place clock longest =
     head_text fence changes ++ flat_map line_of_change changes ++ spans_text place clock changes ++ longest_text changes place clock longest

@@ -38,8 +38,8 @@ abbrev pub doing_with : DeviceState → ℕ → List ℕ → Doing
 doing_with device ring (front ∷ rest) = doing.Busy
 doing_with device ring [] = doing_idle device ring (choice device ring)
 
--- what the ring does: it is busy with its pending jobs, or is idle. Then a pick takes a job, or the first one that is queued
--- for it says why none can begin
+-- what the ring does: it is busy with its pending jobs, or is idle. Then a pick takes a job, or the first one that is
+-- queued for it says why none can begin
 abbrev pub doing_of : DeviceState → ℕ → Doing
 doing_of device ring = doing_with device ring (pending_of device ring)
 
@@ -52,8 +52,8 @@ pub record IsRow (device : DeviceState) (now : ℕ) (row : Row) : Type 0 where
   pub clock : row.clock ≡ now
   pub doings : row.doings ≡ doings_of device
 
--- a lawful run of these events leads from the old core to the new one, and this is seen of the rings behind each of them,
--- where this moment was told before
+-- a lawful run of these events leads from the old core to the new one, and this is seen of the rings behind each of
+-- them, where this moment was told before
 abbrev pub SeesRows : ℕ → CoreState → List (Event Draft) → List Row → CoreState → Type 0
 SeesRows clock old [] [] new = IsLawful old × (new ≡ old)
 SeesRows clock old (event ∷ events) (row ∷ rows) new =

@@ -23,7 +23,8 @@ use Rattle.drm_why.specs.Chains.{IsChain}
 abbrev pub command_of : Event Draft → Event ℕ
 command_of event = with_job (λ draft. draft.entity) event
 
--- the jobs that hold up this one, which had one reason and has another now. Where it has the same they are not looked up
+-- the jobs that hold up this one, which had one reason and has another now. Where it has the same they are not looked
+-- up
 abbrev pub AreLinks : DeviceState → ℕ → Reason → Reason → List Link → Type 0
 AreLinks device fence before now links =
     ((now ≡ before) × (links ≡ [])) ⊎ ((now ≡ before → ⊥) × IsChain device fence now links)
@@ -43,8 +44,8 @@ abbrev pub AddsLook : DeviceState → ℕ → Event ℕ → List Seen → List S
 AddsLook device fence command old new =
     (seen : Seen) × IsLook device fence (reason_behind old) (reason_of device fence) command seen × (new ≡ old ++ seen ∷ [])
 
--- what is seen of a job behind an event: what that does, the reason that the job has in the core that it leads to, where it
--- had this one before, and the jobs that hold it up
+-- what is seen of a job behind an event: what that does, the reason that the job has in the core that it leads to,
+-- where it had this one before, and the jobs that hold it up
 pub record IsSeen (fence : ℕ) (before : Reason) (event : Event Draft) (core : CoreState) (seen : Seen) : Type 0 where
   pub command : seen.command ≡ command_of event
   pub reason : seen.reason ≡ reason_of core.device fence

@@ -77,8 +77,8 @@ pub record WasHeld (ring : ℕ) (rows : List Row) (number fence : ℕ) : Type 0 
   pub before : place < number
   pub held : held_in ring rows place ≡ Some fence
 
--- of the fences that held the ring up behind the first commands this one did for the most commands of all, and it is the first
--- of those: no fence that did before this place held the ring up for as many
+-- of the fences that held the ring up behind the first commands this one did for the most commands of all, and it is
+-- the first of those: no fence that did before this place held the ring up for as many
 pub record IsMost (ring : ℕ) (rows : List Row) (before place fence : ℕ) : Type 0 where
   pub within : place < before
   pub held : held_in ring rows place ≡ Some fence

@@ -20,8 +20,8 @@ use Rattle.drm_why.specs.declared.seeing.Seen.{Seen}
 use Rattle.drm_why.specs.declared.asking.Question.{Question}
 use Rattle.drm_why.specs.declared.asking.Question.TheVariants as question
 
--- the text tells these changes of a job in so many commands, the last of which leave this moment, and the one that held the job
--- up longest
+-- the text tells these changes of a job in so many commands, the last of which leave this moment, and the one that held
+-- the job up longest
 abbrev pub TellsChanges : ℕ → ℕ → ℕ → List Change → List ℕ → Type 0
 TellsChanges fence place clock changes text =
     (longest : Option ℕ) × LongestIs changes place (length changes) longest × (text ≡ text_of_life fence changes place clock longest)

@@ -204,8 +204,8 @@ fn add_seen(
     Ok(())
 }
 
-/// Gives the core all events, and keeps each command with what is seen of the job behind it. Before the first one it was
-/// not armed.
+/// Gives the core all events, and keeps each command with what is seen of the job behind it. Before the first one it
+/// was not armed.
 pub(crate) fn take_seen(
     alloc: Global,
     core: &mut Core,

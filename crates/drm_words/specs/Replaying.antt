@@ -1,4 +1,5 @@
--- A replay with words: what is written answers the script that is read, and says beside each answer what it means and why.
+-- A replay with words: what is written answers the script that is read, and says beside each answer what it means and
+-- why.
 use Rattle.std.specs.Prelude.{ℕ, List, Option, Result, Ok, Err}
 use Rattle.std.specs.Io.KnownBytes.{Keeps}
 use Rattle.drm_engine.specs.Failures.{EndsBy}

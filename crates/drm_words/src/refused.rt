@@ -66,7 +66,8 @@ fn idle_case(subject: &Event<EntityId>) -> usize
     }
 }
 
-// Which sentence is said where the entity of a job is stopped, which a planned job has named before, and the number in it.
+// Which sentence is said where the entity of a job is stopped, which a planned job has named before, and the number in
+// it.
 fn stopped_case(subject: &Event<EntityId>) -> (usize, Numbers)
     ensures { stopped_case subject.now ≡ (result.0, result.1) }
 {

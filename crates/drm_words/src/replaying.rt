@@ -26,8 +26,8 @@ use drm_types::EntityId;
 use std::alloc::Global;
 use std::io::{Read, Write};
 
-/// The lines of answers with what each means behind it, and why it is so. The command, its answer and the core tell that
-/// together.
+/// The lines of answers with what each means behind it, and why it is so. The command, its answer and the core tell
+/// that together.
 #[derive(Drop)]
 struct Worded {
     // the command that happened last

@@ -54,8 +54,9 @@ pub record IsComplete (jobs : ℕ) (closed : Closed) (picks finishes : List ℕ)
   pub picked : AreCounts (length closed.spec.rings) closed.records picks
   pub finished : AreCounts (length closed.spec.rings) closed.records finishes
 
--- what a pass that was joined of all workers' tells of a device that was taken apart with it: the device had this description, and
--- the numbers that the pass has armed are those that the submitters note, each for its jobs in their order
+-- what a pass that was joined of all workers' tells of a device that was taken apart with it: the device had this
+-- description, and the numbers that the pass has armed are those that the submitters note, each for its jobs in their
+-- order
 pub record HasRun {V : Type 0} (items : V → List ℕ) (spec : DeviceSpec) (jobs : List Draft) (n : ℕ) (closed : Closed) (armed : List V) : Type 0 where
   pub pass : PassState
   pub leaves : Leaves pass closed

@@ -75,7 +75,8 @@ abbrev pub DrawsAsked : Option Axis → Option ℕ → Option ℕ → SourceStat
 DrawsAsked (Some axis) from to before after old new came = Ends (DrawsBetween axis from to before after old new) came
 DrawsAsked None from to before after old new came = DrawsAlongNothing before after old new came
 
--- what is wanted of all orders: a script to a stuck state, else a cover, else a script to the final that a word spells, else the table
+-- what is wanted of all orders: a script to a stuck state, else a cover, else a script to the final that a word spells,
+-- else the table
 abbrev pub wanted_asked : Bool → Bool → Option Text → Option Wanted
 wanted_asked true cover reached = Some wanted.Stuck
 wanted_asked false true reached = Some wanted.Cover
@@ -141,8 +142,9 @@ abbrev pub clock_asked : Bool → Clock
 clock_asked true = clock.Command
 clock_asked false = clock.Moment
 
--- what each outcome says of what was asked for: an explanation reads nothing, a drawing goes from the first command where there is no
--- first word, and to the last where there is no second, and an exploration takes a million states where there is no word
+-- what each outcome says of what was asked for: an explanation reads nothing, a drawing goes from the first command
+-- where there is no first word, and to the last where there is no second, and an exploration takes a million states
+-- where there is no word
 abbrev pub Does : Request → SourceState → SourceState → SinkState → SinkState → Outcome → Type 0
 Does (request.Run engine) before after old new came = Ends (Runs engine before.remaining old.contents new.contents) came
 Does request.ReplayWithWords before after old new came = EndsInWords (ReplaysWithWords before.remaining old.contents new.contents) came

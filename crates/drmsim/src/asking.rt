@@ -124,8 +124,8 @@ pub(crate) struct Exploration<'a> {
     pub(crate) cover: bool,
 }
 
-/// Returns what is wanted of all orders: a script to a stuck state, else a cover, else a script to the final that a word
-/// spells, else the table.
+/// Returns what is wanted of all orders: a script to a stuck state, else a cover, else a script to the final that a
+/// word spells, else the table.
 fn wanted(stuck: bool, cover: bool, reached: Option<&str>) -> Option<Wanted>
     ensures { result ≡ wanted_asked stuck cover (option_map (λ w. w.now) reached.entry) }
 {

@@ -2,8 +2,9 @@
 //!
 //! Each command runs one engine from standard input to standard output. This program only has the command line read
 //! (`drm_command_line`), runs the engine that it names, and tells how the engine ended: by the exit status, and by a
-//! line on standard error unless standard output has told it. `obey` does all that between any reader and any writer, and its clauses are what the program promises.
-//! They say of each exit status whether a read or a write failed, and that refused words and explanations read nothing.
+//! line on standard error unless standard output has told it. `obey` does all that between any reader and any writer,
+//! and its clauses are what the program promises. They say of each exit status whether a read or a write failed, and
+//! that refused words and explanations read nothing.
 #![tactic(auto)]
 
 ghost use Rattle.std.specs.Prelude.{◌<◌, ◌≡◌, ◌≢◌, ◌≤◌, [], Bool, map};

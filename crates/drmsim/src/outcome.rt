@@ -17,7 +17,8 @@ pub enum Outcome {
     Faulty(FaultInWords),
     /// As the judging of a log ends.
     Judged(Judged),
-    /// The words behind the options of `conform` spell no limits or no tolerance. Nothing was read, and nothing written.
+    /// The words behind the options of `conform` spell no limits or no tolerance. Nothing was read, and nothing
+    /// written.
     NoLimits,
     /// The word behind `--final` spells no number. Nothing was read, and nothing written.
     NoFinal,
