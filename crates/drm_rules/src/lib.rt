@@ -1,13 +1,13 @@
 //! The rules of a scheduler, and which of them a log breaks.
 //!
-//! A job is queued once, in its entity's order. It runs once: behind its queueing, in its entity's order, and once each fence
-//! is met that it waits for. A fence is met where its job has ended, or ran before on the same ring. A job ends once, behind
-//! its run. Where it is asked for, jobs end in the order in which their ring ran them, and a ring has no more at once than
-//! its limit. `specs/Rules` has each rule as a test of a line beside the lines that it is held against, and `specs/Conforms`
-//! what it is that a log keeps them all. A log that begins or ends in the middle is judged for what it shows.
+//! A job is queued once, and behind that it runs once, each in its entity's order. When it runs, each fence that it
+//! waits for is met: its job has ended, or ran before on the same ring. A job ends once, behind its run. Where it is
+//! asked for, jobs end in the order in which their ring ran them, and a ring has no more at once than its limit
+//! (`specs/Rules`, `specs/Conforms`). A log that begins or ends in the middle is judged for what it shows.
 //!
-//! An `Index` is a log with the lines that queue, run and end each job. `judge` tells all that it breaks, line by line, in one
-//! pass over it. `answers_are_exact`: what is told is what is broken, the least line first, and nothing where all is kept.
+//! An `Index` is a log with the lines that queue, run and end each job. `judge` tells all that it breaks, line by line,
+//! in one pass over it. `answers_are_exact`: what is told is what is broken, the least line first, and nothing where
+//! all is kept.
 #![tactic(auto)]
 
 mod holding;
