@@ -17,9 +17,6 @@ import verdicts
 import wrong_bodies
 from trial import Result
 
-GOOD = (trial.REFUSED, trial.LIMIT)
-# What does not fail a run. `rt must-fail` lets a refusal by a name pass with a remark, and here it is told each time.
-PASSING = (*GOOD, trial.NAME)
 # The part of the memory of a check from nothing that a check of some functions takes, at most.
 PART = 0.6
 # What the reading of a library below costs, in lines of the crate, and what a check costs, in wrong bodies.
@@ -140,9 +137,9 @@ class Tries:
         """Returns what is told of the crate: each wrong body that is not refused, or each, and a line that counts."""
         told = []
         for file, (kind, why) in self.results.items():
-            if kind not in GOOD or self.options.get("--each"):
+            if kind != trial.REFUSED or self.options.get("--each"):
                 told.append(f"{self.crate.name}/{os.path.basename(file)[: -len('.edit')]}: {kind}: {why.strip()[:200]}")
-        refused = sum(it.kind in PASSING for it in self.results.values())
+        refused = sum(it.kind == trial.REFUSED for it in self.results.values())
         how = f"{self.checks} checks, {self.seconds:.0f} s of processors, {self.memory} MB" if self.checks else "no check"
         earlier = f", {self.known} of them by an earlier run" if self.known else ""
         took = clock(time.monotonic() - self.started)
@@ -160,7 +157,7 @@ def run(crates, options):
     tries = sorted((it for it in tries if it.files), key=weight, reverse=True)
     results = in_lanes(tries, int(options["--jobs"]))
     kept.shrink()
-    refused = sum(it.kind in PASSING for it in results)
+    refused = sum(it.kind == trial.REFUSED for it in results)
     return refused, len(results) - refused
 
 

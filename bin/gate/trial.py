@@ -12,7 +12,7 @@ import shutil
 
 import toolchain
 
-REFUSED, LIMIT = "refused", "refused by a limit"
+REFUSED, LIMIT = "refused", "REFUSED BY A LIMIT ALONE"
 NAME, BAD, MISSED, UNTRIED = "REFUSED BY A NAME ALONE", "BAD EDIT", "NOT REFUSED", "NOT TRIED"
 Result = collections.namedtuple("Result", "kind why")
 

@@ -12,8 +12,6 @@ import trial
 
 # Verdicts are removed, the longest unused first, when there are more.
 MOST = 20_000
-# Only these say the same wherever the same is tried.
-KEPT = (trial.REFUSED, trial.LIMIT)
 
 
 class Verdicts:
@@ -50,11 +48,14 @@ class Verdicts:
             os.utime(file)
         except (OSError, ValueError, TypeError):
             return None
-        return found if found.kind in KEPT else None
+        return found if found.kind == trial.REFUSED else None
 
     def keep(self, sum_of_crate, body, result):
-        """Keeps a verdict. It is written apart and then renamed, so that no other run meets half of one."""
-        if result.kind not in KEPT:
+        """Keeps a refusal, which alone is the same wherever the same is tried.
+
+        It is written apart and then renamed, so that no other run meets half of one.
+        """
+        if result.kind != trial.REFUSED:
             return
         with contextlib.suppress(OSError):
             with tempfile.NamedTemporaryFile("w", dir=self.folder, prefix="new-", delete=False, encoding="utf-8") as it:
