@@ -124,15 +124,24 @@ class Trial:
         return Result(MISSED if status == 0 else UNTRIED, lines[-1])
 
     def unread(self, lines):
-        """Returns the wrong bodies whose text the front end or the prover could not read."""
+        """Returns the wrong bodies whose text the front end or the prover could not read.
+
+        The line that is told need not be one that was changed, so what stands alone answers for each.
+        """
         found, changed = {}, {path for path, _ in self.owners}
+        alone = next(iter(self.symbols)) if len(self.symbols) == 1 else None
         for line in lines:
             place = PLACE.match(line)
-            if place and ("error[" in line or toolchain.gate.unread(line, changed)):
-                body = self.owners.get((place[1], int(place[2])))
+            if place and is_unread(line, place[1], changed):
+                body = self.owners.get((place[1], int(place[2])), alone)
                 if body:
                     found.setdefault(body, Result(BAD, line))
         return found
+
+
+def is_unread(line, path, changed):
+    """Returns whether a line says that a text could not be read: definitions have no proofs, so an error of one says so too."""
+    return "error[" in line or path.startswith("specs/") and ": error" in line or toolchain.gate.unread(line, changed)
 
 
 def closures_of(symbol):
