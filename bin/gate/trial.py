@@ -126,7 +126,7 @@ class Trial:
     def unread(self, lines):
         """Returns the wrong bodies whose text the front end or the prover could not read.
 
-        The line that is told need not be one that was changed, so what stands alone answers for each.
+        An error may stand on a line that was not changed. In a check of one wrong body it belongs to that one.
         """
         found, changed = {}, {path for path, _ in self.owners}
         alone = next(iter(self.symbols)) if len(self.symbols) == 1 else None
@@ -140,7 +140,7 @@ class Trial:
 
 
 def is_unread(line, path, changed):
-    """Returns whether a line says that a text could not be read: definitions have no proofs, so an error of one says so too."""
+    """Returns whether a line says that a text could not be read. Definitions have no proofs, so each error in specs/ says so."""
     return "error[" in line or path.startswith("specs/") and ": error" in line or toolchain.gate.unread(line, changed)
 
 
